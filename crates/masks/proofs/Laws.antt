@@ -1,0 +1,11 @@
+-- The laws of this crate's definitions, for its own proofs and for those of the crates above. A file that has the name of one in `specs/`
+-- has the laws of what is defined there.
+pub mod Logic
+pub mod Lists
+pub mod Mask
+pub mod Constraint
+pub mod Chains
+pub mod Lattice
+pub mod Held
+pub mod Outcome
+pub mod Joining

@@ -1,0 +1,1 @@
+-- Assumes nothing.

@@ -1,0 +1,162 @@
+-- Tests over a list and over the numbers below n: what they say of the members, and how a loop makes them, one element at a time.
+-- A member is said by the test `has`. Assumes nothing.
+use mathlib.Core.Path.{_≡_, refl, sym, ap, ap₂, _∙_}
+use mathlib.Core.Bool.{Bool, true, false, cond, _&&_, _||_, or-assoc, and-assoc, or-false, and-true, false≢true}
+use mathlib.Core.List.{List, [], _∷_, _++_}
+use Prim.Native.Nat.{ℕ, zero, suc, _+_, _<_}
+use native.Mathlib.Omega.{arith}
+use native.Mathlib.Numerals.{add-one}
+use lib.Dec.{eqb, ltb}
+use lib.ListN.{length, getD, take}
+use lib.Seq.{take-suc}
+use borrow.Author.Tests.{eqb-true, eqb-false, eq-eqb, ltb-true, lt-ltb}
+use Rattle.masks.specs.Constraint.{any, all, anyBelow, below, has, ascending}
+use Rattle.masks.proofs.Laws.Logic.{byBool, clash, and-intro, and-left, and-right, or-left, or-right, or-case}
+
+-- ---- any and all
+
+module _ {A : Type 0} (p : A → Bool) where
+  pub any-append : (xs ys : List A) → any p (xs ++ ys) ≡ (any p xs || any p ys)
+  any-append [] ys = refl
+  any-append (x ∷ xs) ys = ap (λ (b : Bool). p x || b) (any-append xs ys) ∙ sym (or-assoc (p x) (any p xs) (any p ys))
+
+  pub all-append : (xs ys : List A) → all p (xs ++ ys) ≡ (all p xs && all p ys)
+  all-append [] ys = refl
+  all-append (x ∷ xs) ys = ap (λ (b : Bool). p x && b) (all-append xs ys) ∙ sym (and-assoc (p x) (all p xs) (all p ys))
+
+  -- one element more
+  pub any-suc : (d : A) (xs : List A) (i : ℕ) → i < length xs → any p (take (i + 1) xs) ≡ (any p (take i xs) || p (getD xs i d))
+  any-suc d xs i h =
+      rw (add-one, take-suc xs i d h) (any-append (take i xs) (getD xs i d ∷ []) ∙ ap (λ (b : Bool). any p (take i xs) || b) (or-false (p (getD xs i d))))
+
+  pub all-suc : (d : A) (xs : List A) (i : ℕ) → i < length xs → all p (take (i + 1) xs) ≡ (all p (take i xs) && p (getD xs i d))
+  all-suc d xs i h =
+      rw (add-one, take-suc xs i d h) (all-append (take i xs) (getD xs i d ∷ []) ∙ ap (λ (b : Bool). all p (take i xs) && b) (and-true (p (getD xs i d))))
+
+  -- the element at i
+  pub any-at : (d : A) (xs : List A) (i : ℕ) → i < length xs → p (getD xs i d) ≡ true → any p xs ≡ true
+  any-at d [] i h t = absurd (omega arith)
+  any-at d (x ∷ xs) zero h t = or-left (p x) (any p xs) t
+  any-at d (x ∷ xs) (suc i) h t = or-right (p x) (any-at d xs i (omega arith) t)
+
+  pub all-at : (d : A) (xs : List A) (i : ℕ) → i < length xs → all p xs ≡ true → p (getD xs i d) ≡ true
+  all-at d [] i h t = absurd (omega arith)
+  all-at d (x ∷ xs) zero h t = and-left (p x) (all p xs) t
+  all-at d (x ∷ xs) (suc i) h t = all-at d xs i (omega arith) (and-right (p x) (all p xs) t)
+
+-- ---- the members of a list of numbers
+
+pub has-append : (xs ys : List ℕ) (a : ℕ) → has (xs ++ ys) a ≡ (has xs a || has ys a)
+has-append xs ys a = any-append (eqb a) xs ys
+
+pub has-here : (x : ℕ) (xs : List ℕ) → has (x ∷ xs) x ≡ true
+has-here x xs = or-left (eqb x x) (has xs x) (eq-eqb x x refl)
+
+module _ (p : ℕ → Bool) where
+  pub any-has : (xs : List ℕ) → any p xs ≡ true → (a : ℕ) × (has xs a ≡ true) × (p a ≡ true)
+  any-has [] t = absurd (false≢true t)
+  any-has (x ∷ xs) t =
+      or-case (p x) (any p xs) t (λ s. (x, has-here x xs, s)) (λ s. let r = any-has xs s in (r .0, or-right (eqb (r .0) x) (r .1), r .2))
+
+  pub has-any : (xs : List ℕ) (a : ℕ) → has xs a ≡ true → p a ≡ true → any p xs ≡ true
+  has-any [] a h t = absurd (false≢true h)
+  has-any (x ∷ xs) a h t =
+      or-case (eqb a x) (has xs a) h (λ e. or-left (p x) (any p xs) (ap p (sym (eqb-true a x e)) ∙ t)) (λ m. or-right (p x) (has-any xs a m t))
+
+  pub all-has : (xs : List ℕ) → all p xs ≡ true → (a : ℕ) → has xs a ≡ true → p a ≡ true
+  all-has [] t a h = absurd (false≢true h)
+  all-has (x ∷ xs) t a h =
+      or-case (eqb a x) (has xs a) h (λ e. ap p (eqb-true a x e) ∙ and-left (p x) (all p xs) t) (all-has xs (and-right (p x) (all p xs) t) a)
+
+  pub has-all : (xs : List ℕ) → ((a : ℕ) → has xs a ≡ true → p a ≡ true) → all p xs ≡ true
+  has-all [] f = refl
+  has-all (x ∷ xs) f = and-intro (f x (has-here x xs)) (has-all xs (λ a h. f a (or-right (eqb a x) h)))
+
+-- ---- the numbers below n
+
+module _ (p : ℕ → Bool) where
+  pub anyBelow-at : (n : ℕ) → anyBelow p n ≡ true → (k : ℕ) × (k < n) × (p k ≡ true)
+  anyBelow-at zero t = absurd (false≢true t)
+  anyBelow-at (suc n) t =
+      or-case (anyBelow p n) (p n) t (λ s. let r : (k : ℕ) × (k < n) × (p k ≡ true) = anyBelow-at n s in (r .0, omega arith, r .2)) (λ s. (n, omega arith, s))
+
+  pub at-anyBelow : (n k : ℕ) → k < n → p k ≡ true → anyBelow p n ≡ true
+  at-anyBelow zero k h t = absurd (omega arith)
+  at-anyBelow (suc n) k h t =
+      byBool (eqb k n) (λ e. or-right (anyBelow p n) (ap p (sym (eqb-true k n e)) ∙ t))
+      (λ e. let ne : k ≡ n → ⊥ = eqb-false k n e in or-left (anyBelow p n) (p n) (at-anyBelow n k (omega arith) t))
+
+  last-has : (b : Bool) (n a : ℕ) → has (cond b (n ∷ []) []) a ≡ true → (a ≡ n) × (b ≡ true)
+  last-has true n a h = (eqb-true a n (sym (or-false (eqb a n)) ∙ h), refl)
+  last-has false n a h = absurd (false≢true h)
+
+  pub below-has : (n a : ℕ) → has (below p n) a ≡ true → (a < n) × (p a ≡ true)
+  below-has zero a h = absurd (false≢true h)
+  below-has (suc n) a h =
+      or-case (has (below p n) a) (has (cond (p n) (n ∷ []) []) a) (sym (has-append (below p n) (cond (p n) (n ∷ []) []) a) ∙ h)
+      (λ s. let r : (a < n) × (p a ≡ true) = below-has n a s in (omega arith, r .1))
+      (λ s. let r = last-has (p n) n a s in let e : a ≡ n = r .0 in (omega arith, ap p e ∙ r .1))
+
+  pub has-below : (n a : ℕ) → a < n → p a ≡ true → has (below p n) a ≡ true
+  has-below zero a h t = absurd (omega arith)
+  has-below (suc n) a h t =
+      has-append (below p n) (cond (p n) (n ∷ []) []) a
+      ∙ byBool (eqb a n)
+      (λ e. let q : p n ≡ true = ap p (sym (eqb-true a n e)) ∙ t in or-right (has (below p n) a) (rw (q, e)))
+      (λ e. let ne : a ≡ n → ⊥ = eqb-false a n e in or-left (has (below p n) a) (has (cond (p n) (n ∷ []) []) a) (has-below n a (omega arith) t))
+
+pub anyBelow-cong : (p q : ℕ → Bool) (n : ℕ) → ((k : ℕ) → k < n → p k ≡ q k) → anyBelow p n ≡ anyBelow q n
+anyBelow-cong p q zero f = refl
+anyBelow-cong p q (suc n) f = ap₂ (λ (a b : Bool). a || b) (anyBelow-cong p q n (λ k h. f k (omega arith))) (f n (omega arith))
+
+pub below-cong : (p q : ℕ → Bool) (n : ℕ) → ((k : ℕ) → k < n → p k ≡ q k) → below p n ≡ below q n
+below-cong p q zero f = refl
+below-cong p q (suc n) f = ap₂ (λ (l : List ℕ) (b : Bool). l ++ cond b (n ∷ []) []) (below-cong p q n (λ k h. f k (omega arith))) (f n (omega arith))
+
+-- ---- ascending lists
+
+-- the first is less than the others
+ascending-head : (x : ℕ) (xs : List ℕ) → ascending (x ∷ xs) ≡ true → (a : ℕ) → has xs a ≡ true → x < a
+ascending-head x xs t a h = ltb-true x a (all-has (ltb x) xs (and-left (all (ltb x) xs) (ascending xs) t) a h)
+
+ascending-tail : (x : ℕ) (xs : List ℕ) → ascending (x ∷ xs) ≡ true → ascending xs ≡ true
+ascending-tail x xs t = and-right (all (ltb x) xs) (ascending xs) t
+
+ascending-append : (xs ys : List ℕ) → ascending xs ≡ true → ascending ys ≡ true
+    → ((a b : ℕ) → has xs a ≡ true → has ys b ≡ true → a < b) → ascending (xs ++ ys) ≡ true
+ascending-append [] ys s t f = t
+ascending-append (x ∷ xs) ys s t f =
+    and-intro
+    (has-all (ltb x) (xs ++ ys) (λ a h. or-case (has xs a) (has ys a) (sym (has-append xs ys a) ∙ h)
+    (λ m. lt-ltb x a (ascending-head x xs s a m)) (λ m. lt-ltb x a (f x a (has-here x xs) m))))
+    (ascending-append xs ys (ascending-tail x xs s) t (λ a b m h. f a b (or-right (eqb a x) m) h))
+
+pub ascending-below : (p : ℕ → Bool) (n : ℕ) → ascending (below p n) ≡ true
+ascending-below p zero = refl
+ascending-below p (suc n) =
+    ascending-append (below p n) (cond (p n) (n ∷ []) []) (ascending-below p n) (last (p n))
+    (λ a b m h. let l = below-has p n a m .0 in let e = last-has p (p n) n b h .0 in omega arith)
+  where
+    last : (b : Bool) → ascending (cond b (n ∷ []) []) ≡ true
+    last true = refl
+    last false = refl
+
+-- two ascending lists with the same members are equal
+pub ascending-ext : (c d : List ℕ) → ascending c ≡ true → ascending d ≡ true
+    → ((a : ℕ) → has c a ≡ true → has d a ≡ true) → ((a : ℕ) → has d a ≡ true → has c a ≡ true) → c ≡ d
+ascending-ext [] [] s t f g = refl
+ascending-ext [] (y ∷ ys) s t f g = absurd (false≢true (g y (has-here y ys)))
+ascending-ext (x ∷ xs) [] s t f g = absurd (false≢true (f x (has-here x xs)))
+ascending-ext (x ∷ xs) (y ∷ ys) s t f g =
+    ap₂ {C = List ℕ} _∷_ first
+    (ascending-ext xs ys (ascending-tail x xs s) (ascending-tail y ys t)
+    (λ a m. or-case (eqb a y) (has ys a) (f a (or-right (eqb a x) m))
+    (λ e. let q : a ≡ y = eqb-true a y e in let l = ascending-head x xs s a m in let u = first in absurd (omega arith)) (λ h. h))
+    (λ a m. or-case (eqb a x) (has xs a) (g a (or-right (eqb a y) m))
+    (λ e. let q : a ≡ x = eqb-true a x e in let l = ascending-head y ys t a m in let u = first in absurd (omega arith)) (λ h. h)))
+  where
+    first : x ≡ y
+    first =
+        or-case (eqb x y) (has ys x) (f x (has-here x xs)) (eqb-true x y)
+        (λ h. or-case (eqb y x) (has xs y) (g y (has-here y ys)) (λ e. sym (eqb-true y x e))
+        (λ m. let l = ascending-head y ys t x h in let k = ascending-head x xs s y m in absurd (omega arith)))

@@ -1,0 +1,98 @@
+-- Constraints: lists of masks. Every definition computes. Assumes nothing.
+use mathlib.Core.Bool.{Bool, true, false, not, cond, _&&_, _||_}
+use mathlib.Core.List.{List, [], _∷_, _++_, map}
+use Prim.Native.Nat.{ℕ, zero, suc}
+use lib.Dec.{eqb, ltb}
+use lib.Bits.{bitOr}
+use Rattle.masks.specs.Limits.{allPatterns}
+use Rattle.masks.specs.Mask.{within}
+
+-- ---- tests over a list, and over the numbers below n
+
+module _ {A : Type 0} where
+  -- p holds of some element
+  abbrev pub any : (A → Bool) → List A → Bool
+  any p [] = false
+  any p (x ∷ xs) = p x || any p xs
+
+  -- p holds of every element
+  abbrev pub all : (A → Bool) → List A → Bool
+  all p [] = true
+  all p (x ∷ xs) = p x && all p xs
+
+-- p holds of some number below n
+abbrev pub anyBelow : (ℕ → Bool) → ℕ → Bool
+anyBelow p zero = false
+anyBelow p (suc n) = anyBelow p n || p n
+
+-- the numbers below n of which p holds, ascending
+abbrev pub below : (ℕ → Bool) → ℕ → List ℕ
+below p zero = []
+below p (suc n) = below p n ++ cond (p n) (n ∷ []) []
+
+-- m is one of the masks of c
+abbrev pub has : List ℕ → ℕ → Bool
+has c m = any (eqb m) c
+
+-- ---- a pattern and a constraint
+
+-- "fits a constraint when it fits at least one alternative"
+unfoldable pub admits : List ℕ → ℕ → Bool
+admits c a = any (λ m. within m a) c
+
+-- "One with MO and n = 0 has no alternative: it is ill"; "Mask 0 is an alternative that asks for nothing": trivial
+abbrev pub ill : List ℕ
+ill = []
+
+abbrev pub trivial : List ℕ
+trivial = 0 ∷ []
+
+-- ---- "A constraint is written as its masks, equal ones once, with none containing another, ascending by number"
+
+-- each mask is one of n patterns
+unfoldable pub inRange : ℕ → List ℕ → Bool
+inRange n c = all (λ m. ltb m n) c
+
+-- each mask is less than those after it, so equal ones stand once
+abbrev pub ascending : List ℕ → Bool
+ascending [] = true
+ascending (x ∷ xs) = all (ltb x) xs && ascending xs
+
+-- none contains another
+abbrev pub apart : List ℕ → Bool
+apart [] = true
+apart (x ∷ xs) = all (λ y. not (within x y) && not (within y x)) xs && apart xs
+
+unfoldable pub isWritten : ℕ → List ℕ → Bool
+isWritten n c = inRange n c && (ascending c && apart c)
+
+-- ---- "a mask is dropped at the first other one contained in it": the written form of a set of masks below n, given by its test f
+
+-- k is another mask of the set, contained in m
+unfoldable pub drops : (ℕ → Bool) → ℕ → ℕ → Bool
+drops f m k = f k && (within k m && not (eqb k m))
+
+-- m is a mask of the set, and none drops it
+unfoldable pub least : (ℕ → Bool) → ℕ → ℕ → Bool
+least f n m = f m && not (anyBelow (drops f m) n)
+
+unfoldable pub written : (ℕ → Bool) → ℕ → List ℕ
+written f n = below (least f n) n
+
+-- "Table 0: each MO as given and minimised": the written form of masks given in any order, with repeats
+unfoldable pub minimise : List ℕ → List ℕ
+minimise c = written (has c) allPatterns
+
+-- ---- "Two constraints of one arity are combined in two ways (definitions 4.13 and 5.1)"
+
+-- "The choice of them is fitted by a pattern that fits either": the masks of both
+unfoldable pub choice : List ℕ → List ℕ → List ℕ
+choice c d = minimise (c ++ d)
+
+-- "the joint by one that fits each": the union of each mask of one with each of the other
+abbrev pub unions : List ℕ → List ℕ → List ℕ
+unions [] d = []
+unions (x ∷ xs) d = map (bitOr x) d ++ unions xs d
+
+unfoldable pub joint : List ℕ → List ℕ → List ℕ
+joint c d = minimise (unions c d)

@@ -1,0 +1,10 @@
+// The numbers of document 01, "Numbers", that constraints are made of.
+
+// The positions of a predicate.
+pub const MAX_ARITY: u8 = 6;
+
+// The masks of a constraint: no 21 subsets of six positions avoid containing one another.
+pub const MAX_MASKS: usize = 20;
+
+// The patterns of six positions: every mask is below this.
+pub const ALL_PATTERNS: u8 = 64;
