@@ -61,7 +61,8 @@ pub fn written(set: u64, limit: u8) -> Constraint
         masks[n] = m;
         n += 1;
     }
-    Constraint { n: n as u8, masks }
+    let count = n as u8;
+    Constraint { n: count, masks }
 }
 
 // Writes the masks of a constraint into the output from `at` on.

@@ -3,17 +3,19 @@
 use mathlib.Core.Path.{_≡_, refl, sym, ap, ap₂, _∙_, subst}
 use mathlib.Core.Bool.{Bool, true, false, not, cond, _&&_, _||_, and-or-distrib-left, and-or-distrib-right, and-false, and-true, or-false}
 use mathlib.Core.List.{List, [], _∷_, _++_, map}
-use Prim.Native.Nat.{ℕ, zero, suc, _^_, _≤_, _<_}
+use Prim.Native.Nat.{ℕ, zero, suc, _+_, _^_, _≤_, _<_}
 use native.Mathlib.Omega.{arith}
-use lib.Bits.{bitOr, or-lt}
+use lib.Bits.{bitAnd, bitOr, or-lt}
 use lib.Dec.{eqb, ltb}
+use lib.ListN.{length, getD, take}
+use lib.Seq.{getD-take}
 use borrow.Author.Tests.{eqb-true, eqb-false, eq-eqb, ne-eqb, ltb-true, lt-ltb}
 use Rattle.masks.specs.Limits.{allPatterns}
 use Rattle.masks.specs.Mask.{within}
 use Rattle.masks.specs.Constraint.{any, all, anyBelow, below, has, admits, inRange, ascending, apart, isWritten, drops, least, written, minimise, choice, unions, joint}
 use Rattle.masks.proofs.Laws.Logic.{byBool, clash, false-of, same, and-intro, and-left, and-right, or-case, not-intro, not-elim}
-use Rattle.masks.proofs.Laws.Lists.{any-append, has-append, has-here, any-has, has-any, all-has, has-all, anyBelow-at, at-anyBelow, below-has, has-below, anyBelow-cong, below-cong, ascending-below, ascending-ext}
-use Rattle.masks.proofs.Laws.Mask.{within-refl, within-trans, within-le, within-antisym, within-or}
+use Rattle.masks.proofs.Laws.Lists.{front-lt, any-append, any-suc, any-at, has-append, has-here, any-has, has-any, all-has, has-all, anyBelow-at, at-anyBelow, below-has, has-below, anyBelow-cong, below-cong, ascending-below, ascending-ext}
+use Rattle.masks.proofs.Laws.Mask.{within-and, and-within, within-refl, within-trans, within-le, within-antisym, within-or}
 
 -- ---- masks in range
 
@@ -37,6 +39,19 @@ admits-has c a t = any-has (λ m. within m a) c t
 pub has-admits : (c : List ℕ) (a m : ℕ) → has c m ≡ true → within m a ≡ true → admits c a ≡ true
 unfolding admits
 has-admits c a m h w = has-any (λ k. within k a) c m h w
+
+-- the test over the first masks, as a loop makes it: it holds where the mask at i is contained in the pattern, and goes on failing where not
+pub admits-at : (l : List ℕ) (n a i : ℕ) → i < length (take n l) → bitAnd (getD l i 0) a ≡ getD l i 0 → admits (take n l) a ≡ true
+unfolding admits
+admits-at l n a i h e =
+    any-at (λ m. within m a) 0 (take n l) i h (ap (λ (m : ℕ). within m a) (getD-take n l i 0 (front-lt n i l h .0)) ∙ and-within (getD l i 0) a e)
+
+pub admits-suc : (l : List ℕ) (a i : ℕ) → i < length l → admits (take i l) a ≡ false → (bitAnd (getD l i 0) a ≡ getD l i 0 → ⊥)
+    → admits (take (i + 1) l) a ≡ false
+unfolding admits
+admits-suc l a i h e ne =
+    any-suc (λ m. within m a) 0 l i h
+    ∙ ap₂ (λ (p q : Bool). p || q) e (false-of (λ t. ne (within-and (getD l i 0) a t)))
 
 -- f is kept when a pattern grows; what a constraint admits is
 abbrev pub Up : (ℕ → Bool) → Type 0

@@ -1,1 +1,169 @@
--- Assumes nothing.
+-- What the code of joining does, turn by turn, to the definitions. Assumes nothing.
+use mathlib.Core.Path.{_≡_, refl, sym, ap, ap₂, _∙_}
+use mathlib.Core.Bool.{Bool, true, false, cond, _||_, or-assoc, or-false}
+use mathlib.Core.List.{List, [], _∷_, _++_, map, append-nil, append-assoc}
+use Prim.Native.Nat.{ℕ, zero, suc, _+_, _^_, _≤_, _<_}
+use native.Mathlib.Omega.{arith}
+use native.Mathlib.Numerals.{add-one}
+use native.Mathlib.Nat.{pow-le-pow-right}
+use lib.Bits.{bitOr, or-lt}
+use lib.Dec.{eqb, ltb}
+use lib.ListN.{length, getD, take}
+use lib.Seq.{take-suc, take-length}
+use borrow.Author.Tests.{le-ltb, lt-ltb, ltb-true, ltb-false}
+use Rattle.masks.specs.Limits.{maxArity, maxMasks, allPatterns}
+use Rattle.masks.specs.Constraint.{any, all, has, inRange, written, minimise, choice, unions, joint}
+use Rattle.masks.specs.Held.{packed, bitAt}
+use Rattle.masks.specs.Joining.{listFault, orElse, fault}
+use Rattle.masks.proofs.Laws.Logic.{byBool, clash}
+use Rattle.masks.proofs.Laws.Lists.{any-append, any-suc, all-suc, all-at, has-append, has-map}
+use Rattle.masks.proofs.Laws.Constraint.{inRange-mono, written-cong}
+use Rattle.masks.proofs.Laws.Held.{bitAt-zero, bitAt-or, bitAt-power}
+
+-- ---- sets in words: word holds just the masks that f tells
+
+abbrev pub Holds : ℕ → (ℕ → Bool) → Type 0
+Holds word f = (k : ℕ) → bitAt word k ≡ f k
+
+-- the unions of m with the first i masks of l are in
+module _ (word m : ℕ) (l : List ℕ) where
+  pub with-start : Holds word (λ k. bitAt word k || has (map (bitOr m) (take 0 l)) k)
+  with-start k = sym (or-false (bitAt word k))
+
+  pub with-next : (now i : ℕ) → i < length l → Holds now (λ k. bitAt word k || has (map (bitOr m) (take i l)) k)
+      → Holds (bitOr now (2 ^ bitOr m (getD l i 0))) (λ k. bitAt word k || has (map (bitOr m) (take (i + 1) l)) k)
+  with-next now i h f k =
+      let u = bitOr m (getD l i 0) in
+      bitAt-or now (2 ^ u) k
+      ∙ ap₂ (λ (a b : Bool). a || b) (f k) (bitAt-power u k)
+      ∙ or-assoc (bitAt word k) (has (map (bitOr m) (take i l)) k) (eqb k u)
+      ∙ ap (λ (b : Bool). bitAt word k || b)
+      (ap (λ (b : Bool). b || eqb k u) (has-map (bitOr m) (take i l) k)
+      ∙ sym (any-suc (λ x. eqb k (bitOr m x)) 0 l i h) ∙ sym (has-map (bitOr m) (take (i + 1) l) k))
+
+-- a mask of a list in range, and its union with another
+pub element-below : (n : ℕ) (l : List ℕ) (i : ℕ) → inRange n l ≡ true → i < length l → getD l i 0 < n
+unfolding inRange
+element-below n l i s h = ltb-true (getD l i 0) n (all-at (λ m. ltb m n) 0 l i h s)
+
+pub union-below : (m : ℕ) (l : List ℕ) (i : ℕ) → m < allPatterns → inRange allPatterns l ≡ true → i < length l → bitOr m (getD l i 0) < allPatterns
+union-below m l i h s k = or-lt 6 m (getD l i 0) h (element-below allPatterns l i s k)
+
+-- ---- the written form of what a word holds
+
+map-zero : (l : List ℕ) → map (bitOr 0) l ≡ l
+map-zero [] = refl
+map-zero (x ∷ xs) = ap {B = List ℕ} (λ (t : List ℕ). x ∷ t) (map-zero xs)
+
+-- the masks of x, added to the empty set; those of y besides
+pub holds-list : (word : ℕ) (x : List ℕ) → Holds word (λ k. bitAt 0 k || has (map (bitOr 0) x) k) → Holds word (has x)
+holds-list word x f k = f k ∙ ap₂ (λ (a : Bool) (l : List ℕ). a || has l k) (bitAt-zero k) (map-zero x)
+
+pub holds-both : (word more : ℕ) (x y : List ℕ) → Holds word (has x) → Holds more (λ k. bitAt word k || has (map (bitOr 0) y) k) → Holds more (has (x ++ y))
+holds-both word more x y f g k = g k ∙ ap₂ (λ (a : Bool) (l : List ℕ). a || has l k) (f k) (map-zero y) ∙ sym (has-append x y k)
+
+holds-packed : (word : ℕ) (c : List ℕ) → Holds word (has c) → packed (written (bitAt word) allPatterns) ≡ packed (written (has c) allPatterns)
+holds-packed word c f = ap packed (written-cong (bitAt word) (has c) allPatterns (λ k h. f k))
+
+pub minimise-packed : (word : ℕ) (c : List ℕ) → Holds word (has c) → packed (written (bitAt word) allPatterns) ≡ packed (minimise c)
+unfolding minimise
+minimise-packed word c f = holds-packed word c f
+
+pub choice-packed : (word : ℕ) (x y : List ℕ) → Holds word (has (x ++ y)) → packed (written (bitAt word) allPatterns) ≡ packed (choice x y)
+unfolding choice
+choice-packed word x y f = minimise-packed word (x ++ y) f
+
+-- ---- the joint: the unions of the first i masks of x with those of y are in
+
+unions-snoc : (xs : List ℕ) (m : ℕ) (d : List ℕ) → unions (xs ++ (m ∷ [])) d ≡ unions xs d ++ map (bitOr m) d
+unions-snoc [] m d = append-nil (map (bitOr m) d)
+unions-snoc (x ∷ xs) m d =
+    ap {B = List ℕ} (λ (l : List ℕ). map (bitOr x) d ++ l) (unions-snoc xs m d) ∙ sym (append-assoc (map (bitOr x) d) (unions xs d) (map (bitOr m) d))
+
+pub joint-start : (x y : List ℕ) → Holds 0 (has (unions (take 0 x) y))
+joint-start x y k = bitAt-zero k
+
+pub joint-next : (word more : ℕ) (x y : List ℕ) (i : ℕ) → i < length x → Holds word (has (unions (take i x) y))
+    → Holds more (λ k. bitAt word k || has (map (bitOr (getD x i 0)) y) k) → Holds more (has (unions (take (i + 1) x) y))
+joint-next word more x y i h f g k =
+    let e : unions (take (i + 1) x) y ≡ unions (take i x) y ++ map (bitOr (getD x i 0)) y = rw (add-one i, take-suc x i 0 h) (unions-snoc (take i x) (getD x i 0) y) in
+    g k ∙ ap (λ (a : Bool). a || has (map (bitOr (getD x i 0)) y) k) (f k)
+    ∙ sym (has-append (unions (take i x) y) (map (bitOr (getD x i 0)) y) k)
+    ∙ ap (λ (l : List ℕ). has l k) (sym e)
+
+pub joint-packed : (word : ℕ) (x y : List ℕ) (i : ℕ) → i ≡ length x → Holds word (has (unions (take i x) y))
+    → packed (written (bitAt word) allPatterns) ≡ packed (joint x y)
+unfolding joint
+joint-packed word x y i e f =
+    minimise-packed word (unions x y) (λ k. f k ∙ ap (λ (l : List ℕ). has (unions l y) k) (ap (λ (j : ℕ). take j x) e ∙ take-length x))
+
+-- ---- the faults
+
+pub power-le : (arity : ℕ) → arity ≤ maxArity → 2 ^ arity ≤ allPatterns
+power-le arity h = pow-le-pow-right (omega arith) h
+
+module _ (limit : ℕ) (l : List ℕ) where
+  pub fault-long : maxMasks < length l → 5 ≡ listFault limit l
+  unfolding listFault
+  fault-long h = rw (lt-ltb maxMasks (length l) h)
+
+  pub fault-mask : length l ≤ maxMasks → (i : ℕ) → i < length l → limit ≤ getD l i 0 → 4 ≡ listFault limit l
+  unfolding listFault
+  fault-mask h i k e =
+      rw (le-ltb maxMasks (length l) h)
+      (byBool (inRange limit l) (λ t. let b = element-below limit l i t k in absurd (omega arith)) (λ t. rw t))
+
+  pub fault-none : length l ≤ maxMasks → inRange limit l ≡ true → 0 ≡ listFault limit l
+  unfolding listFault
+  fault-none h t = rw (le-ltb maxMasks (length l) h, t)
+
+  pub no-fault : listFault limit l ≡ 0 → inRange limit l ≡ true
+  unfolding listFault
+  no-fault e =
+      byBool (inRange limit l) (λ t. t)
+      (λ t. byBool (ltb maxMasks (length l))
+      (λ s. let z : _≡_ {A = ℕ} 5 0 = sym (rw s) ∙ e in absurd (omega arith))
+      (λ s. let z : _≡_ {A = ℕ} 4 0 = sym (rw (s, t)) ∙ e in absurd (omega arith)))
+
+  -- the test over the first masks, as the loop makes it
+  pub range-start : inRange limit (take 0 l) ≡ true
+  unfolding inRange
+  range-start = refl
+
+  pub range-next : (i : ℕ) → i < length l → getD l i 0 < limit → inRange limit (take i l) ≡ true → inRange limit (take (i + 1) l) ≡ true
+  unfolding inRange
+  range-next i h k t = all-suc (λ m. ltb m limit) 0 l i h ∙ rw (t, lt-ltb (getD l i 0) limit k)
+
+  pub range-end : (i : ℕ) → i ≡ length l → inRange limit (take i l) ≡ true → inRange limit l ≡ true
+  range-end i e t = ap (inRange limit) (sym (ap (λ (j : ℕ). take j l) e ∙ take-length l)) ∙ t
+
+module _ (arity : ℕ) (x y : List ℕ) where
+  pub fault-arity : maxArity < arity → 4 ≡ fault arity x y
+  unfolding fault
+  fault-arity h = rw (lt-ltb maxArity arity h)
+
+  pub fault-first : arity ≤ maxArity → (f : ℕ) → f ≡ listFault (2 ^ arity) x → (f ≡ 0 → ⊥) → f ≡ fault arity x y
+  unfolding fault
+  fault-first h f e ne = rw (le-ltb maxArity arity h, ← e) (first f ne)
+    where
+      first : (f : ℕ) → (f ≡ 0 → ⊥) → f ≡ orElse f (listFault (2 ^ arity) y)
+      first zero n = absurd (n refl)
+      first (suc f) n = refl
+
+  pub fault-second : arity ≤ maxArity → listFault (2 ^ arity) x ≡ 0 → listFault (2 ^ arity) y ≡ fault arity x y
+  unfolding fault
+  fault-second h e = rw (le-ltb maxArity arity h, e)
+
+  -- with none, both lists are of masks
+  pub fault-free : fault arity x y ≡ 0 → (inRange allPatterns x ≡ true) × (inRange allPatterns y ≡ true)
+  unfolding fault
+  fault-free e = byBool (ltb maxArity arity) (λ s. let z : _≡_ {A = ℕ} 4 0 = sym (rw s) ∙ e in absurd (omega arith)) (λ s. free s (both (listFault (2 ^ arity) x) (listFault (2 ^ arity) y) (sym (rw s) ∙ e)))
+    where
+      both : (f g : ℕ) → orElse f g ≡ 0 → (f ≡ 0) × (g ≡ 0)
+      both zero g q = (refl, q)
+      both (suc f) g q = absurd (omega arith)
+
+      free : ltb maxArity arity ≡ false → (listFault (2 ^ arity) x ≡ 0) × (listFault (2 ^ arity) y ≡ 0) → (inRange allPatterns x ≡ true) × (inRange allPatterns y ≡ true)
+      free s q =
+          let h = power-le arity (ltb-false maxArity arity s) in
+          (inRange-mono (2 ^ arity) allPatterns x h (no-fault (2 ^ arity) x (q .0)), inRange-mono (2 ^ arity) allPatterns y h (no-fault (2 ^ arity) y (q .1)))

@@ -2,16 +2,41 @@
 -- A member is said by the test `has`. Assumes nothing.
 use mathlib.Core.Path.{_≡_, refl, sym, ap, ap₂, _∙_}
 use mathlib.Core.Bool.{Bool, true, false, cond, _&&_, _||_, or-assoc, and-assoc, or-false, and-true, false≢true}
-use mathlib.Core.List.{List, [], _∷_, _++_}
+use mathlib.Core.List.{List, [], _∷_, _++_, map}
 use Prim.Native.Nat.{ℕ, zero, suc, _+_, _<_}
 use native.Mathlib.Omega.{arith}
 use native.Mathlib.Numerals.{add-one}
 use lib.Dec.{eqb, ltb}
-use lib.ListN.{length, getD, take}
-use lib.Seq.{take-suc}
+use lib.ListN.{length, getD, take, set, length-take}
+use lib.Seq.{take-suc, sets, length-take-le}
 use borrow.Author.Tests.{eqb-true, eqb-false, eq-eqb, ltb-true, lt-ltb}
 use Rattle.masks.specs.Constraint.{any, all, anyBelow, below, has, ascending}
 use Rattle.masks.proofs.Laws.Logic.{byBool, clash, and-intro, and-left, and-right, or-left, or-right, or-case}
+
+-- ---- the front of a list, and a run of stores
+
+module _ {A : Type 0} where
+  -- as many as the front has
+  pub take-front : (n : ℕ) (l : List A) → take (length (take n l)) l ≡ take n l
+  take-front zero l = refl
+  take-front (suc n) [] = refl
+  take-front (suc n) (x ∷ xs) = ap {B = List A} (λ (t : List A). x ∷ t) (take-front n xs)
+
+  pub front-lt : (n i : ℕ) (l : List A) → i < length (take n l) → (i < n) × (i < length l)
+  front-lt n i l h = let e = length-take n l in (omega arith, omega arith)
+
+  pub sets-append : (l : List A) (i : ℕ) (xs ys : List A) → sets l i (xs ++ ys) ≡ sets (sets l i xs) (i + length xs) ys
+  sets-append l i [] ys = let e : i ≡ i + 0 = omega arith in ap (λ (k : ℕ). sets l k ys) e
+  sets-append l i (x ∷ xs) ys =
+      let e : suc i + length xs ≡ i + suc (length xs) = omega arith in
+      sets-append (set l i x) (suc i) xs ys ∙ ap (λ (k : ℕ). sets (sets (set l i x) (suc i) xs) k ys) e
+
+  -- one element more
+  pub sets-suc : (d : A) (l : List A) (at : ℕ) (s : List A) (i : ℕ) → i < length s
+      → set (sets l at (take i s)) (at + i) (getD s i d) ≡ sets l at (take (i + 1) s)
+  sets-suc d l at s i h =
+      rw (add-one i, take-suc s i d h)
+      (sym (sets-append l at (take i s) (getD s i d ∷ []) ∙ ap (λ (k : ℕ). set (sets l at (take i s)) (at + k) (getD s i d)) (length-take-le i s (omega arith))))
 
 -- ---- any and all
 
@@ -71,6 +96,10 @@ module _ (p : ℕ → Bool) where
   pub has-all : (xs : List ℕ) → ((a : ℕ) → has xs a ≡ true → p a ≡ true) → all p xs ≡ true
   has-all [] f = refl
   has-all (x ∷ xs) f = and-intro (f x (has-here x xs)) (has-all xs (λ a h. f a (or-right (eqb a x) h)))
+
+pub has-map : (f : ℕ → ℕ) (xs : List ℕ) (a : ℕ) → has (map f xs) a ≡ any (λ x. eqb a (f x)) xs
+has-map f [] a = refl
+has-map f (x ∷ xs) a = ap (λ (b : Bool). eqb a (f x) || b) (has-map f xs a)
 
 -- ---- the numbers below n
 

@@ -1,0 +1,178 @@
+// The choice or the joint of two constraints, for each line of standard input:
+//
+//     NAME choice|joint ARITY MASKS MASKS ROOM
+//
+// Masks are decimal, with commas between them; `-` is no mask. For each line it prints NAME, the number and the value of the reply, and the
+// masks written, or `-`. A reply that altered a byte it had to leave would add the word `spoiled`.
+ghost use Prim.Native.Nat.{_≤_};
+ghost use lib.ListN.{length};
+ghost use Rattle.io.specs.Counts.{Counts};
+use libc::STDIN_FILENO;
+use libc::STDOUT_FILENO;
+use masks::reply::Reply;
+
+// What the output holds before a call.
+const OLD: u8 = 238;
+
+fn main() {
+    let mut text = [0u8; 8192];
+    let n = io::read_full(STDIN_FILENO, &mut text);
+    let lines = &text[..n];
+    let mut at: usize = 0;
+    while at < lines.len() {
+        let end = until(lines, at, b'\n');
+        answer(&lines[at..end]);
+        at = end + 1;
+    }
+}
+
+// One line: its fields are parted by single spaces.
+fn answer(line: &[u8]) {
+    let name = until(line, 0, b' ');
+    let way = after(line, name);
+    let way_end = until(line, way, b' ');
+    let arity = after(line, way_end);
+    let arity_end = until(line, arity, b' ');
+    let first = after(line, arity_end);
+    let first_end = until(line, first, b' ');
+    let second = after(line, first_end);
+    let second_end = until(line, second, b' ');
+    let room = after(line, second_end);
+    io::write_all(STDOUT_FILENO, &line[..name]);
+    try_one(
+        is_joint(&line[way..way_end]),
+        number(&line[arity..arity_end], 0).value,
+        &line[first..first_end],
+        &line[second..second_end],
+        number(&line[room..], 0).value,
+    );
+}
+
+// One call, with room for at most 64 bytes, and its reply printed.
+fn try_one(joint: bool, arity: u8, first: &[u8], second: &[u8], room: u8) {
+    let mut xs = [0u8; 32];
+    let nx = numbers(first, &mut xs);
+    let mut ys = [0u8; 32];
+    let ny = numbers(second, &mut ys);
+    let mut out = [OLD; 64];
+    let k = if room < 64 { room as usize } else { 64 };
+    let r = if joint {
+        masks::joint(arity, &xs[..nx], &ys[..ny], &mut out[..k])
+    } else {
+        masks::choice(arity, &xs[..nx], &ys[..ny], &mut out[..k])
+    };
+    show(r, &out);
+}
+
+// The reply and the masks written, and whether the bytes after them are as they were.
+fn show(r: Reply, out: &[u8]) {
+    io::write_all(STDOUT_FILENO, b" ");
+    io::print_decimal(STDOUT_FILENO, r.number as u64);
+    io::write_all(STDOUT_FILENO, b" ");
+    io::print_decimal(STDOUT_FILENO, r.value);
+    io::write_all(STDOUT_FILENO, b" ");
+    let n = if r.number == 0 { r.value } else { 0 };
+    if n == 0 {
+        io::write_all(STDOUT_FILENO, b"-");
+    }
+    let mut i: usize = 0;
+    while i < out.len() {
+        show_byte(i as u64, n, out[i]);
+        i += 1;
+    }
+    io::write_all(STDOUT_FILENO, b"\n");
+}
+
+// Byte i of the output, of which the first n were written.
+fn show_byte(i: u64, n: u64, b: u8) {
+    if i < n {
+        if 0 < i {
+            io::write_all(STDOUT_FILENO, b",");
+        }
+        io::print_decimal(STDOUT_FILENO, b as u64);
+    } else {
+        if b != OLD {
+            io::write_all(STDOUT_FILENO, b" spoiled");
+        }
+    }
+}
+
+// The word begins like `joint`.
+fn is_joint(word: &[u8]) -> bool {
+    if 0 < word.len() { word[0] == b'j' } else { false }
+}
+
+// The numbers of a word, as many as there is room for.
+fn numbers(word: &[u8], to: &mut [u8]) -> usize
+    ensures { λ r. ⌜ Counts r (now (to .exit)) ⌝ }
+{
+    let mut n: usize = 0;
+    let mut at: usize = 0;
+    if 0 < word.len() {
+        if word[0] == b'-' {
+            at = word.len();
+        }
+    }
+    while at < word.len() {
+        if to.len() <= n {
+            return n;
+        }
+        let x = number(word, at);
+        to[n] = x.value;
+        n += 1;
+        at = after(word, x.end);
+    }
+    n
+}
+
+// A number and the place after its last digit.
+struct Number {
+    value: u8,
+    end: usize,
+}
+
+// The decimal number from `at` on; above 255 it counts as 255.
+fn number(word: &[u8], at: usize) -> Number
+    requires { ⌜ at ≤ length (now word) ⌝ }
+    ensures { λ r. ⌜ (at ≤ r .end) × (r .end ≤ length (now (word .entry))) ⌝ }
+{
+    let mut value: u8 = 0;
+    let mut i = at;
+    while i < word.len() {
+        let b = word[i];
+        if b < b'0' || b'9' < b {
+            return Number { value, end: i };
+        }
+        value = with_digit(value, b - b'0');
+        i += 1;
+    }
+    Number { value, end: i }
+}
+
+// A number with one more digit.
+fn with_digit(value: u8, digit: u8) -> u8 {
+    let wide = value as u64 * 10 + digit as u64;
+    if wide < 256 { (wide % 256) as u8 } else { 255 }
+}
+
+// The first place from `at` on that has the byte, or the end.
+fn until(s: &[u8], at: usize, stop: u8) -> usize
+    requires { ⌜ at ≤ length (now s) ⌝ }
+    ensures { λ r. ⌜ (at ≤ r) × (r ≤ length (now (s .entry))) ⌝ }
+{
+    let mut i = at;
+    while i < s.len() {
+        if s[i] == stop {
+            return i;
+        }
+        i += 1;
+    }
+    i
+}
+
+// The place after the byte at `at`, or the end.
+fn after(s: &[u8], at: usize) -> usize
+    ensures { λ r. ⌜ r ≤ length (now (s .entry)) ⌝ }
+{
+    if at < s.len() { at + 1 } else { s.len() }
+}

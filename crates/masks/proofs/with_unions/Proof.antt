@@ -1,0 +1,81 @@
+use Rattle.masks.proofs.Laws.Joining.{Holds, with-start, with-next, union-below}
+use Rattle.masks.specs.Held.{bitAt}
+use Rattle.masks.specs.Constraint.{has}
+use lib.Seq.{take-length}
+use lib.Bits.{bitOr}
+use mathlib.Core.List.{List, map}
+use mathlib.Core.Bool.{_||_}
+use borrow.Author.Needs.{needs}
+use native.Mathlib.Omega.{arith}
+use Prim.Native.Nat.{ℕ, _+_, _-_, _*_, _≤_, _<_}
+use mathlib.Core.Path.{_≡_, refl, sym, ap, _∙_}
+use lib.ListN.{length, getD, take, drop}
+use mathlib.Core.Logic.{⊎-elim}
+use Rattle.masks.proofs.with_unions.Statement.{statement}
+use Rattle.masks.proofs.with_unions.Tie as tie
+use Rattle.masks.proofs.with_unions.Reads as reads
+use Rattle.masks.proofs.with_unions.Lts as lts
+
+abbrev Inv-loop : tie.InvT-loop
+Inv-loop set m masks all₀ i₀ all i = (i ≤ length masks) × Holds all (λ k. bitAt set k || has (map (bitOr m) (take i masks)) k)
+
+abbrev μ-loop : tie.MeasureT-loop
+μ-loop set m masks all₀ i₀ all i = length masks - i
+
+-- src/lib.rt:158:5
+loop-holds : tie.Need-loop-holds Inv-loop μ-loop
+loop-holds c = (omega arith, with-start (c .args .set) (c .args .m) (c .args .masks .now))
+
+-- src/lib.rt:159:21
+shared-slice-read-u : tie.Need-shared-slice-read-u Inv-loop μ-loop
+shared-slice-read-u c = search needs
+
+-- src/lib.rt:160:30
+cast-all : tie.Need-cast-all Inv-loop μ-loop
+cast-all c =
+    let s = c .before .before .before .args in
+    let h = union-below (s .m) (s .masks .now) (c .before .before .loop .i) (c .before .before .before .pre .0) (c .before .before .before .pre .1) (omega arith) in
+    omega arith
+
+-- src/lib.rt:160:22
+shl-all : tie.Need-shl-all Inv-loop μ-loop
+shl-all c =
+    let s = c .before .before .before .args in
+    let h = union-below (s .m) (s .masks .now) (c .before .before .loop .i) (c .before .before .before .pre .0) (c .before .before .before .pre .1) (omega arith) in
+    ?
+
+-- src/lib.rt:161:9
+add-i : tie.Need-add-i Inv-loop μ-loop
+add-i c = search needs
+
+-- src/lib.rt:158:5
+loop-less : tie.Need-loop-less Inv-loop μ-loop
+loop-less c = search needs
+
+-- src/lib.rt:158:5
+loop-again : tie.Need-loop-again Inv-loop μ-loop
+loop-again c =
+    let s = c .before .before .before .args in
+    (omega arith, with-next (s .set) (s .m) (s .masks .now) (c .before .before .loop .all) (c .before .before .loop .i) (omega arith) (c .before .before .loop .inv .1))
+
+-- src/lib.rt:152:1
+returns : tie.Need-returns Inv-loop μ-loop
+returns c =
+    let s = c .before .before .args in
+    let e : c .before .loop .i ≡ length (s .masks .now) = omega arith in
+    λ k. c .before .loop .inv .1 k ∙ ap (λ (l : List ℕ). bitAt (s .set) k || has (map (bitOr (s .m)) l) k) (ap (λ (j : ℕ). take j (s .masks .now)) e ∙ take-length (s .masks .now))
+
+pub with-unions-spec : {M : Type 1} → statement M
+with-unions-spec =
+    tie.close
+    (tie.spec
+    Inv-loop
+    μ-loop
+    loop-holds
+    shared-slice-read-u
+    cast-all
+    shl-all
+    add-i
+    loop-less
+    loop-again
+    returns)
