@@ -156,9 +156,16 @@ fn with_unions(set: u64, m: u8, masks: &[u8]) -> u64
     let mut all = set;
     let mut i: usize = 0;
     while i < masks.len() {
-        let u = m | masks[i];
-        all = all | (1u64 << u);
+        all = with_mask(all, m | masks[i]);
         i += 1;
     }
     all
+}
+
+// A set of masks with one more.
+fn with_mask(set: u64, m: u8) -> u64
+    requires { ⌜ m < 64 ⌝ }
+    ensures { λ r. ⌜ r ≡ bitOr set (2 ^ m) ⌝ }
+{
+    set | (1u64 << m)
 }

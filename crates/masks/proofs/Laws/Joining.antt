@@ -14,7 +14,9 @@ use borrow.Author.Tests.{le-ltb, lt-ltb, ltb-true, ltb-false}
 use Rattle.masks.specs.Limits.{maxArity, maxMasks, allPatterns}
 use Rattle.masks.specs.Constraint.{any, all, has, inRange, written, minimise, choice, unions, joint}
 use Rattle.masks.specs.Held.{packed, bitAt}
-use Rattle.masks.specs.Joining.{listFault, orElse, fault}
+use Rattle.masks.specs.Outcome.{refused, done}
+use Rattle.masks.specs.Joining.{listFault, orElse, fault, combined, unless, joining}
+use Rattle.masks.specs.declared.Way.{Way}
 use Rattle.masks.proofs.Laws.Logic.{byBool, clash}
 use Rattle.masks.proofs.Laws.Lists.{any-append, any-suc, all-suc, all-at, has-append, has-map}
 use Rattle.masks.proofs.Laws.Constraint.{inRange-mono, written-cong}
@@ -167,3 +169,17 @@ module _ (arity : ℕ) (x y : List ℕ) where
       free s q =
           let h = power-le arity (ltb-false maxArity arity s) in
           (inRange-mono (2 ^ arity) allPatterns x h (no-fault (2 ^ arity) x (q .0)), inRange-mono (2 ^ arity) allPatterns y h (no-fault (2 ^ arity) y (q .1)))
+
+  -- so the outcome is a refusal, or the masks
+  module _ (way : Way) where
+    pub joining-fault : (f : ℕ) → f ≡ fault arity x y → (f ≡ 0 → ⊥) → joining way arity x y ≡ refused f 0
+    unfolding joining
+    joining-fault f e ne = rw (← e) (go f ne)
+      where
+        go : (f : ℕ) → (f ≡ 0 → ⊥) → unless f (combined way x y) ≡ refused f 0
+        go zero n = absurd (n refl)
+        go (suc f) n = refl
+
+    pub joining-done : fault arity x y ≡ 0 → joining way arity x y ≡ done 0 (combined way x y)
+    unfolding joining
+    joining-done e = rw e

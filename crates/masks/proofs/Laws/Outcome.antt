@@ -1,20 +1,92 @@
 -- An outcome fixes the reply and every byte of the room: two answers that it allows are equal, a refusal leaves the room as it was, and a
--- success every byte after the result. Assumes nothing.
+-- success leaves every byte after the result. Assumes nothing.
 use mathlib.Core.Path.{_≡_, refl, sym, ap, _∙_}
-use mathlib.Core.Bool.{Bool, true, false, cond}
-use mathlib.Core.List.{List, [], _∷_, _++_}
-use Prim.Native.Nat.{ℕ, _+_, _-_, _≤_, _<_}
+use mathlib.Core.List.{List, _++_}
+use Prim.Native.Nat.{ℕ, _+_, _≤_, _<_}
 use native.Mathlib.Omega.{arith}
 use lib.Dec.{ltb}
 use lib.ListN.{length, take, drop, length-append, length-drop}
-use lib.Seq.{drop-at, take-at, sets, sets-eq}
+use lib.Seq.{take-at, drop-at, sets, sets-eq}
 use borrow.Author.Tests.{lt-ltb, le-ltb, ltb-true, ltb-false}
 use Rattle.masks.specs.Outcome.{Outcome, refused, done, reply, left, Answers}
 use Rattle.masks.specs.declared.reply.Reply.{Reply}
 use Rattle.masks.proofs.Laws.Logic.{byBool}
 
--- ---- what holds of every operation
+-- ---- how an operation comes to answer: by a refusal, for want of room, or with the bytes stored
 
--- the answer is determined
+pub answers-refused : (number value : ℕ) (out : List ℕ) → Answers (refused number value) out (record { number = number; value = value; rounds = 0 }) out
+unfolding reply left
+answers-refused number value out = record { replies = refl; leaves = refl }
+
+pub answers-short : (rounds : ℕ) (bytes out : List ℕ) → length out < length bytes
+    → Answers (done rounds bytes) out (record { number = 9; value = length bytes; rounds = 0 }) out
+unfolding reply left
+answers-short rounds bytes out h =
+    let t = lt-ltb (length out) (length bytes) h in
+    record { replies = rw t; leaves = rw t }
+
+pub answers-done : (rounds : ℕ) (bytes out : List ℕ) → length bytes ≤ length out
+    → Answers (done rounds bytes) out (record { number = 0; value = length bytes; rounds = rounds }) (sets out 0 bytes)
+unfolding reply left
+answers-done rounds bytes out h =
+    let t = le-ltb (length out) (length bytes) h in
+    let e : 0 + length bytes ≡ length bytes = omega arith in
+    record { replies = rw t; leaves = rw t (sets-eq bytes out 0 (omega arith) ∙ ap (λ (n : ℕ). bytes ++ drop n out) e) }
+
+-- ---- what holds of every answer
+
 pub answers-unique : {o : Outcome} {out : List ℕ} {r s : Reply} {a b : List ℕ} → Answers o out r a → Answers o out s b → (r ≡ s) × (a ≡ b)
 answers-unique x y = (x .replies ∙ sym (y .replies), x .leaves ∙ sym (y .leaves))
+
+-- an outcome at a room: either nothing is stored, or the bytes are, and then the reply is 0 with their number
+data Case (o : Outcome) (out : List ℕ) : Type 0 where
+  nothing : left o out ≡ out → Case o out
+  stored : (bytes : List ℕ) → length bytes ≤ length out → left o out ≡ bytes ++ drop (length bytes) out → reply o (length out) .number ≡ 0
+      → reply o (length out) .value ≡ length bytes → Case o out
+
+case : (o : Outcome) (out : List ℕ) → Case o out
+unfolding reply left
+case (refused number value) out = nothing refl
+case (done rounds bytes) out =
+    byBool (ltb (length out) (length bytes)) (λ t. nothing (rw t))
+    (λ t. stored bytes (ltb-false (length out) (length bytes) t) (rw t) (rw t) (rw t))
+
+module _ {o : Outcome} {out : List ℕ} {r : Reply} {after : List ℕ} (a : Answers o out r after) where
+  -- the reply's number and value
+  number-is : r .number ≡ reply o (length out) .number
+  number-is = ap (λ (x : Reply). x .number) (a .replies)
+
+  value-is : r .value ≡ reply o (length out) .value
+  value-is = ap (λ (x : Reply). x .value) (a .replies)
+
+  -- "On a refusal no output byte changes."
+  pub answers-kept : (r .number ≡ 0 → ⊥) → after ≡ out
+  answers-kept h = go (case o out)
+    where
+      go : Case o out → after ≡ out
+      go (nothing e) = a .leaves ∙ e
+      go (stored bytes l e n v) = absurd (h (number-is ∙ n))
+
+  -- "On success the output is written from its start and the bytes after it stay."
+  pub answers-rest : r .number ≡ 0 → drop (r .value) after ≡ drop (r .value) out
+  answers-rest h = go (case o out)
+    where
+      go : Case o out → drop (r .value) after ≡ drop (r .value) out
+      go (nothing e) = ap (drop (r .value)) (a .leaves ∙ e)
+      go (stored bytes l e n v) =
+          let w : r .value ≡ length bytes = value-is ∙ v in
+          rw w (ap (drop (length bytes)) (a .leaves ∙ e) ∙ drop-at bytes (drop (length bytes) out) (length bytes) refl)
+
+  pub answers-length : length after ≡ length out
+  answers-length = go (case o out)
+    where
+      go : Case o out → length after ≡ length out
+      go (nothing e) = ap {B = ℕ} length (a .leaves ∙ e)
+      go (stored bytes l e n v) = ap {B = ℕ} length (a .leaves ∙ e) ∙ simp (length-append, length-drop) (omega arith)
+
+-- and the bytes that a success wrote are those of the outcome
+pub answers-bytes : {rounds : ℕ} {bytes out : List ℕ} {r : Reply} {after : List ℕ} → Answers (done rounds bytes) out r after → length bytes ≤ length out
+    → take (length bytes) after ≡ bytes
+unfolding left
+answers-bytes {rounds} {bytes} {out} a h =
+    ap (take (length bytes)) (a .leaves ∙ rw (le-ltb (length out) (length bytes) h)) ∙ take-at bytes (drop (length bytes) out) (length bytes) refl

@@ -15,6 +15,7 @@ use Rattle.masks.proofs.with_unions.Statement.{statement}
 use Rattle.masks.proofs.with_unions.Tie as tie
 use Rattle.masks.proofs.with_unions.Reads as reads
 use Rattle.masks.proofs.with_unions.Lts as lts
+use Rattle.masks.proofs.with_mask.Reads as with-mask-reads
 
 abbrev Inv-loop : tie.InvT-loop
 Inv-loop set m masks all₀ i₀ all i = (i ≤ length masks) × Holds all (λ k. bitAt set k || has (map (bitOr m) (take i masks)) k)
@@ -24,27 +25,19 @@ abbrev μ-loop : tie.MeasureT-loop
 
 -- src/lib.rt:158:5
 loop-holds : tie.Need-loop-holds Inv-loop μ-loop
-loop-holds c = (omega arith, with-start (c .args .set) (c .args .m) (c .args .masks .now))
+loop-holds c = (omega arith, with-start (c .before .args .set) (c .before .args .m) (c .before .args .masks .now))
 
--- src/lib.rt:159:21
-shared-slice-read-u : tie.Need-shared-slice-read-u Inv-loop μ-loop
-shared-slice-read-u c = search needs
+-- src/lib.rt:159:34
+shared-slice-read-with-mask : tie.Need-shared-slice-read-with-mask Inv-loop μ-loop
+shared-slice-read-with-mask c = search needs
 
--- src/lib.rt:160:30
-cast-all : tie.Need-cast-all Inv-loop μ-loop
-cast-all c =
-    let s = c .before .before .before .args in
-    let h = union-below (s .m) (s .masks .now) (c .before .before .loop .i) (c .before .before .before .pre .0) (c .before .before .before .pre .1) (omega arith) in
-    omega arith
+-- src/lib.rt:159:9
+with-mask-requires : tie.Need-with-mask-requires Inv-loop μ-loop
+with-mask-requires c κs =
+    let s = c .before .before .before .before .args in
+    union-below (s .m) (s .masks .now) (c .before .before .loop .i) (c .before .before .before .before .pre .0) (c .before .before .before .before .pre .1) (omega arith)
 
--- src/lib.rt:160:22
-shl-all : tie.Need-shl-all Inv-loop μ-loop
-shl-all c =
-    let s = c .before .before .before .args in
-    let h = union-below (s .m) (s .masks .now) (c .before .before .loop .i) (c .before .before .before .pre .0) (c .before .before .before .pre .1) (omega arith) in
-    ?
-
--- src/lib.rt:161:9
+-- src/lib.rt:160:9
 add-i : tie.Need-add-i Inv-loop μ-loop
 add-i c = search needs
 
@@ -55,13 +48,13 @@ loop-less c = search needs
 -- src/lib.rt:158:5
 loop-again : tie.Need-loop-again Inv-loop μ-loop
 loop-again c =
-    let s = c .before .before .before .args in
-    (omega arith, with-next (s .set) (s .m) (s .masks .now) (c .before .before .loop .all) (c .before .before .loop .i) (omega arith) (c .before .before .loop .inv .1))
+    let s = c .before .before .before .before .before .args in
+    (omega arith, λ k. ap (λ (w : ℕ). bitAt w k) (c .with-mask .ensures) ∙ with-next (s .set) (s .m) (s .masks .now) (c .before .before .before .loop .all) (c .before .before .before .loop .i) (omega arith) (c .before .before .before .loop .inv .1) k)
 
 -- src/lib.rt:152:1
 returns : tie.Need-returns Inv-loop μ-loop
 returns c =
-    let s = c .before .before .args in
+    let s = c .before .before .before .args in
     let e : c .before .loop .i ≡ length (s .masks .now) = omega arith in
     λ k. c .before .loop .inv .1 k ∙ ap (λ (l : List ℕ). bitAt (s .set) k || has (map (bitOr (s .m)) l) k) (ap (λ (j : ℕ). take j (s .masks .now)) e ∙ take-length (s .masks .now))
 
@@ -72,9 +65,8 @@ with-unions-spec =
     Inv-loop
     μ-loop
     loop-holds
-    shared-slice-read-u
-    cast-all
-    shl-all
+    shared-slice-read-with-mask
+    with-mask-requires
     add-i
     loop-less
     loop-again
