@@ -4,7 +4,8 @@
 //
 // Masks are decimal, with commas between them; `-` is no mask. For each line it prints NAME, the number and the value of the reply, and the
 // masks written, or `-`. A reply that altered a byte it had to leave would add the word `spoiled`.
-ghost use Prim.Native.Nat.{_≤_};
+ghost use mathlib.Core.Path.{_≡_};
+ghost use Prim.Native.Nat.{_+_, _≤_, min};
 ghost use lib.ListN.{length};
 ghost use Rattle.io.specs.Counts.{Counts};
 use libc::STDIN_FILENO;
@@ -38,13 +39,14 @@ fn answer(line: &[u8]) {
     let second = after(line, first_end);
     let second_end = until(line, second, b' ');
     let room = after(line, second_end);
+    let room_end = until(line, room, b' ');
     io::write_all(STDOUT_FILENO, &line[..name]);
     try_one(
         is_joint(&line[way..way_end]),
-        number(&line[arity..arity_end], 0).value,
+        decimal(&line[arity..arity_end], 0).value,
         &line[first..first_end],
         &line[second..second_end],
-        number(&line[room..], 0).value,
+        decimal(&line[room..room_end], 0).value,
     );
 }
 
@@ -55,17 +57,26 @@ fn try_one(joint: bool, arity: u8, first: &[u8], second: &[u8], room: u8) {
     let mut ys = [0u8; 32];
     let ny = numbers(second, &mut ys);
     let mut out = [OLD; 64];
-    let k = if room < 64 { room as usize } else { 64 };
-    let r = if joint {
-        masks::joint(arity, &xs[..nx], &ys[..ny], &mut out[..k])
+    let k = clipped(room, &out);
+    if joint {
+        let r = masks::joint(arity, &xs[..nx], &ys[..ny], &mut out[..k]);
+        show(r, &out);
     } else {
-        masks::choice(arity, &xs[..nx], &ys[..ny], &mut out[..k])
-    };
-    show(r, &out);
+        let r = masks::choice(arity, &xs[..nx], &ys[..ny], &mut out[..k]);
+        show(r, &out);
+    }
+}
+
+// The room asked for, as far as there is any.
+fn clipped(room: u8, out: &[u8]) -> usize
+    ensures { λ r. ⌜ Counts r (now (out .entry)) ⌝ }
+{
+    let k = room as usize;
+    if k < out.len() { k } else { out.len() }
 }
 
 // The reply and the masks written, and whether the bytes after them are as they were.
-fn show(r: Reply, out: &[u8]) {
+fn show(r: Reply, out: &[u8; 64]) {
     io::write_all(STDOUT_FILENO, b" ");
     io::print_decimal(STDOUT_FILENO, r.number as u64);
     io::write_all(STDOUT_FILENO, b" ");
@@ -76,7 +87,7 @@ fn show(r: Reply, out: &[u8]) {
         io::write_all(STDOUT_FILENO, b"-");
     }
     let mut i: usize = 0;
-    while i < out.len() {
+    while i < 64 {
         show_byte(i as u64, n, out[i]);
         i += 1;
     }
@@ -99,7 +110,11 @@ fn show_byte(i: u64, n: u64, b: u8) {
 
 // The word begins like `joint`.
 fn is_joint(word: &[u8]) -> bool {
-    if 0 < word.len() { word[0] == b'j' } else { false }
+    if 0 < word.len() {
+        word[0] == b'j'
+    } else {
+        false
+    }
 }
 
 // The numbers of a word, as many as there is room for.
@@ -107,22 +122,29 @@ fn numbers(word: &[u8], to: &mut [u8]) -> usize
     ensures { λ r. ⌜ Counts r (now (to .exit)) ⌝ }
 {
     let mut n: usize = 0;
-    let mut at: usize = 0;
-    if 0 < word.len() {
-        if word[0] == b'-' {
-            at = word.len();
-        }
-    }
+    let mut at = start(word);
     while at < word.len() {
         if to.len() <= n {
             return n;
         }
-        let x = number(word, at);
+        let x = decimal(word, at);
         to[n] = x.value;
         n += 1;
         at = after(word, x.end);
     }
     n
+}
+
+// Where the numbers of a word begin: at its end where it is `-`.
+fn start(word: &[u8]) -> usize
+    ensures { λ r. ⌜ r ≤ length (now (word .entry)) ⌝ }
+{
+    if 0 < word.len() {
+        if word[0] == b'-' {
+            return word.len();
+        }
+    }
+    0
 }
 
 // A number and the place after its last digit.
@@ -132,7 +154,7 @@ struct Number {
 }
 
 // The decimal number from `at` on; above 255 it counts as 255.
-fn number(word: &[u8], at: usize) -> Number
+fn decimal(word: &[u8], at: usize) -> Number
     requires { ⌜ at ≤ length (now word) ⌝ }
     ensures { λ r. ⌜ (at ≤ r .end) × (r .end ≤ length (now (word .entry))) ⌝ }
 {
@@ -158,7 +180,7 @@ fn with_digit(value: u8, digit: u8) -> u8 {
 // The first place from `at` on that has the byte, or the end.
 fn until(s: &[u8], at: usize, stop: u8) -> usize
     requires { ⌜ at ≤ length (now s) ⌝ }
-    ensures { λ r. ⌜ (at ≤ r) × (r ≤ length (now (s .entry))) ⌝ }
+    ensures { λ r. ⌜ (at ≤ r) × Counts r (now (s .entry)) ⌝ }
 {
     let mut i = at;
     while i < s.len() {
@@ -172,7 +194,7 @@ fn until(s: &[u8], at: usize, stop: u8) -> usize
 
 // The place after the byte at `at`, or the end.
 fn after(s: &[u8], at: usize) -> usize
-    ensures { λ r. ⌜ r ≤ length (now (s .entry)) ⌝ }
+    ensures { λ r. ⌜ r ≡ min (at + 1) (length (now (s .entry))) ⌝ }
 {
     if at < s.len() { at + 1 } else { s.len() }
 }

@@ -1,7 +1,7 @@
 -- Joining. Document 01: "Given are the arity and two lists of up to 20 masks in any order; written are the masks of the result. Arity over 6
 -- or a mask out of range is 4, a list over 20 is 5, with the value 0; tried as arity, first list's length, its masks, the second's, then 9."
 -- Assumes nothing.
-use mathlib.Core.Bool.{Bool, cond}
+use mathlib.Core.Bool.{cond}
 use mathlib.Core.List.{List}
 use Prim.Native.Nat.{ℕ, zero, suc, _^_}
 use lib.Dec.{ltb}

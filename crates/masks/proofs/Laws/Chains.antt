@@ -10,8 +10,8 @@ use lib.ListN.{length, getD, length-map}
 use borrow.Author.Tests.{eqb-true, eqb-false, eq-eqb, ltb-true}
 use Rattle.masks.specs.Limits.{maxMasks, allPatterns}
 use Rattle.masks.specs.Mask.{within}
-use Rattle.masks.specs.Constraint.{all, has, inRange, apart, isWritten}
-use Rattle.masks.proofs.Laws.Logic.{byBool, clash, and-left, and-right, or-right, or-case, not-elim}
+use Rattle.masks.specs.Constraint.{all, has, apart, isWritten}
+use Rattle.masks.proofs.Laws.Logic.{byBool, and-left, and-right, or-right, or-case, not-elim}
 use Rattle.masks.proofs.Laws.Lists.{has-here, all-has}
 use Rattle.masks.proofs.Laws.Constraint.{inRange-has, written-inRange, written-apart, isWritten-mono}
 

@@ -1,6 +1,6 @@
 -- Constraints. Each mask of a set contains a least one, so the written form admits what the set admits; and a mask of a written form is told
 -- from what the form admits, so two written forms that admit the same patterns are equal. Assumes nothing.
-use mathlib.Core.Path.{_≡_, refl, sym, ap, ap₂, _∙_, subst}
+use mathlib.Core.Path.{_≡_, refl, sym, ap, ap₂, _∙_}
 use mathlib.Core.Bool.{Bool, true, false, not, cond, _&&_, _||_, and-or-distrib-left, and-or-distrib-right, and-false, and-true, or-false}
 use mathlib.Core.List.{List, [], _∷_, _++_, map}
 use Prim.Native.Nat.{ℕ, zero, suc, _+_, _^_, _≤_, _<_}
@@ -9,10 +9,10 @@ use lib.Bits.{bitAnd, bitOr, or-lt}
 use lib.Dec.{eqb, ltb}
 use lib.ListN.{length, getD, take}
 use lib.Seq.{getD-take}
-use borrow.Author.Tests.{eqb-true, eqb-false, eq-eqb, ne-eqb, ltb-true, lt-ltb}
+use borrow.Author.Tests.{eqb-true, eq-eqb, ne-eqb, ltb-true, lt-ltb}
 use Rattle.masks.specs.Limits.{allPatterns}
 use Rattle.masks.specs.Mask.{within}
-use Rattle.masks.specs.Constraint.{any, all, anyBelow, below, has, admits, inRange, ascending, apart, isWritten, drops, least, written, minimise, choice, unions, joint}
+use Rattle.masks.specs.Constraint.{any, all, anyBelow, has, admits, inRange, ascending, apart, isWritten, drops, least, written, minimise, choice, unions, joint}
 use Rattle.masks.proofs.Laws.Logic.{byBool, clash, false-of, same, and-intro, and-left, and-right, or-case, not-intro, not-elim}
 use Rattle.masks.proofs.Laws.Lists.{front-lt, any-append, any-suc, any-at, has-append, has-here, any-has, has-any, all-has, has-all, anyBelow-at, at-anyBelow, below-has, has-below, anyBelow-cong, below-cong, ascending-below, ascending-ext}
 use Rattle.masks.proofs.Laws.Mask.{within-and, and-within, within-refl, within-trans, within-le, within-antisym, within-or}

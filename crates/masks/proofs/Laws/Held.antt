@@ -1,25 +1,23 @@
 -- How the code holds a constraint and a set: what is packed is read back, a store behind the masks adds one, and a bit set in a word adds a
 -- mask to its set. The written form of a word's set is made mask by mask, from 0 up. Assumes nothing.
-use mathlib.Core.Path.{_≡_, refl, sym, ap, ap₂, _∙_, subst}
-use mathlib.Core.Bool.{Bool, true, false, not, cond, _&&_, _||_, or-false, and-false}
+use mathlib.Core.Path.{_≡_, refl, sym, ap, ap₂, _∙_}
+use mathlib.Core.Bool.{Bool, true, false, not, _&&_, _||_, and-false}
 use mathlib.Core.List.{List, [], _∷_, _++_, append-nil}
-use Prim.Native.Nat.{ℕ, zero, suc, _+_, _-_, _*_, _/_, _%_, _^_, _≤_, _<_, max}
+use Prim.Native.Nat.{ℕ, zero, suc, _+_, _-_, _/_, _%_, _^_, _≤_, _<_}
 use native.Mathlib.Omega.{arith}
 use native.Mathlib.Numerals.{add-one}
 use native.Mathlib.Nat.{pow-suc}
 use lib.Bits.{bitAnd, bitOr, or-step}
 use lib.Dec.{eqb}
 use lib.ListN.{length, getD, take, set, replicate, length-take, length-append, length-replicate}
-use lib.Seq.{set-at, append-snoc, take-at, getD-take}
+use lib.Seq.{set-at, append-snoc, take-at}
 use borrow.Author.Tests.{eq-eqb, ne-eqb, eqb-true, eqb-false}
 use Rattle.masks.specs.Limits.{maxMasks, allPatterns}
 use Rattle.masks.specs.Constraint.{admits, written}
 use Rattle.masks.specs.Held.{masksOf, padded, packed, bitAt}
 use Rattle.masks.specs.declared.constraint.Constraint.{Constraint}
 use Rattle.masks.proofs.Laws.Logic.{byBool, same, or-case, or-left, or-right}
-use Rattle.masks.proofs.Laws.Lists.{any-at, any-suc}
-use Rattle.masks.proofs.Laws.Mask.{and-within, within-and}
-use Rattle.masks.proofs.Laws.Constraint.{written-isWritten, written-suc, admits-at, admits-suc}
+use Rattle.masks.proofs.Laws.Constraint.{written-isWritten, written-suc, admits-at}
 use Rattle.masks.proofs.Laws.Chains.{at-most-twenty}
 
 -- ---- a constraint
@@ -122,7 +120,7 @@ module _ (word m n : ℕ) (masks : List ℕ) (rest : ℕ) (h : m ≤ allPatterns
       record {
         rest-is = rw (add-one m) (ap (λ (x : ℕ). x / 2) (k .rest-is));
         count-is = k .count-is ∙ ap {B = ℕ} length (sym w);
-        masks-are = k .masks-are ∙ ap padded (sym w)
+        masks-are = k .masks-are ∙ ap padded (sym w);
       }
 
   pub kept-absent : rest % 2 ≡ 0 → Kept word (m + 1) n masks (rest / 2)
@@ -160,7 +158,7 @@ module _ (word m n : ℕ) (masks : List ℕ) (rest : ℕ) (h : m ≤ allPatterns
           count-is = sym kept-count;
           masks-are =
               ap₂ (λ (x : List ℕ) (y : ℕ). set x y m) (k .masks-are) (k .count-is)
-              ∙ padded-snoc (written (bitAt word) m) m (let s = kept-space l in let e = k .count-is in omega arith) ∙ ap padded (sym kept-more)
+              ∙ padded-snoc (written (bitAt word) m) m (let s = kept-space l in let e = k .count-is in omega arith) ∙ ap padded (sym kept-more);
         }
 
   pub kept-end : (limit : ℕ) → m ≡ limit → _≡_ {A = Constraint} (record { n = n; masks = masks }) (packed (written (bitAt word) limit))

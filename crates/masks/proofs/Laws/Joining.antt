@@ -1,6 +1,6 @@
 -- What the code of joining does, turn by turn, to the definitions. Assumes nothing.
 use mathlib.Core.Path.{_≡_, refl, sym, ap, ap₂, _∙_}
-use mathlib.Core.Bool.{Bool, true, false, cond, _||_, or-assoc, or-false}
+use mathlib.Core.Bool.{Bool, true, false, _||_, or-assoc, or-false}
 use mathlib.Core.List.{List, [], _∷_, _++_, map, append-nil, append-assoc}
 use Prim.Native.Nat.{ℕ, zero, suc, _+_, _^_, _≤_, _<_}
 use native.Mathlib.Omega.{arith}
@@ -12,13 +12,13 @@ use lib.ListN.{length, getD, take}
 use lib.Seq.{take-suc, take-length}
 use borrow.Author.Tests.{le-ltb, lt-ltb, ltb-true, ltb-false}
 use Rattle.masks.specs.Limits.{maxArity, maxMasks, allPatterns}
-use Rattle.masks.specs.Constraint.{any, all, has, inRange, written, minimise, choice, unions, joint}
+use Rattle.masks.specs.Constraint.{has, inRange, written, minimise, choice, unions, joint}
 use Rattle.masks.specs.Held.{packed, bitAt}
 use Rattle.masks.specs.Outcome.{refused, done}
 use Rattle.masks.specs.Joining.{listFault, orElse, fault, combined, unless, joining}
 use Rattle.masks.specs.declared.Way.{Way}
-use Rattle.masks.proofs.Laws.Logic.{byBool, clash}
-use Rattle.masks.proofs.Laws.Lists.{any-append, any-suc, all-suc, all-at, has-append, has-map}
+use Rattle.masks.proofs.Laws.Logic.{byBool}
+use Rattle.masks.proofs.Laws.Lists.{any-suc, all-suc, all-at, has-append, has-map}
 use Rattle.masks.proofs.Laws.Constraint.{inRange-mono, written-cong}
 use Rattle.masks.proofs.Laws.Held.{bitAt-zero, bitAt-or, bitAt-power}
 

@@ -7,7 +7,7 @@ use native.Mathlib.Omega.{arith}
 use lib.Dec.{ltb}
 use lib.ListN.{length, take, drop, length-append, length-drop}
 use lib.Seq.{take-at, drop-at, sets, sets-eq}
-use borrow.Author.Tests.{lt-ltb, le-ltb, ltb-true, ltb-false}
+use borrow.Author.Tests.{lt-ltb, le-ltb, ltb-false}
 use Rattle.masks.specs.Outcome.{Outcome, refused, done, reply, left, Answers}
 use Rattle.masks.specs.declared.reply.Reply.{Reply}
 use Rattle.masks.proofs.Laws.Logic.{byBool}

@@ -2,27 +2,17 @@ use Rattle.masks.proofs.Laws.Outcome.{answers-short, answers-done}
 use Rattle.masks.specs.Held.{masksOf}
 use borrow.Author.Needs.{needs}
 use native.Mathlib.Omega.{arith}
-use Prim.Native.Nat.{ℕ, _+_, _-_, _*_, _≤_, _<_}
-use mathlib.Core.Path.{_≡_, refl, sym, ap, _∙_}
-use lib.ListN.{length, getD, take, drop}
-use mathlib.Core.Logic.{⊎-elim}
+use mathlib.Core.Path.{_≡_, _∙_}
+use lib.ListN.{length}
 use Rattle.masks.proofs.give.Statement.{statement}
 use Rattle.masks.proofs.give.Tie as tie
-use Rattle.masks.proofs.give.Reads as reads
-use Rattle.masks.proofs.give.Lts as lts
-use Rattle.masks.proofs.constraint.count.Reads as count-reads
-use Rattle.masks.proofs.constraint.put_masks.Reads as put-masks-reads
-use Rattle.masks.proofs.reply.Reply.refused.Reads as refused-reads
 
--- src/lib.rt:59:9
 count-requires : tie.Need-count-requires
 count-requires c κs = search needs
 
--- src/lib.rt:61:9
 refused-requires : tie.Need-refused-requires
 refused-requires c κs = search needs
 
--- src/lib.rt:61:9
 returns : tie.Need-returns
 returns c =
     let s = c .before .before .before .before .args in
@@ -30,17 +20,14 @@ returns c =
     let a = answers-short 0 (masksOf (s .c)) (s .out .now) (omega arith) in
     record { replies = c .refused .ensures ∙ rw n (a .replies); leaves = a .leaves }
 
--- src/lib.rt:63:5
 put-masks-requires : tie.Need-put-masks-requires
 put-masks-requires c κs =
     let n : c .before .before .count .result ≡ length (masksOf (c .before .before .before .before .args .c)) = c .before .before .count .ensures in
     omega arith
 
--- src/lib.rt:56:1
 same-length : tie.Need-same-length
 same-length c = search needs
 
--- src/lib.rt:56:1
 returns-2 : tie.Need-returns-2
 returns-2 c =
     let s = c .before .before .before .before .before .before .before .args in

@@ -7,29 +7,16 @@ use Rattle.masks.specs.Joining.{combined}
 use Rattle.masks.specs.Held.{masksOf}
 use mathlib.Core.Path.{subst}
 use borrow.Author.Needs.{needs}
-use native.Mathlib.Omega.{arith}
-use Prim.Native.Nat.{ℕ, _+_, _-_, _*_, _≤_, _<_}
-use mathlib.Core.Path.{_≡_, refl, sym, ap, _∙_}
-use lib.ListN.{length, getD, take, drop}
-use mathlib.Core.Logic.{⊎-elim}
+use mathlib.Core.Path.{_≡_, sym, ap, _∙_}
 use Rattle.masks.proofs.join.Statement.{statement}
 use Rattle.masks.proofs.join.Tie as tie
-use Rattle.masks.proofs.join.Reads as reads
-use Rattle.masks.proofs.join.Lts as lts
-use Rattle.masks.proofs.combine.Reads as combine-reads
-use Rattle.masks.proofs.give.Reads as give-reads
-use Rattle.masks.proofs.judge.Reads as judge-reads
-use Rattle.masks.proofs.reply.Reply.refused.Reads as refused-reads
 
--- src/lib.rt:47:9
 judge-requires : tie.Need-judge-requires
 judge-requires c κs = search needs
 
--- src/lib.rt:49:9
 refused-requires : tie.Need-refused-requires
 refused-requires c κs = search needs
 
--- src/lib.rt:49:9
 returns : tie.Need-returns
 returns c =
     let s = c .before .before .before .before .before .before .args in
@@ -37,21 +24,17 @@ returns c =
     let o = joining-fault (s .arity) (s .first .now) (s .second .now) (s .way) (j .result) (j .ensures) (c .before .if1 .taken) in
     rw o (subst (λ (r : Reply). Answers (refused (j .result) 0) (s .out .now) r (s .out .now)) (sym (c .refused .ensures)) (answers-refused (j .result) 0 (s .out .now)))
 
--- src/lib.rt:51:9
 combine-requires : tie.Need-combine-requires
 combine-requires c κs =
     let s = c .before .before .before .before .before .args in
     fault-free (s .arity) (s .first .now) (s .second .now) (sym (c .before .judge .ensures) ∙ c .if1 .left)
 
--- src/lib.rt:52:5
 give-requires : tie.Need-give-requires
 give-requires c κs = search needs
 
--- src/lib.rt:44:1
 same-length : tie.Need-same-length
 same-length c = search needs
 
--- src/lib.rt:44:1
 returns-2 : tie.Need-returns-2
 returns-2 c =
     let s = c .before .before .before .before .before .before .before .before .before .before .args in

@@ -2,16 +2,11 @@ use Rattle.masks.proofs.Laws.Joining.{Holds, joint-start, joint-next, j
 use Rattle.masks.specs.Constraint.{has, unions}
 use borrow.Author.Needs.{needs}
 use native.Mathlib.Omega.{arith}
-use Prim.Native.Nat.{ℕ, _+_, _-_, _*_, _≤_, _<_}
-use mathlib.Core.Path.{_≡_, refl, sym, ap, _∙_}
-use lib.ListN.{length, getD, take, drop}
-use mathlib.Core.Logic.{⊎-elim}
+use Prim.Native.Nat.{_-_, _≤_}
+use mathlib.Core.Path.{_∙_}
+use lib.ListN.{length, take}
 use Rattle.masks.proofs.joint_of.Statement.{statement}
 use Rattle.masks.proofs.joint_of.Tie as tie
-use Rattle.masks.proofs.joint_of.Reads as reads
-use Rattle.masks.proofs.joint_of.Lts as lts
-use Rattle.masks.proofs.constraint.written.Reads as written-reads
-use Rattle.masks.proofs.with_unions.Reads as with-unions-reads
 
 abbrev Inv-loop : tie.InvT-loop
 Inv-loop first second set₀ i₀ set i = (i ≤ length first) × Holds set (has (unions (take i first) second))
@@ -19,40 +14,32 @@ Inv-loop first second set₀ i₀ set i = (i ≤ length first) × Holds set (has
 abbrev μ-loop : tie.MeasureT-loop
 μ-loop first second set₀ i₀ set i = length first - i
 
--- src/lib.rt:136:5
 loop-holds : tie.Need-loop-holds Inv-loop μ-loop
 loop-holds c = (omega arith, joint-start (c .before .before .args .first .now) (c .before .before .args .second .now))
 
--- src/lib.rt:137:32
 shared-slice-read-with-unions : tie.Need-shared-slice-read-with-unions Inv-loop μ-loop
 shared-slice-read-with-unions c = search needs
 
--- src/lib.rt:137:9
 with-unions-requires : tie.Need-with-unions-requires Inv-loop μ-loop
 with-unions-requires c κs =
     let s = c .before .before .before .before .before .args in
     (element-below 64 (s .first .now) (c .before .before .loop .i) (c .before .before .before .before .before .pre .0) (omega arith), c .before .before .before .before .before .pre .1)
 
--- src/lib.rt:138:9
 add-i : tie.Need-add-i Inv-loop μ-loop
 add-i c = search needs
 
--- src/lib.rt:136:5
 loop-less : tie.Need-loop-less Inv-loop μ-loop
 loop-less c = search needs
 
--- src/lib.rt:136:5
 loop-again : tie.Need-loop-again Inv-loop μ-loop
 loop-again c =
     let s = c .before .before .before .before .before .before .args in
     let l = c .before .before .before .loop in
     (omega arith, joint-next (l .set) (c .with-unions .result) (s .first .now) (s .second .now) (l .i) (omega arith) (l .inv .1) (c .with-unions .ensures))
 
--- src/lib.rt:140:5
 written-requires : tie.Need-written-requires Inv-loop μ-loop
 written-requires c κs = search needs
 
--- src/lib.rt:130:1
 returns : tie.Need-returns Inv-loop μ-loop
 returns c =
     let s = c .before .before .before .before .before .args in

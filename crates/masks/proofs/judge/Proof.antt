@@ -3,41 +3,29 @@ use Rattle.masks.specs.Joining.{listFault}
 use Prim.Native.Nat.{_^_}
 use borrow.Author.Needs.{needs}
 use native.Mathlib.Omega.{arith}
-use Prim.Native.Nat.{ℕ, _+_, _-_, _*_, _≤_, _<_}
-use mathlib.Core.Path.{_≡_, refl, sym, ap, _∙_}
-use lib.ListN.{length, getD, take, drop}
-use mathlib.Core.Logic.{⊎-elim}
+use Prim.Native.Nat.{ℕ}
+use mathlib.Core.Path.{_≡_, sym, ap, _∙_}
 use Rattle.masks.proofs.judge.Statement.{statement}
 use Rattle.masks.proofs.judge.Tie as tie
-use Rattle.masks.proofs.judge.Reads as reads
-use Rattle.masks.proofs.judge.Lts as lts
-use Rattle.masks.proofs.list_fault.Reads as list-fault-reads
-use Rattle.masks.proofs.patterns.Reads as patterns-reads
 
--- src/lib.rt:76:9
 returns : tie.Need-returns
 returns c = fault-arity (c .before .before .before .args .arity) (c .before .before .before .args .first .now) (c .before .before .before .args .second .now) (omega arith)
 
--- src/lib.rt:78:9
 patterns-requires : tie.Need-patterns-requires
 patterns-requires c κs = search needs
 
--- src/lib.rt:79:9
 list-fault-requires : tie.Need-list-fault-requires
 list-fault-requires c κs = search needs
 
--- src/lib.rt:81:9
 returns-2 : tie.Need-returns-2
 returns-2 c =
     let s = c .before .before .before .before .before .before .args in
     fault-first (s .arity) (s .first .now) (s .second .now) (omega arith) (c .before .list-fault .result)
     (c .before .list-fault .ensures ∙ ap (λ (l : ℕ). listFault l (s .first .now)) (c .before .before .patterns .ensures)) (c .if2 .taken)
 
--- src/lib.rt:83:5
 list-fault-requires-2 : tie.Need-list-fault-requires-2
 list-fault-requires-2 c κs = search needs
 
--- src/lib.rt:72:1
 returns-3 : tie.Need-returns-3
 returns-3 c =
     let s = c .before .before .before .before .before .before .before .args in

@@ -3,14 +3,11 @@ use Rattle.masks.specs.Constraint.{inRange}
 use mathlib.Core.Bool.{true}
 use borrow.Author.Needs.{needs}
 use native.Mathlib.Omega.{arith}
-use Prim.Native.Nat.{ℕ, _+_, _-_, _*_, _≤_, _<_}
-use mathlib.Core.Path.{_≡_, refl, sym, ap, _∙_}
-use lib.ListN.{length, getD, take, drop}
-use mathlib.Core.Logic.{⊎-elim}
+use Prim.Native.Nat.{_-_, _≤_}
+use mathlib.Core.Path.{_≡_}
+use lib.ListN.{length, take}
 use Rattle.masks.proofs.list_fault.Statement.{statement}
 use Rattle.masks.proofs.list_fault.Tie as tie
-use Rattle.masks.proofs.list_fault.Reads as reads
-use Rattle.masks.proofs.list_fault.Lts as lts
 
 abbrev Inv-loop : tie.InvT-loop
 Inv-loop masks limit i₀ i = (i ≤ length masks) × (inRange limit (take i masks) ≡ true)
@@ -18,35 +15,27 @@ Inv-loop masks limit i₀ i = (i ≤ length masks) × (inRange limit (take i mas
 abbrev μ-loop : tie.MeasureT-loop
 μ-loop masks limit i₀ i = length masks - i
 
--- src/lib.rt:91:9
 returns : tie.Need-returns Inv-loop μ-loop
 returns c = fault-long (c .before .args .limit) (c .before .args .masks .now) (omega arith)
 
--- src/lib.rt:94:5
 loop-holds : tie.Need-loop-holds Inv-loop μ-loop
 loop-holds c = (omega arith, range-start (c .before .args .limit) (c .before .args .masks .now))
 
--- src/lib.rt:95:21
 shared-slice-read-if2 : tie.Need-shared-slice-read-if2 Inv-loop μ-loop
 shared-slice-read-if2 c = search needs
 
--- src/lib.rt:96:13
 returns-2 : tie.Need-returns-2 Inv-loop μ-loop
 returns-2 c = fault-mask (c .before .before .before .before .before .args .limit) (c .before .before .before .before .before .args .masks .now) (omega arith) (c .before .before .before .loop .i) (omega arith) (c .if2 .taken)
 
--- src/lib.rt:98:9
 add-i : tie.Need-add-i Inv-loop μ-loop
 add-i c = search needs
 
--- src/lib.rt:94:5
 loop-less : tie.Need-loop-less Inv-loop μ-loop
 loop-less c = search needs
 
--- src/lib.rt:94:5
 loop-again : tie.Need-loop-again Inv-loop μ-loop
 loop-again c = (omega arith, range-next (c .before .before .before .before .before .args .limit) (c .before .before .before .before .before .args .masks .now) (c .before .before .before .loop .i) (omega arith) (omega arith) (c .before .before .before .loop .inv .1))
 
--- src/lib.rt:87:1
 returns-3 : tie.Need-returns-3 Inv-loop μ-loop
 returns-3 c =
     let s = c .before .before .before .args in

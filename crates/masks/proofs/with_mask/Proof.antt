@@ -3,20 +3,14 @@ use lib.Bits.{bitOr}
 use Prim.Native.Nat.{_%_, _^_}
 use borrow.Author.Needs.{needs}
 use native.Mathlib.Omega.{arith}
-use Prim.Native.Nat.{ℕ, _+_, _-_, _*_, _≤_, _<_}
-use mathlib.Core.Path.{_≡_, refl, sym, ap, _∙_}
-use lib.ListN.{length, getD, take, drop}
-use mathlib.Core.Logic.{⊎-elim}
+use Prim.Native.Nat.{_*_}
+use mathlib.Core.Path.{_≡_, ap}
 use Rattle.masks.proofs.with_mask.Statement.{statement}
 use Rattle.masks.proofs.with_mask.Tie as tie
-use Rattle.masks.proofs.with_mask.Reads as reads
-use Rattle.masks.proofs.with_mask.Lts as lts
 
--- src/lib.rt:170:12
 shl-result : tie.Need-shl-result
 shl-result c = search needs
 
--- src/lib.rt:166:1
 returns : tie.Need-returns
 returns c =
     let h = pow-lt {j = 64} (c .pre) in

@@ -7,15 +7,11 @@ use mathlib.Core.List.{List, map}
 use mathlib.Core.Bool.{_||_}
 use borrow.Author.Needs.{needs}
 use native.Mathlib.Omega.{arith}
-use Prim.Native.Nat.{ℕ, _+_, _-_, _*_, _≤_, _<_}
-use mathlib.Core.Path.{_≡_, refl, sym, ap, _∙_}
-use lib.ListN.{length, getD, take, drop}
-use mathlib.Core.Logic.{⊎-elim}
+use Prim.Native.Nat.{ℕ, _-_, _≤_}
+use mathlib.Core.Path.{_≡_, ap, _∙_}
+use lib.ListN.{length, take}
 use Rattle.masks.proofs.with_unions.Statement.{statement}
 use Rattle.masks.proofs.with_unions.Tie as tie
-use Rattle.masks.proofs.with_unions.Reads as reads
-use Rattle.masks.proofs.with_unions.Lts as lts
-use Rattle.masks.proofs.with_mask.Reads as with-mask-reads
 
 abbrev Inv-loop : tie.InvT-loop
 Inv-loop set m masks all₀ i₀ all i = (i ≤ length masks) × Holds all (λ k. bitAt set k || has (map (bitOr m) (take i masks)) k)
@@ -23,35 +19,28 @@ Inv-loop set m masks all₀ i₀ all i = (i ≤ length masks) × Holds all (λ k
 abbrev μ-loop : tie.MeasureT-loop
 μ-loop set m masks all₀ i₀ all i = length masks - i
 
--- src/lib.rt:158:5
 loop-holds : tie.Need-loop-holds Inv-loop μ-loop
 loop-holds c = (omega arith, with-start (c .before .args .set) (c .before .args .m) (c .before .args .masks .now))
 
--- src/lib.rt:159:34
 shared-slice-read-with-mask : tie.Need-shared-slice-read-with-mask Inv-loop μ-loop
 shared-slice-read-with-mask c = search needs
 
--- src/lib.rt:159:9
 with-mask-requires : tie.Need-with-mask-requires Inv-loop μ-loop
 with-mask-requires c κs =
     let s = c .before .before .before .before .args in
     union-below (s .m) (s .masks .now) (c .before .before .loop .i) (c .before .before .before .before .pre .0) (c .before .before .before .before .pre .1) (omega arith)
 
--- src/lib.rt:160:9
 add-i : tie.Need-add-i Inv-loop μ-loop
 add-i c = search needs
 
--- src/lib.rt:158:5
 loop-less : tie.Need-loop-less Inv-loop μ-loop
 loop-less c = search needs
 
--- src/lib.rt:158:5
 loop-again : tie.Need-loop-again Inv-loop μ-loop
 loop-again c =
     let s = c .before .before .before .before .before .args in
     (omega arith, λ k. ap (λ (w : ℕ). bitAt w k) (c .with-mask .ensures) ∙ with-next (s .set) (s .m) (s .masks .now) (c .before .before .before .loop .all) (c .before .before .before .loop .i) (omega arith) (c .before .before .before .loop .inv .1) k)
 
--- src/lib.rt:152:1
 returns : tie.Need-returns Inv-loop μ-loop
 returns c =
     let s = c .before .before .before .args in

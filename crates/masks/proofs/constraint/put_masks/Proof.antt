@@ -4,15 +4,11 @@ use lib.Seq.{sets}
 use lib.ListN.{length-take, length-set}
 use borrow.Author.Needs.{needs}
 use native.Mathlib.Omega.{arith}
-use Prim.Native.Nat.{ℕ, _+_, _-_, _*_, _≤_, _<_}
-use mathlib.Core.Path.{_≡_, refl, sym, ap, _∙_}
-use lib.ListN.{length, getD, take, drop}
-use mathlib.Core.Logic.{⊎-elim}
+use Prim.Native.Nat.{ℕ, _-_, _≤_}
+use mathlib.Core.Path.{_≡_, refl, ap, _∙_}
+use lib.ListN.{length, take}
 use Rattle.masks.proofs.constraint.put_masks.Statement.{statement}
 use Rattle.masks.proofs.constraint.put_masks.Tie as tie
-use Rattle.masks.proofs.constraint.put_masks.Reads as reads
-use Rattle.masks.proofs.constraint.put_masks.Lts as lts
-use Rattle.masks.proofs.constraint.count.Reads as count-reads
 
 abbrev Inv-loop : tie.InvT-loop
 Inv-loop out₀ at c n i₀ out i = (i ≤ n) × (length out ≡ length out₀) × (out ≡ sets out₀ at (take i (c .masks)))
@@ -20,15 +16,12 @@ Inv-loop out₀ at c n i₀ out i = (i ≤ n) × (length out ≡ length out₀) 
 abbrev μ-loop : tie.MeasureT-loop
 μ-loop out₀ at c n i₀ out i = n - i
 
--- src/constraint.rt:72:9
 count-requires : tie.Need-count-requires Inv-loop μ-loop
 count-requires c κs = search needs
 
--- src/constraint.rt:74:5
 loop-holds : tie.Need-loop-holds Inv-loop μ-loop
 loop-holds c = (omega arith, refl, refl)
 
--- src/constraint.rt:75:23
 element-copy-out-out : tie.Need-element-copy-out-out Inv-loop μ-loop
 element-copy-out-out c =
     let s = c .before .before .before .before .args .t3 in
@@ -36,14 +29,12 @@ element-copy-out-out c =
     let n = c .before .before .count .ensures in
     omega (arith, length-take (s .n) (s .masks))
 
--- src/constraint.rt:75:13
 add-out : tie.Need-add-out Inv-loop μ-loop
 add-out c =
     let n = c .before .before .before .count .ensures in
     let p = c .before .before .before .before .before .pre in
     omega arith
 
--- src/constraint.rt:75:9
 slice-write-out : tie.Need-slice-write-out Inv-loop μ-loop
 slice-write-out c =
     let n = c .before .before .before .count .ensures in
@@ -51,15 +42,12 @@ slice-write-out c =
     let l = c .before .before .loop .inv .1 in
     omega arith
 
--- src/constraint.rt:76:9
 add-i : tie.Need-add-i Inv-loop μ-loop
 add-i c = search needs
 
--- src/constraint.rt:74:5
 loop-less : tie.Need-loop-less Inv-loop μ-loop
 loop-less c = search needs
 
--- src/constraint.rt:74:5
 loop-again : tie.Need-loop-again Inv-loop μ-loop
 loop-again c =
     let s = c .before .before .before .before .before .args in
@@ -67,11 +55,9 @@ loop-again c =
     let n = c .before .before .before .count .ensures in
     (omega arith, simp length-set (l .inv .1), rw (l .inv .2) (sets-suc 0 (s .out .now) (s .at) (s .t3 .masks) (l .i) (omega (arith, length-take (s .t3 .n) (s .t3 .masks)))))
 
--- src/constraint.rt:68:1
 same-length : tie.Need-same-length Inv-loop μ-loop
 same-length c = c .before .loop .inv .1
 
--- src/constraint.rt:68:1
 returns : tie.Need-returns Inv-loop μ-loop
 returns c =
     let s = c .before .before .before .before .args in

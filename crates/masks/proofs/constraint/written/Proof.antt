@@ -5,14 +5,11 @@ use Rattle.masks.proofs.Laws.Held.{Kept, kept-start, kept-room, kept-le
 use Rattle.masks.proofs.Laws.Constraint.{admits-suc}
 use borrow.Author.Needs.{needs}
 use native.Mathlib.Omega.{arith}
-use Prim.Native.Nat.{ℕ, _+_, _-_, _*_, _≤_, _<_}
+use Prim.Native.Nat.{ℕ, _-_, _≤_, _<_}
 use mathlib.Core.Path.{_≡_, refl, sym, ap, _∙_}
-use lib.ListN.{length, getD, take, drop}
-use mathlib.Core.Logic.{⊎-elim}
+use lib.ListN.{take}
 use Rattle.masks.proofs.constraint.written.Statement.{statement}
 use Rattle.masks.proofs.constraint.written.Tie as tie
-use Rattle.masks.proofs.constraint.written.Reads as reads
-use Rattle.masks.proofs.constraint.written.Lts as lts
 
 abbrev Inv-inner : tie.InvT-inner
 Inv-inner set limit masks n rest m₀ bit k₀ m k = (m ≡ m₀) × (k ≤ n) × (admits (take k masks) m ≡ false)
@@ -26,44 +23,35 @@ Inv-outer set limit masks₀ n₀ rest₀ m₀ masks n rest m = (m ≤ limit) ×
 abbrev μ-outer : tie.MeasureT-outer
 μ-outer set limit masks₀ n₀ rest₀ m₀ masks n rest m = limit - m
 
--- src/constraint.rt:49:5
 outer-holds : tie.Need-outer-holds Inv-inner μ-inner Inv-outer μ-outer
 outer-holds c = (omega arith, kept-start (c .args .set))
 
--- src/constraint.rt:53:13
 add-m : tie.Need-add-m Inv-inner μ-inner Inv-outer μ-outer
 add-m c = search needs
 
--- src/constraint.rt:49:5
 outer-less : tie.Need-outer-less Inv-inner μ-inner Inv-outer μ-outer
 outer-less c = search needs
 
--- src/constraint.rt:49:5
 outer-again : tie.Need-outer-again Inv-inner μ-inner Inv-outer μ-outer
 outer-again c =
     let o = c .before .before .outer in
     (omega arith, kept-absent (c .before .before .before .args .set) (o .m) (o .n) (o .masks) (o .rest) (omega arith) (o .inv .1) (c .if1 .taken))
 
--- src/constraint.rt:55:9
 inner-holds : tie.Need-inner-holds Inv-inner μ-inner Inv-outer μ-outer
 inner-holds c = (refl, omega arith, unfold admits in refl)
 
--- src/constraint.rt:56:24
 array-read-kept : tie.Need-array-read-kept Inv-inner μ-inner Inv-outer μ-outer
 array-read-kept c =
     let o = c .before .before .before .before .outer in
     let r = kept-room (c .before .before .before .before .before .args .set) (o .m) (o .n) (o .masks) (o .rest) (omega arith) (o .inv .1) in
     omega arith
 
--- src/constraint.rt:58:17
 add-m-2 : tie.Need-add-m-2 Inv-inner μ-inner Inv-outer μ-outer
 add-m-2 c = search needs
 
--- src/constraint.rt:49:5
 outer-less-2 : tie.Need-outer-less-2 Inv-inner μ-inner Inv-outer μ-outer
 outer-less-2 c = search needs
 
--- src/constraint.rt:49:5
 outer-again-2 : tie.Need-outer-again-2 Inv-inner μ-inner Inv-outer μ-outer
 outer-again-2 c =
     let o = c .before .before .before .before .before .outer in
@@ -72,18 +60,15 @@ outer-again-2 c =
     let k = subst (λ (x : ℕ). Kept (c .before .before .before .before .before .before .args .set) x (o .n) (o .masks) (o .rest)) (sym (i .inv .0)) (o .inv .1) in
     (omega arith, kept-dropped (c .before .before .before .before .before .before .args .set) (i .m) (o .n) (o .masks) (o .rest) h k (i .k) (omega arith) (c .if2 .taken))
 
--- src/constraint.rt:55:21
 add-k : tie.Need-add-k Inv-inner μ-inner Inv-outer μ-outer
 add-k c =
     let o = c .before .before .before .before .before .outer in
     let r = kept-room (c .before .before .before .before .before .before .args .set) (o .m) (o .n) (o .masks) (o .rest) (omega arith) (o .inv .1) in
     omega arith
 
--- src/constraint.rt:55:9
 inner-less : tie.Need-inner-less Inv-inner μ-inner Inv-outer μ-outer
 inner-less c = search needs
 
--- src/constraint.rt:55:9
 inner-again : tie.Need-inner-again Inv-inner μ-inner Inv-outer μ-outer
 inner-again c =
     let o = c .before .before .before .before .before .outer in
@@ -96,7 +81,7 @@ inner-again c =
 -- past the inner loop: what is known of m, which it left as it was
 kept : (c : tie.After-inner Inv-inner μ-inner Inv-outer μ-outer)
     → let o = c .before .before .before .before .outer in
-      Kept (c .before .before .before .before .before .args .set) (c .before .inner .m) (o .n) (o .masks) (o .rest)
+    Kept (c .before .before .before .before .before .args .set) (c .before .inner .m) (o .n) (o .masks) (o .rest)
 kept c =
     let o = c .before .before .before .before .outer in
     subst (λ (x : ℕ). Kept (c .before .before .before .before .before .args .set) x (o .n) (o .masks) (o .rest)) (sym (c .before .inner .inv .0)) (o .inv .1)
@@ -115,37 +100,30 @@ room c =
     kept-space (c .before .before .before .before .before .args .set) (c .before .inner .m) (o .n) (o .masks) (o .rest) (omega arith) (kept c)
     (c .before .before .if1 .left) (none c) (omega arith)
 
--- src/constraint.rt:61:9
 array-write-masks : tie.Need-array-write-masks Inv-inner μ-inner Inv-outer μ-outer
 array-write-masks c = let r = room c in omega arith
 
--- src/constraint.rt:62:9
 add-n : tie.Need-add-n Inv-inner μ-inner Inv-outer μ-outer
 add-n c = let r = room c in omega arith
 
--- src/constraint.rt:49:17
 add-m-3 : tie.Need-add-m-3 Inv-inner μ-inner Inv-outer μ-outer
 add-m-3 c = search needs
 
--- src/constraint.rt:49:5
 outer-less-3 : tie.Need-outer-less-3 Inv-inner μ-inner Inv-outer μ-outer
 outer-less-3 c = search needs
 
--- src/constraint.rt:49:5
 outer-again-3 : tie.Need-outer-again-3 Inv-inner μ-inner Inv-outer μ-outer
 outer-again-3 c =
     let o = c .before .before .before .before .outer in
     let i = c .before .inner in
     (omega arith, kept-new (c .before .before .before .before .before .args .set) (i .m) (o .n) (o .masks) (o .rest) (omega arith) (kept c) (c .before .before .if1 .left) (none c) (omega arith))
 
--- src/constraint.rt:64:21
 cast-count : tie.Need-cast-count Inv-inner μ-inner Inv-outer μ-outer
 cast-count c =
     let o = c .before .outer in
     let r = kept-room (c .before .before .args .set) (o .m) (o .n) (o .masks) (o .rest) (omega arith) (o .inv .1) in
     omega arith
 
--- src/constraint.rt:42:1
 returns : tie.Need-returns Inv-inner μ-inner Inv-outer μ-outer
 returns c =
     let o = c .before .outer in
