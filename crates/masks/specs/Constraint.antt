@@ -6,33 +6,7 @@ use lib.Dec.{eqb, ltb}
 use lib.Bits.{bitOr}
 use Rattle.masks.specs.Limits.{allPatterns}
 use Rattle.masks.specs.Mask.{within}
-
--- ---- tests over a list, and over the numbers below n
-
-module _ {A : Type 0} where
-  -- p holds of some element
-  abbrev pub any : (A → Bool) → List A → Bool
-  any p [] = false
-  any p (x ∷ xs) = p x || any p xs
-
-  -- p holds of every element
-  abbrev pub all : (A → Bool) → List A → Bool
-  all p [] = true
-  all p (x ∷ xs) = p x && all p xs
-
--- p holds of some number below n
-abbrev pub anyBelow : (ℕ → Bool) → ℕ → Bool
-anyBelow p zero = false
-anyBelow p (suc n) = anyBelow p n || p n
-
--- the numbers below n of which p holds, ascending
-abbrev pub below : (ℕ → Bool) → ℕ → List ℕ
-below p zero = []
-below p (suc n) = below p n ++ cond (p n) (n ∷ []) []
-
--- m is one of the masks of c
-abbrev pub has : List ℕ → ℕ → Bool
-has c m = any (eqb m) c
+use Rattle.masks.specs.Lists.{any, all, anyBelow, below, has, ascending}
 
 -- ---- a pattern and a constraint
 
@@ -53,16 +27,15 @@ trivial = 0 ∷ []
 unfoldable pub inRange : ℕ → List ℕ → Bool
 inRange n c = all (λ m. ltb m n) c
 
--- each mask is less than those after it, so equal ones stand once
-abbrev pub ascending : List ℕ → Bool
-ascending [] = true
-ascending (x ∷ xs) = all (ltb x) xs && ascending xs
+-- neither of two masks contains the other; no two of a list do
+abbrev pub unlike : ℕ → ℕ → Bool
+unlike x y = not (within x y) && not (within y x)
 
--- none contains another
 abbrev pub apart : List ℕ → Bool
 apart [] = true
-apart (x ∷ xs) = all (λ y. not (within x y) && not (within y x)) xs && apart xs
+apart (x ∷ xs) = all (unlike x) xs && apart xs
 
+-- in range, ascending (so that equal ones stand once), none containing another
 unfoldable pub isWritten : ℕ → List ℕ → Bool
 isWritten n c = inRange n c && (ascending c && apart c)
 

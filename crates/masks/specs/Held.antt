@@ -1,6 +1,7 @@
 -- How the code holds a constraint and a set of masks. Assumes nothing.
 use mathlib.Core.Bool.{Bool}
 use mathlib.Core.List.{List, _++_}
+use mathlib.Core.Path.{_≡_}
 use Prim.Native.Nat.{ℕ, zero, suc, _-_, _/_, _%_}
 use lib.Dec.{eqb}
 use lib.ListN.{length, take, replicate}
@@ -22,3 +23,7 @@ packed l = record { n = length l; masks = padded l }
 unfoldable pub bitAt : ℕ → ℕ → Bool
 bitAt word zero = eqb (word % 2) 1
 bitAt word (suc m) = bitAt (word / 2) m
+
+-- the word holds just the masks that f tells
+abbrev pub Holds : ℕ → (ℕ → Bool) → Type 0
+Holds word f = (m : ℕ) → bitAt word m ≡ f m

@@ -1,13 +1,21 @@
-// Constraints: up to 20 masks by value, and a pattern tried against them.
+// Constraints by value, a pattern tried against one, and the written form of a list or a set of masks.
+//
+// A set of masks is held in a word: mask m is in it where bit m is set.
+use crate::limits::ALL_PATTERNS;
 use crate::limits::MAX_MASKS;
 ghost use mathlib.Core.Path.{_≡_};
-ghost use Prim.Native.Nat.{_+_, _≤_};
+ghost use mathlib.Core.Bool.{true, _||_};
+ghost use mathlib.Core.List.{map};
+ghost use Prim.Native.Nat.{_+_, _<_, _≤_, _^_};
+ghost use lib.Bits.{bitOr};
 ghost use lib.ListN.{length};
 ghost use lib.Seq.{sets};
-ghost use Rattle.masks.specs.Constraint.{admits, written};
-ghost use Rattle.masks.specs.Held.{masksOf, packed, bitAt};
+ghost use Rattle.masks.specs.Limits.{maxArity, allPatterns};
+ghost use Rattle.masks.specs.Lists.{has};
+ghost use Rattle.masks.specs.Constraint.{admits, inRange, written, minimise};
+ghost use Rattle.masks.specs.Held.{masksOf, packed, bitAt, Holds};
 
-// The masks are the first n of the array.
+// A constraint's masks are the first n of the array.
 pub struct Constraint {
     pub n: u8,
     pub masks: [u8; MAX_MASKS],
@@ -37,10 +45,18 @@ pub fn count(c: Constraint) -> usize
     if n < MAX_MASKS { n } else { MAX_MASKS }
 }
 
-// The written form of a set of masks below the limit, the set held in a word: "a mask is dropped at the first other one contained in it".
-// What drops a mask is smaller than it and contains one that is kept, so it is enough to look among those.
+// The written form of a list of masks in any order, with repeats.
+pub fn minimised(masks: &[u8]) -> Constraint
+    requires { ⌜ inRange allPatterns (now masks) ≡ true ⌝ }
+    ensures { λ r. ⌜ r ≡ packed (minimise (now (masks .entry))) ⌝ }
+{
+    written(with_unions(0, 0, masks), ALL_PATTERNS)
+}
+
+// The written form of the masks of a set that are below the limit: "a mask is dropped at the first other one contained in it". Where any
+// other is contained in it, so is one that is kept, and that one is smaller: so it is enough to look among those kept so far.
 pub fn written(set: u64, limit: u8) -> Constraint
-    requires { ⌜ limit ≤ 64 ⌝ }
+    requires { ⌜ limit ≤ allPatterns ⌝ }
     ensures { λ r. ⌜ r ≡ packed (written (bitAt set) limit) ⌝ }
 {
     let mut masks = [0u8; MAX_MASKS];
@@ -76,4 +92,34 @@ pub fn put_masks(out: &mut [u8], at: usize, c: Constraint)
         out[at + i] = c.masks[i];
         i += 1;
     }
+}
+
+// A set of masks, and besides them the union of m with each mask of a list.
+pub fn with_unions(set: u64, m: u8, masks: &[u8]) -> u64
+    requires { ⌜ (m < allPatterns) × (inRange allPatterns (now masks) ≡ true) ⌝ }
+    ensures { λ r. ⌜ Holds r (λ k. bitAt set k || has (map (bitOr m) (now (masks .entry))) k) ⌝ }
+{
+    let mut all = set;
+    let mut i: usize = 0;
+    while i < masks.len() {
+        all = with_mask(all, m | masks[i]);
+        i += 1;
+    }
+    all
+}
+
+// A set of masks with one more.
+fn with_mask(set: u64, m: u8) -> u64
+    requires { ⌜ m < allPatterns ⌝ }
+    ensures { λ r. ⌜ r ≡ bitOr set (2 ^ m) ⌝ }
+{
+    set | (1u64 << m)
+}
+
+// How many patterns an arity has.
+pub fn patterns(arity: u8) -> u8
+    requires { ⌜ arity ≤ maxArity ⌝ }
+    ensures { λ r. ⌜ r ≡ 2 ^ arity ⌝ }
+{
+    1u8 << arity
 }

@@ -20,4 +20,15 @@ impl Reply {
             rounds: 0,
         }
     }
+
+    // Done: the bytes written, and the rounds.
+    pub fn done(value: u64, rounds: u64) -> Reply
+        ensures { λ r. ⌜ r ≡ record { number = 0; value = value; rounds = rounds } ⌝ }
+    {
+        Reply {
+            number: 0,
+            value,
+            rounds,
+        }
+    }
 }

@@ -1,16 +1,8 @@
+-- `join::show` meets its contract. The loop's invariant: i is within the array. Assumes nothing.
+use Prim.Native.Nat.{_-_, _≤_}
 use borrow.Author.Needs.{needs}
-use native.Mathlib.Omega.{arith}
-use Prim.Native.Nat.{ℕ, _+_, _-_, _*_, _≤_, _<_}
-use mathlib.Core.Path.{_≡_, refl, sym, ap, _∙_}
-use lib.ListN.{length, getD, take, drop}
-use mathlib.Core.Logic.{⊎-elim}
 use Rattle.join.proofs.show.Statement.{statement}
 use Rattle.join.proofs.show.Tie as tie
-use Rattle.join.proofs.show.Reads as reads
-use Rattle.join.proofs.show.Lts as lts
-use Rattle.io.proofs.print_decimal.Reads as print-decimal-reads
-use Rattle.io.proofs.write_all.Reads as write-all-reads
-use Rattle.join.proofs.show_byte.Reads as show-byte-reads
 
 abbrev Inv-loop : tie.InvT-loop
 Inv-loop out n i₀ t9 i = i ≤ 64
@@ -18,83 +10,63 @@ Inv-loop out n i₀ t9 i = i ≤ 64
 abbrev μ-loop : tie.MeasureT-loop
 μ-loop out n i₀ t9 i = 64 - i
 
--- src/main.rt:79:34
 slice-aggregate-write-all : tie.Need-slice-aggregate-write-all Inv-loop μ-loop
 slice-aggregate-write-all c = search needs
 
--- src/main.rt:79:5
 write-all-requires : tie.Need-write-all-requires Inv-loop μ-loop
 write-all-requires c κs = search needs
 
--- src/main.rt:80:38
 cast-print-decimal : tie.Need-cast-print-decimal Inv-loop μ-loop
 cast-print-decimal c = search needs
 
--- src/main.rt:80:5
 print-decimal-requires : tie.Need-print-decimal-requires Inv-loop μ-loop
 print-decimal-requires c κs = search needs
 
--- src/main.rt:81:34
 slice-aggregate-write-all-2 : tie.Need-slice-aggregate-write-all-2 Inv-loop μ-loop
 slice-aggregate-write-all-2 c = search needs
 
--- src/main.rt:81:5
 write-all-requires-2 : tie.Need-write-all-requires-2 Inv-loop μ-loop
 write-all-requires-2 c κs = search needs
 
--- src/main.rt:82:5
 print-decimal-requires-2 : tie.Need-print-decimal-requires-2 Inv-loop μ-loop
 print-decimal-requires-2 c κs = search needs
 
--- src/main.rt:83:34
 slice-aggregate-write-all-3 : tie.Need-slice-aggregate-write-all-3 Inv-loop μ-loop
 slice-aggregate-write-all-3 c = search needs
 
--- src/main.rt:83:5
 write-all-requires-3 : tie.Need-write-all-requires-3 Inv-loop μ-loop
 write-all-requires-3 c κs = search needs
 
--- src/main.rt:86:38
 slice-aggregate-write-all-4 : tie.Need-slice-aggregate-write-all-4 Inv-loop μ-loop
 slice-aggregate-write-all-4 c = search needs
 
--- src/main.rt:86:9
 write-all-requires-4 : tie.Need-write-all-requires-4 Inv-loop μ-loop
 write-all-requires-4 c κs = search needs
 
--- src/main.rt:89:5
 loop-holds : tie.Need-loop-holds Inv-loop μ-loop
 loop-holds c = search needs
 
--- src/main.rt:90:32
 element-copy-out-show-byte : tie.Need-element-copy-out-show-byte Inv-loop μ-loop
 element-copy-out-show-byte c = search needs
 
--- src/main.rt:90:9
 show-byte-requires : tie.Need-show-byte-requires Inv-loop μ-loop
 show-byte-requires c κs = search needs
 
--- src/main.rt:91:9
 add-i : tie.Need-add-i Inv-loop μ-loop
 add-i c = search needs
 
--- src/main.rt:89:5
 loop-less : tie.Need-loop-less Inv-loop μ-loop
 loop-less c = search needs
 
--- src/main.rt:89:5
 loop-again : tie.Need-loop-again Inv-loop μ-loop
 loop-again c = search needs
 
--- src/main.rt:93:34
 slice-aggregate-write-all-5 : tie.Need-slice-aggregate-write-all-5 Inv-loop μ-loop
 slice-aggregate-write-all-5 c = search needs
 
--- src/main.rt:93:5
 write-all-requires-5 : tie.Need-write-all-requires-5 Inv-loop μ-loop
 write-all-requires-5 c κs = search needs
 
--- src/main.rt:78:1
 returns : tie.Need-returns Inv-loop μ-loop
 returns c = search needs
 

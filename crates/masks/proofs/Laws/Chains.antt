@@ -10,7 +10,8 @@ use lib.ListN.{length, getD, length-map}
 use borrow.Author.Tests.{eqb-true, eqb-false, eq-eqb, ltb-true}
 use Rattle.masks.specs.Limits.{maxMasks, allPatterns}
 use Rattle.masks.specs.Mask.{within}
-use Rattle.masks.specs.Constraint.{all, has, apart, isWritten}
+use Rattle.masks.specs.Lists.{all, has}
+use Rattle.masks.specs.Constraint.{unlike, apart, isWritten}
 use Rattle.masks.proofs.Laws.Logic.{byBool, and-left, and-right, or-right, or-case, not-elim}
 use Rattle.masks.proofs.Laws.Lists.{has-here, all-has}
 use Rattle.masks.proofs.Laws.Constraint.{inRange-has, written-inRange, written-apart, isWritten-mono}
@@ -124,11 +125,7 @@ map-has f (x ∷ xs) b m =
     or-case (eqb b (f x)) (has (map f xs) b) m (λ e. (x, has-here x xs, eqb-true b (f x) e))
     (λ h. let r = map-has f xs b h in (r .0, or-right (eqb (r .0) x) (r .1), r .2))
 
-unlike : ℕ → ℕ → Bool
-unlike x y = not (within x y) && not (within y x)
-
 chains-distinct : (c : List ℕ) → ((a : ℕ) → has c a ≡ true → a < allPatterns) → apart c ≡ true → Distinct (map chain c)
-unfolding unlike
 chains-distinct [] s t = tt
 chains-distinct (x ∷ xs) s t = (
   (λ m. let r = map-has chain xs (chain x) m in let y = r .0 in

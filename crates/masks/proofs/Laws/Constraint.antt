@@ -12,7 +12,8 @@ use lib.Seq.{getD-take}
 use borrow.Author.Tests.{eqb-true, eq-eqb, ne-eqb, ltb-true, lt-ltb}
 use Rattle.masks.specs.Limits.{allPatterns}
 use Rattle.masks.specs.Mask.{within}
-use Rattle.masks.specs.Constraint.{any, all, anyBelow, has, admits, inRange, ascending, apart, isWritten, drops, least, written, minimise, choice, unions, joint}
+use Rattle.masks.specs.Lists.{any, all, anyBelow, has, ascending}
+use Rattle.masks.specs.Constraint.{unlike, admits, inRange, apart, isWritten, drops, least, written, minimise, choice, unions, joint}
 use Rattle.masks.proofs.Laws.Logic.{byBool, clash, false-of, same, and-intro, and-left, and-right, or-case, not-intro, not-elim}
 use Rattle.masks.proofs.Laws.Lists.{front-lt, any-append, any-suc, any-at, has-append, has-here, any-has, has-any, all-has, has-all, anyBelow-at, at-anyBelow, below-has, has-below, anyBelow-cong, below-cong, ascending-below, ascending-ext}
 use Rattle.masks.proofs.Laws.Mask.{within-and, and-within, within-refl, within-trans, within-le, within-antisym, within-or}
@@ -84,12 +85,8 @@ unfolding isWritten
 isWritten-mono n k c l w =
     and-intro (inRange-mono n k c l (written-inRange n c w)) (and-intro (written-ascending n c w) (written-apart n c w))
 
-unlike : ℕ → ℕ → Bool
-unlike x y = not (within x y) && not (within y x)
-
 -- of two masks of a list that are apart, one is contained in the other only if they are the same
 pub apart-within : (c : List ℕ) → apart c ≡ true → (a b : ℕ) → has c a ≡ true → has c b ≡ true → within a b ≡ true → a ≡ b
-unfolding unlike
 apart-within [] t a b m h w = clash m refl
 apart-within (x ∷ xs) t a b m h w =
     or-case (eqb a x) (has xs a) m
@@ -104,7 +101,6 @@ apart-within (x ∷ xs) t a b m h w =
     others y k = all-has (unlike x) xs (and-left (all (unlike x) xs) (apart xs) t) y k
 
 within-apart : (c : List ℕ) → ascending c ≡ true → ((a b : ℕ) → has c a ≡ true → has c b ≡ true → within a b ≡ true → a ≡ b) → apart c ≡ true
-unfolding unlike
 within-apart [] s f = refl
 within-apart (x ∷ xs) s f =
     and-intro

@@ -12,8 +12,9 @@ use lib.ListN.{length, getD, take}
 use lib.Seq.{take-suc, take-length}
 use borrow.Author.Tests.{le-ltb, lt-ltb, ltb-true, ltb-false}
 use Rattle.masks.specs.Limits.{maxArity, maxMasks, allPatterns}
-use Rattle.masks.specs.Constraint.{has, inRange, written, minimise, choice, unions, joint}
-use Rattle.masks.specs.Held.{packed, bitAt}
+use Rattle.masks.specs.Lists.{has}
+use Rattle.masks.specs.Constraint.{inRange, written, minimise, choice, unions, joint}
+use Rattle.masks.specs.Held.{packed, bitAt, Holds}
 use Rattle.masks.specs.Outcome.{refused, done}
 use Rattle.masks.specs.Joining.{listFault, orElse, fault, combined, unless, joining}
 use Rattle.masks.specs.declared.Way.{Way}
@@ -22,10 +23,7 @@ use Rattle.masks.proofs.Laws.Lists.{any-suc, all-suc, all-at, has-appen
 use Rattle.masks.proofs.Laws.Constraint.{inRange-mono, written-cong}
 use Rattle.masks.proofs.Laws.Held.{bitAt-zero, bitAt-or, bitAt-power}
 
--- ---- sets in words: word holds just the masks that f tells
-
-abbrev pub Holds : ℕ → (ℕ → Bool) → Type 0
-Holds word f = (k : ℕ) → bitAt word k ≡ f k
+-- ---- sets in words
 
 -- the unions of m with the first i masks of l are in
 module _ (word m : ℕ) (l : List ℕ) where

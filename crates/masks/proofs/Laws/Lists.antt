@@ -10,7 +10,7 @@ use lib.Dec.{eqb, ltb}
 use lib.ListN.{length, getD, take, set, length-take}
 use lib.Seq.{take-suc, sets, length-take-le}
 use borrow.Author.Tests.{eqb-true, eqb-false, eq-eqb, ltb-true, lt-ltb}
-use Rattle.masks.specs.Constraint.{any, all, anyBelow, below, has, ascending}
+use Rattle.masks.specs.Lists.{any, all, anyBelow, below, has, ascending}
 use Rattle.masks.proofs.Laws.Logic.{byBool, and-intro, and-left, and-right, or-left, or-right, or-case}
 
 -- ---- the front of a list, and a run of stores

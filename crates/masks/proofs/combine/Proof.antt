@@ -1,9 +1,10 @@
+-- `masks::combine` meets its contract. By the contract of the way chosen. Assumes nothing.
+use mathlib.Core.Path.{_≡_, sym, ap, _∙_}
+use borrow.Author.Needs.{needs}
 use Rattle.masks.specs.declared.Way.the-variants.{Choice, Joint}
 use Rattle.masks.specs.declared.Way.{Way}
 use Rattle.masks.specs.Joining.{combined}
 use Rattle.masks.specs.Held.{packed}
-use borrow.Author.Needs.{needs}
-use mathlib.Core.Path.{_≡_, sym, ap, _∙_}
 use Rattle.masks.proofs.combine.Statement.{statement}
 use Rattle.masks.proofs.combine.Tie as tie
 

@@ -1,9 +1,10 @@
-use Rattle.masks.proofs.Laws.Outcome.{answers-short, answers-done}
-use Rattle.masks.specs.Held.{masksOf}
-use borrow.Author.Needs.{needs}
-use native.Mathlib.Omega.{arith}
+-- `masks::give` meets its contract. Each answer is one of those that the outcome's laws give. Assumes nothing.
 use mathlib.Core.Path.{_≡_, _∙_}
+use native.Mathlib.Omega.{arith}
 use lib.ListN.{length}
+use borrow.Author.Needs.{needs}
+use Rattle.masks.specs.Held.{masksOf}
+use Rattle.masks.proofs.Laws.Outcome.{answers-short, answers-done}
 use Rattle.masks.proofs.give.Statement.{statement}
 use Rattle.masks.proofs.give.Tie as tie
 
@@ -25,17 +26,27 @@ put-masks-requires c κs =
     let n : c .before .before .count .result ≡ length (masksOf (c .before .before .before .before .args .c)) = c .before .before .count .ensures in
     omega arith
 
+done-requires : tie.Need-done-requires
+done-requires c κs = search needs
+
 same-length : tie.Need-same-length
 same-length c = search needs
 
 returns-2 : tie.Need-returns-2
 returns-2 c =
-    let s = c .before .before .before .before .before .before .before .args in
-    let n : c .before .before .before .before .before .count .result ≡ length (masksOf (s .c)) = c .before .before .before .before .before .count .ensures in
+    let s = c .before .before .before .before .before .before .before .before .args in
+    let n : c .before .before .before .before .before .before .count .result ≡ length (masksOf (s .c)) = c .before .before .before .before .before .before .count .ensures in
     let a = answers-done 0 (masksOf (s .c)) (s .out .now) (omega arith) in
-    record { replies = rw n (a .replies); leaves = c .before .before .put-masks .ensures ∙ a .leaves }
+    record { replies = c .done .ensures ∙ rw n (a .replies); leaves = c .before .before .before .put-masks .ensures ∙ a .leaves }
 
 pub give-spec : {M : Type 1} → statement M
 give-spec =
     tie.close
-    (tie.spec count-requires refused-requires returns put-masks-requires same-length returns-2)
+    (tie.spec
+    count-requires
+    refused-requires
+    returns
+    put-masks-requires
+    done-requires
+    same-length
+    returns-2)

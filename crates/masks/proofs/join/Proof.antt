@@ -1,18 +1,18 @@
-use Rattle.masks.proofs.Laws.Joining.{joining-fault, joining-done, fault-free}
-use Rattle.masks.proofs.Laws.Outcome.{answers-refused}
-use Rattle.masks.proofs.Laws.Held.{masksOf-packed}
+-- `masks::join` meets its contract. A fault makes the outcome a refusal; without one both lists are masks, and the outcome is what they combine to. Assumes nothing.
+use mathlib.Core.Path.{subst, _≡_, sym, ap, _∙_}
+use borrow.Author.Needs.{needs}
 use Rattle.masks.specs.declared.reply.Reply.{Reply}
 use Rattle.masks.specs.Outcome.{Answers, refused}
 use Rattle.masks.specs.Joining.{combined}
 use Rattle.masks.specs.Held.{masksOf}
-use mathlib.Core.Path.{subst}
-use borrow.Author.Needs.{needs}
-use mathlib.Core.Path.{_≡_, sym, ap, _∙_}
+use Rattle.masks.proofs.Laws.Joining.{joining-fault, joining-done, fault-free}
+use Rattle.masks.proofs.Laws.Outcome.{answers-refused}
+use Rattle.masks.proofs.Laws.Held.{masksOf-packed}
 use Rattle.masks.proofs.join.Statement.{statement}
 use Rattle.masks.proofs.join.Tie as tie
 
-judge-requires : tie.Need-judge-requires
-judge-requires c κs = search needs
+first-fault-requires : tie.Need-first-fault-requires
+first-fault-requires c κs = search needs
 
 refused-requires : tie.Need-refused-requires
 refused-requires c κs = search needs
@@ -20,14 +20,14 @@ refused-requires c κs = search needs
 returns : tie.Need-returns
 returns c =
     let s = c .before .before .before .before .before .before .args in
-    let j = c .before .before .judge in
+    let j = c .before .before .first-fault in
     let o = joining-fault (s .arity) (s .first .now) (s .second .now) (s .way) (j .result) (j .ensures) (c .before .if1 .taken) in
     rw o (subst (λ (r : Reply). Answers (refused (j .result) 0) (s .out .now) r (s .out .now)) (sym (c .refused .ensures)) (answers-refused (j .result) 0 (s .out .now)))
 
 combine-requires : tie.Need-combine-requires
 combine-requires c κs =
     let s = c .before .before .before .before .before .args in
-    fault-free (s .arity) (s .first .now) (s .second .now) (sym (c .before .judge .ensures) ∙ c .if1 .left)
+    fault-free (s .arity) (s .first .now) (s .second .now) (sym (c .before .first-fault .ensures) ∙ c .if1 .left)
 
 give-requires : tie.Need-give-requires
 give-requires c κs = search needs
@@ -38,7 +38,7 @@ same-length c = search needs
 returns-2 : tie.Need-returns-2
 returns-2 c =
     let s = c .before .before .before .before .before .before .before .before .before .before .args in
-    let o = joining-done (s .arity) (s .first .now) (s .second .now) (s .way) (sym (c .before .before .before .before .before .before .judge .ensures) ∙ c .before .before .before .before .before .if1 .left) in
+    let o = joining-done (s .arity) (s .first .now) (s .second .now) (s .way) (sym (c .before .before .before .before .before .before .first-fault .ensures) ∙ c .before .before .before .before .before .if1 .left) in
     let m : masksOf (c .before .before .before .before .combine .result) ≡ combined (s .way) (s .first .now) (s .second .now) = ap masksOf (c .before .before .before .before .combine .ensures) ∙ masksOf-packed (combined (s .way) (s .first .now) (s .second .now)) in
     rw (o, ← m) (c .before .before .give .ensures)
 
@@ -46,7 +46,7 @@ pub join-spec : {M : Type 1} → statement M
 join-spec =
     tie.close
     (tie.spec
-    judge-requires
+    first-fault-requires
     refused-requires
     returns
     combine-requires

@@ -1,10 +1,13 @@
-use Rattle.masks.proofs.Laws.Joining.{Holds, joint-start, joint-next, joint-packed, element-below}
-use Rattle.masks.specs.Constraint.{has, unions}
-use borrow.Author.Needs.{needs}
-use native.Mathlib.Omega.{arith}
-use Prim.Native.Nat.{_-_, _≤_}
+-- `masks::joint_of` meets its contract. The loop's invariant: the set has the unions of the first i masks of one list with those of the other. Assumes nothing.
 use mathlib.Core.Path.{_∙_}
+use Prim.Native.Nat.{_-_, _≤_}
+use native.Mathlib.Omega.{arith}
 use lib.ListN.{length, take}
+use borrow.Author.Needs.{needs}
+use Rattle.masks.specs.Held.{Holds}
+use Rattle.masks.specs.Lists.{has}
+use Rattle.masks.specs.Constraint.{unions}
+use Rattle.masks.proofs.Laws.Joining.{joint-start, joint-next, joint-packed, element-below}
 use Rattle.masks.proofs.joint_of.Statement.{statement}
 use Rattle.masks.proofs.joint_of.Tie as tie
 

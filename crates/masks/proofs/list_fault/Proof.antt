@@ -1,11 +1,12 @@
-use Rattle.masks.proofs.Laws.Joining.{fault-long, fault-mask, fault-none, range-start, range-next, range-end}
-use Rattle.masks.specs.Constraint.{inRange}
+-- `masks::list_fault` meets its contract. The loop's invariant: the first i masks are in range. Assumes nothing.
 use mathlib.Core.Bool.{true}
-use borrow.Author.Needs.{needs}
-use native.Mathlib.Omega.{arith}
-use Prim.Native.Nat.{_-_, _≤_}
 use mathlib.Core.Path.{_≡_}
+use Prim.Native.Nat.{_-_, _≤_}
+use native.Mathlib.Omega.{arith}
 use lib.ListN.{length, take}
+use borrow.Author.Needs.{needs}
+use Rattle.masks.specs.Constraint.{inRange}
+use Rattle.masks.proofs.Laws.Joining.{fault-long, fault-mask, fault-none, range-start, range-next, range-end}
 use Rattle.masks.proofs.list_fault.Statement.{statement}
 use Rattle.masks.proofs.list_fault.Tie as tie
 

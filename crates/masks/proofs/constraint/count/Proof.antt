@@ -1,8 +1,8 @@
-use lib.ListN.{length-take}
-use borrow.Author.Needs.{needs}
-use native.Mathlib.Omega.{arith}
+-- `masks::constraint::count` meets its contract. The first n of 20 masks are n or 20, whichever is less. Assumes nothing.
 use mathlib.Core.Path.{_≡_}
-use lib.ListN.{length}
+use native.Mathlib.Omega.{arith}
+use lib.ListN.{length-take, length}
+use borrow.Author.Needs.{needs}
 use Rattle.masks.proofs.constraint.count.Statement.{statement}
 use Rattle.masks.proofs.constraint.count.Tie as tie
 

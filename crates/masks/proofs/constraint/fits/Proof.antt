@@ -1,15 +1,15 @@
-use Rattle.masks.proofs.Laws.Constraint.{admits-at, admits-suc}
-use Rattle.masks.proofs.Laws.Lists.{take-front}
-use Rattle.masks.specs.Held.{masksOf}
-use Rattle.masks.specs.Constraint.{admits}
+-- `masks::constraint::fits` meets its contract. The loop's invariant: none of the first i masks is contained in the pattern. Assumes nothing.
 use mathlib.Core.List.{List}
 use mathlib.Core.Bool.{false}
-use lib.ListN.{length-take}
-use borrow.Author.Needs.{needs}
-use native.Mathlib.Omega.{arith}
-use Prim.Native.Nat.{ℕ, _-_, _≤_}
 use mathlib.Core.Path.{_≡_, refl, sym, ap, _∙_}
-use lib.ListN.{length, take}
+use Prim.Native.Nat.{ℕ, _-_, _≤_}
+use native.Mathlib.Omega.{arith}
+use lib.ListN.{length-take, length, take}
+use borrow.Author.Needs.{needs}
+use Rattle.masks.specs.Held.{masksOf}
+use Rattle.masks.specs.Constraint.{admits}
+use Rattle.masks.proofs.Laws.Constraint.{admits-at, admits-suc}
+use Rattle.masks.proofs.Laws.Lists.{take-front}
 use Rattle.masks.proofs.constraint.fits.Statement.{statement}
 use Rattle.masks.proofs.constraint.fits.Tie as tie
 

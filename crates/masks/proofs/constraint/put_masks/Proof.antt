@@ -1,12 +1,12 @@
-use Rattle.masks.proofs.Laws.Lists.{take-front, sets-suc}
-use Rattle.masks.specs.Held.{masksOf}
-use lib.Seq.{sets}
-use lib.ListN.{length-take, length-set}
-use borrow.Author.Needs.{needs}
-use native.Mathlib.Omega.{arith}
-use Prim.Native.Nat.{ℕ, _-_, _≤_}
+-- `masks::constraint::put_masks` meets its contract. The loop's invariant: the first i masks are stored. Assumes nothing.
 use mathlib.Core.Path.{_≡_, refl, ap, _∙_}
-use lib.ListN.{length, take}
+use Prim.Native.Nat.{ℕ, _-_, _≤_}
+use native.Mathlib.Omega.{arith}
+use lib.Seq.{sets}
+use lib.ListN.{length-take, length-set, length, take}
+use borrow.Author.Needs.{needs}
+use Rattle.masks.specs.Held.{masksOf}
+use Rattle.masks.proofs.Laws.Lists.{take-front, sets-suc}
 use Rattle.masks.proofs.constraint.put_masks.Statement.{statement}
 use Rattle.masks.proofs.constraint.put_masks.Tie as tie
 

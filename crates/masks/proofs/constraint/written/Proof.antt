@@ -1,13 +1,15 @@
-use mathlib.Core.Path.{subst}
+-- `masks::constraint::written` meets its contract. The outer loop's invariant: of the masks below m those that the written form keeps stand in the array, zeros after them, and what is left
+-- of the word is its bits from m on. The inner loop's: m is as it was, and none of the first k kept masks is contained in it. There is
+-- room for each that is kept, since a written form has at most twenty. Assumes nothing.
+use mathlib.Core.Path.{subst, _≡_, refl, sym, ap, _∙_}
 use mathlib.Core.Bool.{false}
+use Prim.Native.Nat.{ℕ, _-_, _≤_, _<_}
+use native.Mathlib.Omega.{arith}
+use lib.ListN.{take}
+use borrow.Author.Needs.{needs}
 use Rattle.masks.specs.Constraint.{admits}
 use Rattle.masks.proofs.Laws.Held.{Kept, kept-start, kept-room, kept-length, kept-absent, kept-dropped, kept-space, kept-new, kept-end}
 use Rattle.masks.proofs.Laws.Constraint.{admits-suc}
-use borrow.Author.Needs.{needs}
-use native.Mathlib.Omega.{arith}
-use Prim.Native.Nat.{ℕ, _-_, _≤_, _<_}
-use mathlib.Core.Path.{_≡_, refl, sym, ap, _∙_}
-use lib.ListN.{take}
 use Rattle.masks.proofs.constraint.written.Statement.{statement}
 use Rattle.masks.proofs.constraint.written.Tie as tie
 

@@ -1,8 +1,9 @@
-use Rattle.masks.proofs.Laws.Joining.{holds-list, minimise-packed}
-use borrow.Author.Needs.{needs}
+-- `masks::constraint::minimised` meets its contract. The set of the list's unions with the mask 0 holds just the masks of the list. Assumes nothing.
 use mathlib.Core.Path.{_∙_}
-use Rattle.masks.proofs.minimised.Statement.{statement}
-use Rattle.masks.proofs.minimised.Tie as tie
+use borrow.Author.Needs.{needs}
+use Rattle.masks.proofs.Laws.Joining.{holds-list, minimise-packed}
+use Rattle.masks.proofs.constraint.minimised.Statement.{statement}
+use Rattle.masks.proofs.constraint.minimised.Tie as tie
 
 with-unions-requires : tie.Need-with-unions-requires
 with-unions-requires c κs = search needs

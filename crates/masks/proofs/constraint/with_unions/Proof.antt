@@ -1,17 +1,18 @@
-use Rattle.masks.proofs.Laws.Joining.{Holds, with-start, with-next, union-below}
-use Rattle.masks.specs.Held.{bitAt}
-use Rattle.masks.specs.Constraint.{has}
-use lib.Seq.{take-length}
-use lib.Bits.{bitOr}
+-- `masks::constraint::with_unions` meets its contract. The loop's invariant: the set has the unions with the first i masks. Assumes nothing.
 use mathlib.Core.List.{List, map}
 use mathlib.Core.Bool.{_||_}
-use borrow.Author.Needs.{needs}
-use native.Mathlib.Omega.{arith}
-use Prim.Native.Nat.{ℕ, _-_, _≤_}
 use mathlib.Core.Path.{_≡_, ap, _∙_}
+use Prim.Native.Nat.{ℕ, _-_, _≤_}
+use native.Mathlib.Omega.{arith}
+use lib.Seq.{take-length}
+use lib.Bits.{bitOr}
 use lib.ListN.{length, take}
-use Rattle.masks.proofs.with_unions.Statement.{statement}
-use Rattle.masks.proofs.with_unions.Tie as tie
+use borrow.Author.Needs.{needs}
+use Rattle.masks.specs.Held.{bitAt, Holds}
+use Rattle.masks.specs.Lists.{has}
+use Rattle.masks.proofs.Laws.Joining.{with-start, with-next, union-below}
+use Rattle.masks.proofs.constraint.with_unions.Statement.{statement}
+use Rattle.masks.proofs.constraint.with_unions.Tie as tie
 
 abbrev Inv-loop : tie.InvT-loop
 Inv-loop set m masks all₀ i₀ all i = (i ≤ length masks) × Holds all (λ k. bitAt set k || has (map (bitOr m) (take i masks)) k)

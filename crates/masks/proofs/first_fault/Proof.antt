@@ -1,12 +1,12 @@
-use Rattle.masks.proofs.Laws.Joining.{fault-arity, fault-first, fault-second}
-use Rattle.masks.specs.Joining.{listFault}
-use Prim.Native.Nat.{_^_}
-use borrow.Author.Needs.{needs}
-use native.Mathlib.Omega.{arith}
-use Prim.Native.Nat.{ℕ}
+-- `masks::first_fault` meets its contract. Each return by the tests that led there. Assumes nothing.
 use mathlib.Core.Path.{_≡_, sym, ap, _∙_}
-use Rattle.masks.proofs.judge.Statement.{statement}
-use Rattle.masks.proofs.judge.Tie as tie
+use Prim.Native.Nat.{_^_, ℕ}
+use native.Mathlib.Omega.{arith}
+use borrow.Author.Needs.{needs}
+use Rattle.masks.specs.Joining.{listFault}
+use Rattle.masks.proofs.Laws.Joining.{fault-arity, fault-first, fault-second}
+use Rattle.masks.proofs.first_fault.Statement.{statement}
+use Rattle.masks.proofs.first_fault.Tie as tie
 
 returns : tie.Need-returns
 returns c = fault-arity (c .before .before .before .args .arity) (c .before .before .before .args .first .now) (c .before .before .before .args .second .now) (omega arith)
@@ -32,8 +32,8 @@ returns-3 c =
     let z : listFault (2 ^ s .arity) (s .first .now) ≡ 0 = sym (c .before .before .list-fault .ensures ∙ ap (λ (l : ℕ). listFault l (s .first .now)) (c .before .before .before .patterns .ensures)) ∙ c .before .if2 .left in
     c .list-fault2 .ensures ∙ ap (λ (l : ℕ). listFault l (s .second .now)) (c .before .before .before .patterns .ensures) ∙ fault-second (s .arity) (s .first .now) (s .second .now) (omega arith) z
 
-pub judge-spec : {M : Type 1} → statement M
-judge-spec =
+pub first-fault-spec : {M : Type 1} → statement M
+first-fault-spec =
     tie.close
     (tie.spec
     returns

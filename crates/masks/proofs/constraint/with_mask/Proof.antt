@@ -1,12 +1,12 @@
+-- `masks::constraint::with_mask` meets its contract. Two to the power of a mask is below 2 ^ 64, so the shift loses nothing. Assumes nothing.
+use mathlib.Core.Path.{_≡_, ap}
+use Prim.Native.Nat.{_%_, _^_, _*_}
+use native.Mathlib.Omega.{arith}
 use lib.Pow.{pow-lt}
 use lib.Bits.{bitOr}
-use Prim.Native.Nat.{_%_, _^_}
 use borrow.Author.Needs.{needs}
-use native.Mathlib.Omega.{arith}
-use Prim.Native.Nat.{_*_}
-use mathlib.Core.Path.{_≡_, ap}
-use Rattle.masks.proofs.with_mask.Statement.{statement}
-use Rattle.masks.proofs.with_mask.Tie as tie
+use Rattle.masks.proofs.constraint.with_mask.Statement.{statement}
+use Rattle.masks.proofs.constraint.with_mask.Tie as tie
 
 shl-result : tie.Need-shl-result
 shl-result c = search needs

@@ -1,0 +1,35 @@
+-- Tests over a list, and over the numbers below n. Every definition computes. Assumes nothing.
+use mathlib.Core.Bool.{Bool, true, false, cond, _&&_, _||_}
+use mathlib.Core.List.{List, [], _∷_, _++_}
+use Prim.Native.Nat.{ℕ, zero, suc}
+use lib.Dec.{eqb, ltb}
+
+module _ {A : Type 0} where
+  -- p holds of some element
+  abbrev pub any : (A → Bool) → List A → Bool
+  any p [] = false
+  any p (x ∷ xs) = p x || any p xs
+
+  -- p holds of every element
+  abbrev pub all : (A → Bool) → List A → Bool
+  all p [] = true
+  all p (x ∷ xs) = p x && all p xs
+
+-- p holds of some number below n
+abbrev pub anyBelow : (ℕ → Bool) → ℕ → Bool
+anyBelow p zero = false
+anyBelow p (suc n) = anyBelow p n || p n
+
+-- the numbers below n of which p holds, ascending
+abbrev pub below : (ℕ → Bool) → ℕ → List ℕ
+below p zero = []
+below p (suc n) = below p n ++ cond (p n) (n ∷ []) []
+
+-- x is an element
+abbrev pub has : List ℕ → ℕ → Bool
+has xs x = any (eqb x) xs
+
+-- each number is less than those after it
+abbrev pub ascending : List ℕ → Bool
+ascending [] = true
+ascending (x ∷ xs) = all (ltb x) xs && ascending xs
