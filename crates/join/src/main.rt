@@ -29,25 +29,23 @@ fn main() {
 
 // One line: its fields are parted by single spaces.
 fn answer(line: &[u8]) {
-    let name = until(line, 0, b' ');
-    let way = after(line, name);
-    let way_end = until(line, way, b' ');
-    let arity = after(line, way_end);
-    let arity_end = until(line, arity, b' ');
-    let first = after(line, arity_end);
-    let first_end = until(line, first, b' ');
-    let second = after(line, first_end);
-    let second_end = until(line, second, b' ');
-    let room = after(line, second_end);
-    let room_end = until(line, room, b' ');
-    io::write_all(STDOUT_FILENO, &line[..name]);
-    try_one(
-        is_joint(&line[way..way_end]),
-        decimal(&line[arity..arity_end], 0).value,
-        &line[first..first_end],
-        &line[second..second_end],
-        decimal(&line[room..room_end], 0).value,
-    );
+    io::write_all(STDOUT_FILENO, field(line, 0));
+    let joint = is_joint(field(line, 1));
+    let arity = number(field(line, 2));
+    let room = number(field(line, 5));
+    try_one(joint, arity, field(line, 3), field(line, 4), room);
+}
+
+// Field k of a line, counted from 0; past the last it is empty.
+fn field(line: &[u8], k: usize) -> &[u8] {
+    let mut at: usize = 0;
+    let mut i: usize = 0;
+    while i < k {
+        at = after(line, until(line, at, b' '));
+        i += 1;
+    }
+    let end = until(line, at, b' ');
+    &line[at..end]
 }
 
 // One call, with room for at most 64 bytes, and its reply printed.
@@ -147,14 +145,19 @@ fn start(word: &[u8]) -> usize
     0
 }
 
+// The number of a word.
+fn number(word: &[u8]) -> u8 {
+    decimal(word, 0).value
+}
+
 // A number and the place after its last digit.
-struct Number {
+struct Read {
     value: u8,
     end: usize,
 }
 
 // The decimal number from `at` on; above 255 it counts as 255.
-fn decimal(word: &[u8], at: usize) -> Number
+fn decimal(word: &[u8], at: usize) -> Read
     requires { ⌜ at ≤ length (now word) ⌝ }
     ensures { λ r. ⌜ (at ≤ r .end) × (r .end ≤ length (now (word .entry))) ⌝ }
 {
@@ -163,12 +166,12 @@ fn decimal(word: &[u8], at: usize) -> Number
     while i < word.len() {
         let b = word[i];
         if b < b'0' || b'9' < b {
-            return Number { value, end: i };
+            return Read { value, end: i };
         }
         value = with_digit(value, b - b'0');
         i += 1;
     }
-    Number { value, end: i }
+    Read { value, end: i }
 }
 
 // A number with one more digit.
