@@ -9,3 +9,4 @@ pub mod Lattice
 pub mod Held
 pub mod Outcome
 pub mod Joining
+pub mod Examples

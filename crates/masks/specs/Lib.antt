@@ -1,5 +1,5 @@
--- What a reader has to believe of this crate, in the order of document 01: the numbers, tests over lists, a mask, a constraint, the ways of combining two,
--- how the code holds them, and the outcome of an operation.
+-- What a reader has to believe of this crate: the numbers, tests over lists, a mask, a constraint and the two ways of combining it, how the
+-- code holds them, the outcome of an operation, and the outcome of the two operations here.
 pub mod Limits
 pub mod Lists
 pub mod Mask

@@ -11,10 +11,10 @@ use borrow.Author.Tests.{eqb-true, eqb-false, eq-eqb, ltb-true}
 use Rattle.masks.specs.Limits.{maxMasks, allPatterns}
 use Rattle.masks.specs.Mask.{within}
 use Rattle.masks.specs.Lists.{all, has}
-use Rattle.masks.specs.Constraint.{unlike, apart, isWritten}
+use Rattle.masks.specs.Constraint.{unlike, inRange, apart, isWritten}
 use Rattle.masks.proofs.Laws.Logic.{byBool, and-left, and-right, or-right, or-case, not-elim}
 use Rattle.masks.proofs.Laws.Lists.{has-here, all-has}
-use Rattle.masks.proofs.Laws.Constraint.{inRange-has, written-inRange, written-apart, isWritten-mono}
+use Rattle.masks.proofs.Laws.Constraint.{inRange-has, inRange-mono, written-inRange, written-apart}
 
 -- ---- a list of different numbers below n has at most n members
 
@@ -135,11 +135,14 @@ chains-distinct (x ∷ xs) s t = (
   chains-distinct xs (λ a m. s a (or-right (eqb a x) m)) (and-right (all (unlike x) xs) (apart xs) t),
 )
 
-pub at-most-twenty : (n : ℕ) (c : List ℕ) → n ≤ allPatterns → isWritten n c ≡ true → length c ≤ maxMasks
-at-most-twenty n c l v =
-    let w = isWritten-mono n allPatterns c l v in
-    let low = inRange-has allPatterns c (written-inRange allPatterns c w) in
+pub antichain : (c : List ℕ) → inRange allPatterns c ≡ true → apart c ≡ true → length c ≤ maxMasks
+antichain c s t =
+    let low = inRange-has allPatterns c s in
     let r = pigeons maxMasks (map chain c) (λ b m. let u = map-has chain c b m in let h = chain-below (u .0) (low (u .0) (u .1)) in let e = u .2 in omega arith)
-    (chains-distinct c low (written-apart allPatterns c w)) in
+    (chains-distinct c low t) in
     let e = length-map c chain in
     omega arith
+
+-- so every written form fits 20 places
+pub at-most-twenty : (n : ℕ) (c : List ℕ) → n ≤ allPatterns → isWritten n c ≡ true → length c ≤ maxMasks
+at-most-twenty n c l w = antichain c (inRange-mono n allPatterns c l (written-inRange n c w)) (written-apart n c w)

@@ -1,6 +1,6 @@
 -- What the code of joining does, turn by turn, to the definitions. Assumes nothing.
-use mathlib.Core.Path.{_≡_, refl, sym, ap, ap₂, _∙_}
-use mathlib.Core.Bool.{Bool, true, false, _||_, or-assoc, or-false}
+use mathlib.Core.Path.{_≡_, refl, sym, ap, ap₂, _∙_, subst}
+use mathlib.Core.Bool.{Bool, true, _&&_, _||_, or-assoc, or-false}
 use mathlib.Core.List.{List, [], _∷_, _++_, map, append-nil, append-assoc}
 use Prim.Native.Nat.{ℕ, zero, suc, _+_, _^_, _≤_, _<_}
 use native.Mathlib.Omega.{arith}
@@ -13,14 +13,17 @@ use lib.Seq.{take-suc, take-length}
 use borrow.Author.Tests.{le-ltb, lt-ltb, ltb-true, ltb-false}
 use Rattle.masks.specs.Limits.{maxArity, maxMasks, allPatterns}
 use Rattle.masks.specs.Lists.{has}
-use Rattle.masks.specs.Constraint.{inRange, written, minimise, choice, unions, joint}
+use Rattle.masks.specs.Constraint.{admits, isWritten, inRange, written, minimise, choice, unions, joint}
 use Rattle.masks.specs.Held.{packed, bitAt, Holds}
-use Rattle.masks.specs.Outcome.{refused, done}
+use Rattle.masks.specs.Outcome.{Outcome, refused, done, Answers}
+use Rattle.masks.specs.declared.reply.Reply.{Reply}
 use Rattle.masks.specs.Joining.{listFault, orElse, fault, combined, unless, joining}
 use Rattle.masks.specs.declared.Way.{Way}
+use Rattle.masks.specs.declared.Way.the-variants.{Choice, Joint}
 use Rattle.masks.proofs.Laws.Logic.{byBool}
 use Rattle.masks.proofs.Laws.Lists.{any-suc, all-suc, all-at, has-append, has-map}
-use Rattle.masks.proofs.Laws.Constraint.{inRange-mono, written-cong}
+use Rattle.masks.proofs.Laws.Constraint.{inRange-mono, written-cong, choice-isWritten, joint-isWritten, admits-choice, admits-joint}
+use Rattle.masks.proofs.Laws.Outcome.{answers-bytes, answers-number}
 use Rattle.masks.proofs.Laws.Held.{bitAt-zero, bitAt-or, bitAt-power}
 
 -- ---- sets in words
@@ -154,19 +157,25 @@ module _ (arity : ℕ) (x y : List ℕ) where
   unfolding fault
   fault-second h e = rw (le-ltb maxArity arity h, e)
 
-  -- with none, both lists are of masks
-  pub fault-free : fault arity x y ≡ 0 → (inRange allPatterns x ≡ true) × (inRange allPatterns y ≡ true)
+  -- with none, both lists are of masks of the arity, and so of six positions
+  fault-parts : fault arity x y ≡ 0 → (arity ≤ maxArity) × (listFault (2 ^ arity) x ≡ 0) × (listFault (2 ^ arity) y ≡ 0)
   unfolding fault
-  fault-free e = byBool (ltb maxArity arity) (λ s. let z : _≡_ {A = ℕ} 4 0 = sym (rw s) ∙ e in absurd (omega arith)) (λ s. free s (both (listFault (2 ^ arity) x) (listFault (2 ^ arity) y) (sym (rw s) ∙ e)))
+  fault-parts e =
+      byBool (ltb maxArity arity) (λ s. let z : _≡_ {A = ℕ} 4 0 = sym (rw s) ∙ e in absurd (omega arith))
+      (λ s. let b = both (listFault (2 ^ arity) x) (listFault (2 ^ arity) y) (sym (rw s) ∙ e) in (ltb-false maxArity arity s, b .0, b .1))
     where
       both : (f g : ℕ) → orElse f g ≡ 0 → (f ≡ 0) × (g ≡ 0)
       both zero g q = (refl, q)
       both (suc f) g q = absurd (omega arith)
 
-      free : ltb maxArity arity ≡ false → (listFault (2 ^ arity) x ≡ 0) × (listFault (2 ^ arity) y ≡ 0) → (inRange allPatterns x ≡ true) × (inRange allPatterns y ≡ true)
-      free s q =
-          let h = power-le arity (ltb-false maxArity arity s) in
-          (inRange-mono (2 ^ arity) allPatterns x h (no-fault (2 ^ arity) x (q .0)), inRange-mono (2 ^ arity) allPatterns y h (no-fault (2 ^ arity) y (q .1)))
+  pub fault-range : fault arity x y ≡ 0 → (inRange (2 ^ arity) x ≡ true) × (inRange (2 ^ arity) y ≡ true)
+  fault-range e = let p = fault-parts e in (no-fault (2 ^ arity) x (p .1), no-fault (2 ^ arity) y (p .2))
+
+  pub fault-free : fault arity x y ≡ 0 → (inRange allPatterns x ≡ true) × (inRange allPatterns y ≡ true)
+  fault-free e =
+      let h = power-le arity (fault-parts e .0) in
+      let p = fault-range e in
+      (inRange-mono (2 ^ arity) allPatterns x h (p .0), inRange-mono (2 ^ arity) allPatterns y h (p .1))
 
   -- so the outcome is a refusal, or the masks
   module _ (way : Way) where
@@ -181,3 +190,36 @@ module _ (arity : ℕ) (x y : List ℕ) where
     pub joining-done : fault arity x y ≡ 0 → joining way arity x y ≡ done 0 (combined way x y)
     unfolding joining
     joining-done e = rw e
+
+-- ---- what a success means: the bytes written are a written form of the arity, and a pattern fits them just where document 01 says
+
+module _ (arity : ℕ) (x y : List ℕ) {out : List ℕ} {r : Reply} {after : List ℕ} where
+  -- with reply 0 there was no fault, and what was written is what the lists combine to
+  success : (way : Way) → Answers (joining way arity x y) out r after → r .number ≡ 0
+      → (fault arity x y ≡ 0) × (take (r .value) after ≡ combined way x y)
+  success way a z = go (fault arity x y) refl
+    where
+      go : (f : ℕ) → fault arity x y ≡ f → (fault arity x y ≡ 0) × (take (r .value) after ≡ combined way x y)
+      go zero e =
+          let b : Answers (done 0 (combined way x y)) out r after = subst (λ (o : Outcome). Answers o out r after) (joining-done arity x y way e) a in
+          (e, answers-bytes b z)
+      go (suc f) e =
+          let b : Answers (refused (suc f) 0) out r after = subst (λ (o : Outcome). Answers o out r after) (joining-fault arity x y way (suc f) (sym e) (λ q. omega arith)) a in
+          let n : suc f ≡ 0 = sym (answers-number b) ∙ z in
+          absurd (omega arith)
+
+  pub choice-means : Answers (joining Choice arity x y) out r after → r .number ≡ 0
+      → (isWritten (2 ^ arity) (take (r .value) after) ≡ true) × ((a : ℕ) → admits (take (r .value) after) a ≡ (admits x a || admits y a))
+  choice-means b z =
+      let s = success Choice b z in
+      let f = fault-range arity x y (s .0) in
+      let g = fault-free arity x y (s .0) in
+      (ap (isWritten (2 ^ arity)) (s .1) ∙ choice-isWritten (2 ^ arity) x y (f .0) (f .1), λ a. ap (λ (c : List ℕ). admits c a) (s .1) ∙ admits-choice x y (g .0) (g .1) a)
+
+  pub joint-means : Answers (joining Joint arity x y) out r after → r .number ≡ 0
+      → (isWritten (2 ^ arity) (take (r .value) after) ≡ true) × ((a : ℕ) → admits (take (r .value) after) a ≡ (admits x a && admits y a))
+  joint-means b z =
+      let s = success Joint b z in
+      let f = fault-range arity x y (s .0) in
+      let g = fault-free arity x y (s .0) in
+      (ap (isWritten (2 ^ arity)) (s .1) ∙ joint-isWritten arity x y (f .0) (f .1), λ a. ap (λ (c : List ℕ). admits c a) (s .1) ∙ admits-joint x y (g .0) (g .1) a)

@@ -2,11 +2,11 @@
 -- forms that admit the same patterns are equal. Assumes nothing.
 use mathlib.Core.Path.{_≡_, refl, _∙_}
 use mathlib.Core.Bool.{true, _&&_, _||_, and-comm, or-comm, and-assoc, or-assoc, and-self, or-self, and-or-distrib-left, or-and-distrib-left}
-use mathlib.Core.List.{List, [], _∷_}
+use mathlib.Core.List.{List}
 use Prim.Native.Nat.{ℕ}
 use Rattle.masks.specs.Limits.{allPatterns}
 use Rattle.masks.specs.Mask.{within}
-use Rattle.masks.specs.Constraint.{admits, inRange, isWritten, drops, least, written, minimise, choice, joint, ill, trivial}
+use Rattle.masks.specs.Constraint.{admits, inRange, isWritten, choice, joint, ill, trivial}
 use Rattle.masks.proofs.Laws.Constraint.{canonical, written-inRange, choice-written, joint-written, admits-choice, admits-joint}
 
 -- c is in written form, whatever its arity
@@ -88,9 +88,3 @@ module _ (c : List ℕ) (wc : Written c) where
 
   pub joint-trivial-right : joint c trivial ≡ c
   joint-trivial-right = joint-comm c trivial wc trivial-written ∙ joint-trivial-left
-
--- ---- K6 of document 01 (5.2): "joint of {1}, {3,6} and {4} as masks, two at a time: 7"
-
-pub k6 : joint (joint (1 ∷ []) (3 ∷ 6 ∷ [])) (4 ∷ []) ≡ 7 ∷ []
-unfolding joint minimise written least drops within
-k6 = refl

@@ -84,9 +84,17 @@ module _ {o : Outcome} {out : List ℕ} {r : Reply} {after : List ℕ} (a : Answ
       go (nothing e) = ap {B = ℕ} length (a .leaves ∙ e)
       go (stored bytes l e n v) = ap {B = ℕ} length (a .leaves ∙ e) ∙ simp (length-append, length-drop) (omega arith)
 
--- and the bytes that a success wrote are those of the outcome
-pub answers-bytes : {rounds : ℕ} {bytes out : List ℕ} {r : Reply} {after : List ℕ} → Answers (done rounds bytes) out r after → length bytes ≤ length out
-    → take (length bytes) after ≡ bytes
-unfolding left
-answers-bytes {rounds} {bytes} {out} a h =
-    ap (take (length bytes)) (a .leaves ∙ rw (le-ltb (length out) (length bytes) h)) ∙ take-at bytes (drop (length bytes) out) (length bytes) refl
+-- the number of a refusal, and the bytes that a success wrote, are those of the outcome
+pub answers-number : {number value : ℕ} {out : List ℕ} {r : Reply} {after : List ℕ} → Answers (refused number value) out r after → r .number ≡ number
+unfolding reply
+answers-number a = ap (λ (x : Reply). x .number) (a .replies)
+
+pub answers-bytes : {rounds : ℕ} {bytes out : List ℕ} {r : Reply} {after : List ℕ} → Answers (done rounds bytes) out r after → r .number ≡ 0
+    → take (r .value) after ≡ bytes
+unfolding reply left
+answers-bytes {rounds} {bytes} {out} {r} {after} a z =
+    byBool (ltb (length out) (length bytes))
+    (λ t. let n : 9 ≡ 0 = sym (ap (λ (x : Reply). x .number) (a .replies) ∙ rw t) ∙ z in absurd (omega arith))
+    (λ t. let v : r .value ≡ length bytes = ap (λ (x : Reply). x .value) (a .replies) ∙ rw t in
+    let e : after ≡ bytes ++ drop (length bytes) out = a .leaves ∙ rw t in
+    rw (v, e) (take-at bytes (drop (length bytes) out) (length bytes) refl))
