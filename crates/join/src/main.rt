@@ -3,7 +3,8 @@
 //     NAME choice|joint ARITY MASKS MASKS ROOM
 //
 // Masks are decimal, with commas between them; `-` is no mask. For each line it prints NAME, the number and the value of the reply, and the
-// masks written, or `-`. A reply that altered a byte it had to leave would add the word `spoiled`.
+// masks written, or `-`; of a line that names neither way, NAME and `?`. It reads at most 65,536 bytes. A reply that altered a byte it had to
+// leave would add the word `spoiled`.
 ghost use mathlib.Core.Path.{_≡_};
 ghost use Prim.Native.Nat.{_+_, _≤_, min};
 ghost use lib.ListN.{length};
@@ -16,7 +17,7 @@ use masks::reply::Reply;
 const OLD: u8 = 238;
 
 fn main() {
-    let mut text = [0u8; 8192];
+    let mut text = [0u8; 65536];
     let n = io::read_full(STDIN_FILENO, &mut text);
     let lines = &text[..n];
     let mut at: usize = 0;
@@ -30,10 +31,15 @@ fn main() {
 // One line: its fields are parted by single spaces.
 fn answer(line: &[u8]) {
     io::write_all(STDOUT_FILENO, field(line, 0));
-    let joint = is_joint(field(line, 1));
-    let arity = number(field(line, 2));
-    let room = number(field(line, 5));
-    try_one(joint, arity, field(line, 3), field(line, 4), room);
+    if check::same(field(line, 1), b"joint") {
+        show(try_one(true, line));
+    } else {
+        if check::same(field(line, 1), b"choice") {
+            show(try_one(false, line));
+        } else {
+            io::write_all(STDOUT_FILENO, b" ?\n");
+        }
+    }
 }
 
 // Field k of a line, counted from 0; past the last it is empty.
@@ -48,21 +54,27 @@ fn field(line: &[u8], k: usize) -> &[u8] {
     &line[at..end]
 }
 
-// One call, with room for at most 64 bytes, and its reply printed.
-fn try_one(joint: bool, arity: u8, first: &[u8], second: &[u8], room: u8) {
+// A reply, and what the room held after it.
+struct Tried {
+    reply: Reply,
+    out: [u8; 64],
+}
+
+// One call, with room for at most 64 bytes.
+fn try_one(joint: bool, line: &[u8]) -> Tried {
+    let arity = number(field(line, 2));
     let mut xs = [0u8; 32];
-    let nx = numbers(first, &mut xs);
+    let nx = numbers(field(line, 3), &mut xs);
     let mut ys = [0u8; 32];
-    let ny = numbers(second, &mut ys);
+    let ny = numbers(field(line, 4), &mut ys);
     let mut out = [OLD; 64];
-    let k = clipped(room, &out);
+    let k = clipped(number(field(line, 5)), &out);
     if joint {
-        let r = masks::joint(arity, &xs[..nx], &ys[..ny], &mut out[..k]);
-        show(r, &out);
-    } else {
-        let r = masks::choice(arity, &xs[..nx], &ys[..ny], &mut out[..k]);
-        show(r, &out);
+        let reply = masks::joint(arity, &xs[..nx], &ys[..ny], &mut out[..k]);
+        return Tried { reply, out };
     }
+    let reply = masks::choice(arity, &xs[..nx], &ys[..ny], &mut out[..k]);
+    Tried { reply, out }
 }
 
 // The room asked for, as far as there is any.
@@ -73,14 +85,24 @@ fn clipped(room: u8, out: &[u8]) -> usize
     if k < out.len() { k } else { out.len() }
 }
 
-// The reply and the masks written, and whether the bytes after them are as they were.
-fn show(r: Reply, out: &[u8; 64]) {
+// The reply, the masks written, and whether the bytes after them are as they were.
+fn show(t: Tried) {
     io::write_all(STDOUT_FILENO, b" ");
-    io::print_decimal(STDOUT_FILENO, r.number as u64);
+    io::print_decimal(STDOUT_FILENO, t.reply.number as u64);
     io::write_all(STDOUT_FILENO, b" ");
-    io::print_decimal(STDOUT_FILENO, r.value);
+    io::print_decimal(STDOUT_FILENO, t.reply.value);
     io::write_all(STDOUT_FILENO, b" ");
-    let n = if r.number == 0 { r.value } else { 0 };
+    let out = t.out;
+    if t.reply.number == 0 {
+        show_bytes(t.reply.value, &out);
+    } else {
+        show_bytes(0, &out);
+    }
+    io::write_all(STDOUT_FILENO, b"\n");
+}
+
+// The output, of which the first n bytes were written.
+fn show_bytes(n: u64, out: &[u8; 64]) {
     if n == 0 {
         io::write_all(STDOUT_FILENO, b"-");
     }
@@ -89,7 +111,6 @@ fn show(r: Reply, out: &[u8; 64]) {
         show_byte(i as u64, n, out[i]);
         i += 1;
     }
-    io::write_all(STDOUT_FILENO, b"\n");
 }
 
 // Byte i of the output, of which the first n were written.
@@ -103,15 +124,6 @@ fn show_byte(i: u64, n: u64, b: u8) {
         if b != OLD {
             io::write_all(STDOUT_FILENO, b" spoiled");
         }
-    }
-}
-
-// The word begins like `joint`.
-fn is_joint(word: &[u8]) -> bool {
-    if 0 < word.len() {
-        word[0] == b'j'
-    } else {
-        false
     }
 }
 
