@@ -130,7 +130,8 @@ module _ (word m n : ℕ) (masks : List ℕ) (rest : ℕ) (h : m ≤ allPatterns
 
   pub kept-dropped : (i : ℕ) → i < n → bitAnd (getD masks i 0) m ≡ getD masks i 0 → Kept word (m + 1) n masks (rest / 2)
   kept-dropped i l e =
-      let a : admits (written (bitAt word) m) m ≡ true = ap (λ (c : List ℕ). admits c m) (sym kept-masks) ∙ admits-at masks n m i (let r = kept-room in let s = kept-length in let t = length-take n masks in omega arith) e in
+      let h : i < length (take n masks) = (let r = kept-room in let s = kept-length in let t = length-take n masks in omega arith) in
+      let a : admits (written (bitAt word) m) m ≡ true = ap (λ (c : List ℕ). admits c m) (sym kept-masks) ∙ admits-at masks n m i h e in
       kept-not (ap (λ (b : Bool). bitAt word m && not b) a ∙ and-false (bitAt word m))
 
   -- m is kept: it is in the set, and none that is kept is contained in it

@@ -193,33 +193,40 @@ module _ (arity : ℕ) (x y : List ℕ) where
 
 -- ---- what a success means: the bytes written are a written form of the arity, and a pattern fits them just where document 01 says
 
-module _ (arity : ℕ) (x y : List ℕ) {out : List ℕ} {r : Reply} {after : List ℕ} where
+-- "fitted by a pattern that fits either"; "by one that fits each"
+abbrev pub fitsBoth : Way → Bool → Bool → Bool
+fitsBoth Choice p q = p || q
+fitsBoth Joint p q = p && q
+
+combined-isWritten : (way : Way) (k : ℕ) (x y : List ℕ) → inRange (2 ^ k) x ≡ true → inRange (2 ^ k) y ≡ true → isWritten (2 ^ k) (combined way x y) ≡ true
+combined-isWritten Choice k x y s t = choice-isWritten (2 ^ k) x y s t
+combined-isWritten Joint k x y s t = joint-isWritten k x y s t
+
+admits-combined : (way : Way) (x y : List ℕ) → inRange allPatterns x ≡ true → inRange allPatterns y ≡ true
+    → (a : ℕ) → admits (combined way x y) a ≡ fitsBoth way (admits x a) (admits y a)
+admits-combined Choice x y s t a = admits-choice x y s t a
+admits-combined Joint x y s t a = admits-joint x y s t a
+
+module _ (way : Way) (arity : ℕ) (x y : List ℕ) {out : List ℕ} {r : Reply} {after : List ℕ} where
   -- with reply 0 there was no fault, and what was written is what the lists combine to
-  success : (way : Way) → Answers (joining way arity x y) out r after → r .number ≡ 0
-      → (fault arity x y ≡ 0) × (take (r .value) after ≡ combined way x y)
-  success way a z = go (fault arity x y) refl
+  success : Answers (joining way arity x y) out r after → r .number ≡ 0 → (fault arity x y ≡ 0) × (take (r .value) after ≡ combined way x y)
+  success a z = go (fault arity x y) refl
     where
+      here : {o : Outcome} → joining way arity x y ≡ o → Answers o out r after
+      here e = subst (λ (o : Outcome). Answers o out r after) e a
+
       go : (f : ℕ) → fault arity x y ≡ f → (fault arity x y ≡ 0) × (take (r .value) after ≡ combined way x y)
-      go zero e =
-          let b : Answers (done 0 (combined way x y)) out r after = subst (λ (o : Outcome). Answers o out r after) (joining-done arity x y way e) a in
-          (e, answers-bytes b z)
+      go zero e = (e, answers-bytes (here (joining-done arity x y way e)) z)
       go (suc f) e =
-          let b : Answers (refused (suc f) 0) out r after = subst (λ (o : Outcome). Answers o out r after) (joining-fault arity x y way (suc f) (sym e) (λ q. omega arith)) a in
-          let n : suc f ≡ 0 = sym (answers-number b) ∙ z in
+          let n : suc f ≡ 0 = sym (answers-number (here (joining-fault arity x y way (suc f) (sym e) (λ q. omega arith)))) ∙ z in
           absurd (omega arith)
 
-  pub choice-means : Answers (joining Choice arity x y) out r after → r .number ≡ 0
-      → (isWritten (2 ^ arity) (take (r .value) after) ≡ true) × ((a : ℕ) → admits (take (r .value) after) a ≡ (admits x a || admits y a))
-  choice-means b z =
-      let s = success Choice b z in
+  pub joining-means : Answers (joining way arity x y) out r after → r .number ≡ 0
+      → (isWritten (2 ^ arity) (take (r .value) after) ≡ true) × ((a : ℕ) → admits (take (r .value) after) a ≡ fitsBoth way (admits x a) (admits y a))
+  joining-means b z =
+      let s = success b z in
       let f = fault-range arity x y (s .0) in
-      let g = fault-free arity x y (s .0) in
-      (ap (isWritten (2 ^ arity)) (s .1) ∙ choice-isWritten (2 ^ arity) x y (f .0) (f .1), λ a. ap (λ (c : List ℕ). admits c a) (s .1) ∙ admits-choice x y (g .0) (g .1) a)
-
-  pub joint-means : Answers (joining Joint arity x y) out r after → r .number ≡ 0
-      → (isWritten (2 ^ arity) (take (r .value) after) ≡ true) × ((a : ℕ) → admits (take (r .value) after) a ≡ (admits x a && admits y a))
-  joint-means b z =
-      let s = success Joint b z in
-      let f = fault-range arity x y (s .0) in
-      let g = fault-free arity x y (s .0) in
-      (ap (isWritten (2 ^ arity)) (s .1) ∙ joint-isWritten arity x y (f .0) (f .1), λ a. ap (λ (c : List ℕ). admits c a) (s .1) ∙ admits-joint x y (g .0) (g .1) a)
+      let g = fault-free arity x y (s .0) in (
+        ap (isWritten (2 ^ arity)) (s .1) ∙ combined-isWritten way arity x y (f .0) (f .1),
+        λ a. ap (λ (c : List ℕ). admits c a) (s .1) ∙ admits-combined way x y (g .0) (g .1) a,
+      )

@@ -50,14 +50,16 @@ module _ (c d e : List ℕ) (wc : Written c) (wd : Written d) (we : Written e) w
   pub joint-over-choice : joint c (choice d e) ≡ choice (joint c d) (joint c e)
   joint-over-choice =
       equal (joint c (choice d e)) (choice (joint c d) (joint c e)) (joint-written c (choice d e)) (choice-written (joint c d) (joint c e))
-      (λ a. simp (at-joint c (choice d e) wc (choice-written d e), at-choice (joint c d) (joint c e) (joint-written c d) (joint-written c e), at-choice d e wd we, at-joint c d wc wd, at-joint c e wc we)
-      (and-or-distrib-left (admits c a) (admits d a) (admits e a)))
+      (λ a. simp (at-joint c (choice d e) wc (choice-written d e), at-choice (joint c d) (joint c e) (joint-written c d) (joint-written c e))
+      (simp (at-choice d e wd we, at-joint c d wc wd, at-joint c e wc we)
+      (and-or-distrib-left (admits c a) (admits d a) (admits e a))))
 
   pub choice-over-joint : choice c (joint d e) ≡ joint (choice c d) (choice c e)
   choice-over-joint =
       equal (choice c (joint d e)) (joint (choice c d) (choice c e)) (choice-written c (joint d e)) (joint-written (choice c d) (choice c e))
-      (λ a. simp (at-choice c (joint d e) wc (joint-written d e), at-joint (choice c d) (choice c e) (choice-written c d) (choice-written c e), at-joint d e wd we, at-choice c d wc wd, at-choice c e wc we)
-      (or-and-distrib-left (admits c a) (admits d a) (admits e a)))
+      (λ a. simp (at-choice c (joint d e) wc (joint-written d e), at-joint (choice c d) (choice c e) (choice-written c d) (choice-written c e))
+      (simp (at-joint d e wd we, at-choice c d wc wd, at-choice c e wc we)
+      (or-and-distrib-left (admits c a) (admits d a) (admits e a))))
 
 module _ (c : List ℕ) (wc : Written c) where
   pub choice-idem : choice c c ≡ c

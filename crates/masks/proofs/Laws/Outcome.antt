@@ -14,24 +14,28 @@ use Rattle.masks.proofs.Laws.Logic.{byBool}
 
 -- ---- how an operation comes to answer: by a refusal, for want of room, or with the bytes stored
 
-pub answers-refused : (number value : ℕ) (out : List ℕ) → Answers (refused number value) out (record { number = number; value = value; rounds = 0 }) out
+pub answers-refused : (number value : ℕ) (out : List ℕ) {r : Reply} → r ≡ record { number = number; value = value; rounds = 0 }
+    → Answers (refused number value) out r out
 unfolding reply left
-answers-refused number value out = record { replies = refl; leaves = refl }
+answers-refused number value out e = record { replies = e; leaves = refl }
 
-pub answers-short : (rounds : ℕ) (bytes out : List ℕ) → length out < length bytes
-    → Answers (done rounds bytes) out (record { number = 9; value = length bytes; rounds = 0 }) out
-unfolding reply left
-answers-short rounds bytes out h =
-    let t = lt-ltb (length out) (length bytes) h in
-    record { replies = rw t; leaves = rw t }
+module _ (rounds : ℕ) (bytes out : List ℕ) (n : ℕ) (size : n ≡ length bytes) {r : Reply} where
+  pub answers-short : length out < n → r ≡ record { number = 9; value = n; rounds = 0 } → Answers (done rounds bytes) out r out
+  unfolding reply left
+  answers-short h e =
+      let t = lt-ltb (length out) (length bytes) (omega arith) in
+      record { replies = e ∙ rw (t, size); leaves = rw t }
 
-pub answers-done : (rounds : ℕ) (bytes out : List ℕ) → length bytes ≤ length out
-    → Answers (done rounds bytes) out (record { number = 0; value = length bytes; rounds = rounds }) (sets out 0 bytes)
-unfolding reply left
-answers-done rounds bytes out h =
-    let t = le-ltb (length out) (length bytes) h in
-    let e : 0 + length bytes ≡ length bytes = omega arith in
-    record { replies = rw t; leaves = rw t (sets-eq bytes out 0 (omega arith) ∙ ap (λ (n : ℕ). bytes ++ drop n out) e) }
+  pub answers-done : {after : List ℕ} → n ≤ length out → r ≡ record { number = 0; value = n; rounds = rounds } → after ≡ sets out 0 bytes
+      → Answers (done rounds bytes) out r after
+  unfolding reply left
+  answers-done h e f =
+      let t = le-ltb (length out) (length bytes) (omega arith) in
+      let z : 0 + length bytes ≡ length bytes = omega arith in
+      record {
+        replies = e ∙ rw (t, size);
+        leaves = rw t (f ∙ sets-eq bytes out 0 (omega arith) ∙ ap (λ (k : ℕ). bytes ++ drop k out) z);
+      }
 
 -- ---- what holds of every answer
 

@@ -9,7 +9,9 @@ use Rattle.masks.proofs.first_fault.Statement.{statement}
 use Rattle.masks.proofs.first_fault.Tie as tie
 
 returns : tie.Need-returns
-returns c = fault-arity (c .before .before .before .args .arity) (c .before .before .before .args .first .now) (c .before .before .before .args .second .now) (omega arith)
+returns c =
+    let s = c .before .before .before .args in
+    fault-arity (s .arity) (s .first .now) (s .second .now) (omega arith)
 
 patterns-requires : tie.Need-patterns-requires
 patterns-requires c κs = search needs
@@ -28,9 +30,12 @@ list-fault-requires-2 c κs = search needs
 
 returns-3 : tie.Need-returns-3
 returns-3 c =
+    let list-fault = c .before .before .list-fault in
+    let patterns = c .before .before .before .patterns in
+    let if2 = c .before .if2 in
     let s = c .before .before .before .before .before .before .before .args in
-    let z : listFault (2 ^ s .arity) (s .first .now) ≡ 0 = sym (c .before .before .list-fault .ensures ∙ ap (λ (l : ℕ). listFault l (s .first .now)) (c .before .before .before .patterns .ensures)) ∙ c .before .if2 .left in
-    c .list-fault2 .ensures ∙ ap (λ (l : ℕ). listFault l (s .second .now)) (c .before .before .before .patterns .ensures) ∙ fault-second (s .arity) (s .first .now) (s .second .now) (omega arith) z
+    let z : listFault (2 ^ s .arity) (s .first .now) ≡ 0 = sym (list-fault .ensures ∙ ap (λ (l : ℕ). listFault l (s .first .now)) (patterns .ensures)) ∙ if2 .left in
+    c .list-fault2 .ensures ∙ ap (λ (l : ℕ). listFault l (s .second .now)) (patterns .ensures) ∙ fault-second (s .arity) (s .first .now) (s .second .now) (omega arith) z
 
 pub first-fault-spec : {M : Type 1} → statement M
 first-fault-spec =

@@ -1,5 +1,5 @@
 -- `masks::give` meets its contract. Each answer is one of those that the outcome's laws give. Assumes nothing.
-use mathlib.Core.Path.{_≡_, _∙_}
+use mathlib.Core.Path.{_≡_}
 use native.Mathlib.Omega.{arith}
 use lib.ListN.{length}
 use borrow.Author.Needs.{needs}
@@ -17,9 +17,8 @@ refused-requires c κs = search needs
 returns : tie.Need-returns
 returns c =
     let s = c .before .before .before .before .args in
-    let n : c .before .before .count .result ≡ length (masksOf (s .c)) = c .before .before .count .ensures in
-    let a = answers-short 0 (masksOf (s .c)) (s .out .now) (omega arith) in
-    record { replies = c .refused .ensures ∙ rw n (a .replies); leaves = a .leaves }
+    let n = c .before .before .count in
+    answers-short 0 (masksOf (s .c)) (s .out .now) (n .result) (n .ensures) (omega arith) (c .refused .ensures)
 
 put-masks-requires : tie.Need-put-masks-requires
 put-masks-requires c κs =
@@ -35,9 +34,8 @@ same-length c = search needs
 returns-2 : tie.Need-returns-2
 returns-2 c =
     let s = c .before .before .before .before .before .before .before .before .args in
-    let n : c .before .before .before .before .before .before .count .result ≡ length (masksOf (s .c)) = c .before .before .before .before .before .before .count .ensures in
-    let a = answers-done 0 (masksOf (s .c)) (s .out .now) (omega arith) in
-    record { replies = c .done .ensures ∙ rw n (a .replies); leaves = c .before .before .before .put-masks .ensures ∙ a .leaves }
+    let n = c .before .before .before .before .before .before .count in
+    answers-done 0 (masksOf (s .c)) (s .out .now) (n .result) (n .ensures) (omega arith) (c .done .ensures) (c .before .before .before .put-masks .ensures)
 
 pub give-spec : {M : Type 1} → statement M
 give-spec =

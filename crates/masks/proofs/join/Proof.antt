@@ -1,8 +1,7 @@
--- `masks::join` meets its contract. A fault makes the outcome a refusal; without one both lists are masks, and the outcome is what they combine to. Assumes nothing.
-use mathlib.Core.Path.{subst, _≡_, sym, ap, _∙_}
+-- `masks::join` meets its contract. A fault makes the outcome a refusal; without one both lists are of masks, and the outcome is what they
+-- combine to. Assumes nothing.
+use mathlib.Core.Path.{_≡_, sym, ap, _∙_}
 use borrow.Author.Needs.{needs}
-use Rattle.masks.specs.declared.reply.Reply.{Reply}
-use Rattle.masks.specs.Outcome.{Answers, refused}
 use Rattle.masks.specs.Joining.{combined}
 use Rattle.masks.specs.Held.{masksOf}
 use Rattle.masks.proofs.Laws.Joining.{joining-fault, joining-done, fault-free}
@@ -21,8 +20,8 @@ returns : tie.Need-returns
 returns c =
     let s = c .before .before .before .before .before .before .args in
     let j = c .before .before .first-fault in
-    let o = joining-fault (s .arity) (s .first .now) (s .second .now) (s .way) (j .result) (j .ensures) (c .before .if1 .taken) in
-    rw o (subst (λ (r : Reply). Answers (refused (j .result) 0) (s .out .now) r (s .out .now)) (sym (c .refused .ensures)) (answers-refused (j .result) 0 (s .out .now)))
+    rw (joining-fault (s .arity) (s .first .now) (s .second .now) (s .way) (j .result) (j .ensures) (c .before .if1 .taken))
+    (answers-refused (j .result) 0 (s .out .now) (c .refused .ensures))
 
 combine-requires : tie.Need-combine-requires
 combine-requires c κs =
@@ -37,10 +36,15 @@ same-length c = search needs
 
 returns-2 : tie.Need-returns-2
 returns-2 c =
+    let first-fault = c .before .before .before .before .before .before .first-fault in
+    let if1 = c .before .before .before .before .before .if1 in
+    let combine = c .before .before .before .before .combine in
+    let give = c .before .before .give in
     let s = c .before .before .before .before .before .before .before .before .before .before .args in
-    let o = joining-done (s .arity) (s .first .now) (s .second .now) (s .way) (sym (c .before .before .before .before .before .before .first-fault .ensures) ∙ c .before .before .before .before .before .if1 .left) in
-    let m : masksOf (c .before .before .before .before .combine .result) ≡ combined (s .way) (s .first .now) (s .second .now) = ap masksOf (c .before .before .before .before .combine .ensures) ∙ masksOf-packed (combined (s .way) (s .first .now) (s .second .now)) in
-    rw (o, ← m) (c .before .before .give .ensures)
+    let o = joining-done (s .arity) (s .first .now) (s .second .now) (s .way) (sym (first-fault .ensures) ∙ if1 .left) in
+    let t = combined (s .way) (s .first .now) (s .second .now) in
+    let m : masksOf (combine .result) ≡ t = ap masksOf (combine .ensures) ∙ masksOf-packed t in
+    rw (o, ← m) (give .ensures)
 
 pub join-spec : {M : Type 1} → statement M
 join-spec =

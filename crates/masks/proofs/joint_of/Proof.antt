@@ -25,8 +25,10 @@ shared-slice-read-with-unions c = search needs
 
 with-unions-requires : tie.Need-with-unions-requires Inv-loop μ-loop
 with-unions-requires c κs =
+    let l = c .before .before .loop in
+    let p = c .before .before .before .before .before .pre in
     let s = c .before .before .before .before .before .args in
-    (element-below 64 (s .first .now) (c .before .before .loop .i) (c .before .before .before .before .before .pre .0) (omega arith), c .before .before .before .before .before .pre .1)
+    (element-below 64 (s .first .now) (l .i) (p .0) (omega arith), p .1)
 
 add-i : tie.Need-add-i Inv-loop μ-loop
 add-i c = search needs

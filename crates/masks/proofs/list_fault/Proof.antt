@@ -26,7 +26,9 @@ shared-slice-read-if2 : tie.Need-shared-slice-read-if2 Inv-loop μ-loop
 shared-slice-read-if2 c = search needs
 
 returns-2 : tie.Need-returns-2 Inv-loop μ-loop
-returns-2 c = fault-mask (c .before .before .before .before .before .args .limit) (c .before .before .before .before .before .args .masks .now) (omega arith) (c .before .before .before .loop .i) (omega arith) (c .if2 .taken)
+returns-2 c =
+    let s = c .before .before .before .before .before .args in
+    fault-mask (s .limit) (s .masks .now) (omega arith) (c .before .before .before .loop .i) (omega arith) (c .if2 .taken)
 
 add-i : tie.Need-add-i Inv-loop μ-loop
 add-i c = search needs
@@ -35,12 +37,16 @@ loop-less : tie.Need-loop-less Inv-loop μ-loop
 loop-less c = search needs
 
 loop-again : tie.Need-loop-again Inv-loop μ-loop
-loop-again c = (omega arith, range-next (c .before .before .before .before .before .args .limit) (c .before .before .before .before .before .args .masks .now) (c .before .before .before .loop .i) (omega arith) (omega arith) (c .before .before .before .loop .inv .1))
+loop-again c =
+    let s = c .before .before .before .before .before .args in
+    let l = c .before .before .before .loop in
+    (omega arith, range-next (s .limit) (s .masks .now) (l .i) (omega arith) (omega arith) (l .inv .1))
 
 returns-3 : tie.Need-returns-3 Inv-loop μ-loop
 returns-3 c =
+    let l = c .before .loop in
     let s = c .before .before .before .args in
-    fault-none (s .limit) (s .masks .now) (omega arith) (range-end (s .limit) (s .masks .now) (c .before .loop .i) (omega arith) (c .before .loop .inv .1))
+    fault-none (s .limit) (s .masks .now) (omega arith) (range-end (s .limit) (s .masks .now) (l .i) (omega arith) (l .inv .1))
 
 pub list-fault-spec : {M : Type 1} → statement M
 list-fault-spec =

@@ -46,15 +46,19 @@ loop-less c = search needs
 
 loop-again : tie.Need-loop-again Inv-loop μ-loop
 loop-again c =
+    let count = c .before .before .before .before .count in
+    let l = c .before .before .before .loop in
     let s = c .before .before .before .before .before .args in
-    let n = c .before .before .before .before .count .ensures in
-    (omega arith, admits-suc (s .t1 .masks) (s .pattern) (c .before .before .before .loop .i) (omega (arith, length-take (s .t1 .n) (s .t1 .masks))) (c .before .before .before .loop .inv .1) (c .if1 .left))
+    let n = count .ensures in
+    (omega arith, admits-suc (s .t1 .masks) (s .pattern) (l .i) (omega (arith, length-take (s .t1 .n) (s .t1 .masks))) (l .inv .1) (c .if1 .left))
 
 returns-2 : tie.Need-returns-2 Inv-loop μ-loop
 returns-2 c =
+    let l = c .before .loop in
+    let count = c .before .before .count in
     let s = c .before .before .before .args in
-    let e : c .before .loop .i ≡ length (masksOf (s .t1)) = (let n = c .before .before .count .ensures in omega arith) in
-    sym (ap (λ (l : List ℕ). admits l (s .pattern)) (sym (ap (λ (k : ℕ). take k (s .t1 .masks)) e ∙ take-front (s .t1 .n) (s .t1 .masks))) ∙ c .before .loop .inv .1)
+    let e : l .i ≡ length (masksOf (s .t1)) = (let n = count .ensures in omega arith) in
+    sym (ap (λ (l : List ℕ). admits l (s .pattern)) (sym (ap (λ (k : ℕ). take k (s .t1 .masks)) e ∙ take-front (s .t1 .n) (s .t1 .masks))) ∙ l .inv .1)
 
 pub fits-spec : {M : Type 1} → statement M
 fits-spec =

@@ -50,9 +50,10 @@ loop-less c = search needs
 
 loop-again : tie.Need-loop-again Inv-loop μ-loop
 loop-again c =
+    let count = c .before .before .before .count in
     let s = c .before .before .before .before .before .args in
     let l = c .before .before .loop in
-    let n = c .before .before .before .count .ensures in
+    let n = count .ensures in
     (omega arith, simp length-set (l .inv .1), rw (l .inv .2) (sets-suc 0 (s .out .now) (s .at) (s .t3 .masks) (l .i) (omega (arith, length-take (s .t3 .n) (s .t3 .masks)))))
 
 same-length : tie.Need-same-length Inv-loop μ-loop

@@ -28,8 +28,9 @@ shared-slice-read-with-mask c = search needs
 
 with-mask-requires : tie.Need-with-mask-requires Inv-loop μ-loop
 with-mask-requires c κs =
+    let l = c .before .before .loop in
     let s = c .before .before .before .before .args in
-    union-below (s .m) (s .masks .now) (c .before .before .loop .i) (c .before .before .before .before .pre .0) (c .before .before .before .before .pre .1) (omega arith)
+    union-below (s .m) (s .masks .now) (l .i) (c .before .before .before .before .pre .0) (c .before .before .before .before .pre .1) (omega arith)
 
 add-i : tie.Need-add-i Inv-loop μ-loop
 add-i c = search needs
@@ -39,14 +40,16 @@ loop-less c = search needs
 
 loop-again : tie.Need-loop-again Inv-loop μ-loop
 loop-again c =
+    let l = c .before .before .before .loop in
     let s = c .before .before .before .before .before .args in
-    (omega arith, λ k. ap (λ (w : ℕ). bitAt w k) (c .with-mask .ensures) ∙ with-next (s .set) (s .m) (s .masks .now) (c .before .before .before .loop .all) (c .before .before .before .loop .i) (omega arith) (c .before .before .before .loop .inv .1) k)
+    (omega arith, λ k. ap (λ (w : ℕ). bitAt w k) (c .with-mask .ensures) ∙ with-next (s .set) (s .m) (s .masks .now) (l .all) (l .i) (omega arith) (l .inv .1) k)
 
 returns : tie.Need-returns Inv-loop μ-loop
 returns c =
+    let l = c .before .loop in
     let s = c .before .before .before .args in
-    let e : c .before .loop .i ≡ length (s .masks .now) = omega arith in
-    λ k. c .before .loop .inv .1 k ∙ ap (λ (l : List ℕ). bitAt (s .set) k || has (map (bitOr (s .m)) l) k) (ap (λ (j : ℕ). take j (s .masks .now)) e ∙ take-length (s .masks .now))
+    let e : l .i ≡ length (s .masks .now) = omega arith in
+    λ k. l .inv .1 k ∙ ap (λ (l : List ℕ). bitAt (s .set) k || has (map (bitOr (s .m)) l) k) (ap (λ (j : ℕ). take j (s .masks .now)) e ∙ take-length (s .masks .now))
 
 pub with-unions-spec : {M : Type 1} → statement M
 with-unions-spec =

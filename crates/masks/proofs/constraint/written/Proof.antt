@@ -1,6 +1,6 @@
--- `masks::constraint::written` meets its contract. The outer loop's invariant: of the masks below m those that the written form keeps stand in the array, zeros after them, and what is left
--- of the word is its bits from m on. The inner loop's: m is as it was, and none of the first k kept masks is contained in it. There is
--- room for each that is kept, since a written form has at most twenty. Assumes nothing.
+-- `masks::constraint::written` meets its contract. The outer loop's invariant: of the masks below m those that the written form keeps stand in
+-- the array, zeros after them, and what is left of the word is its bits from m on. The inner loop's: m is as it was, and none of the first k
+-- kept masks is contained in it. There is room for each that is kept, since a written form has at most twenty. Assumes nothing.
 use mathlib.Core.Path.{subst, _≡_, refl, sym, ap, _∙_}
 use mathlib.Core.Bool.{false}
 use Prim.Native.Nat.{ℕ, _-_, _≤_, _<_}
@@ -56,11 +56,12 @@ outer-less-2 c = search needs
 
 outer-again-2 : tie.Need-outer-again-2 Inv-inner μ-inner Inv-outer μ-outer
 outer-again-2 c =
+    let s = c .before .before .before .before .before .before .args in
     let o = c .before .before .before .before .before .outer in
     let i = c .before .before .inner in
     let h : i .m ≤ 64 = omega arith in
-    let k = subst (λ (x : ℕ). Kept (c .before .before .before .before .before .before .args .set) x (o .n) (o .masks) (o .rest)) (sym (i .inv .0)) (o .inv .1) in
-    (omega arith, kept-dropped (c .before .before .before .before .before .before .args .set) (i .m) (o .n) (o .masks) (o .rest) h k (i .k) (omega arith) (c .if2 .taken))
+    let k = subst (λ (x : ℕ). Kept (s .set) x (o .n) (o .masks) (o .rest)) (sym (i .inv .0)) (o .inv .1) in
+    (omega arith, kept-dropped (s .set) (i .m) (o .n) (o .masks) (o .rest) h k (i .k) (omega arith) (c .if2 .taken))
 
 add-k : tie.Need-add-k Inv-inner μ-inner Inv-outer μ-outer
 add-k c =
@@ -85,8 +86,9 @@ kept : (c : tie.After-inner Inv-inner μ-inner Inv-outer μ-outer)
     → let o = c .before .before .before .before .outer in
     Kept (c .before .before .before .before .before .args .set) (c .before .inner .m) (o .n) (o .masks) (o .rest)
 kept c =
+    let s = c .before .before .before .before .before .args in
     let o = c .before .before .before .before .outer in
-    subst (λ (x : ℕ). Kept (c .before .before .before .before .before .args .set) x (o .n) (o .masks) (o .rest)) (sym (c .before .inner .inv .0)) (o .inv .1)
+    subst (λ (x : ℕ). Kept (s .set) x (o .n) (o .masks) (o .rest)) (sym (c .before .inner .inv .0)) (o .inv .1)
 
 none : (c : tie.After-inner Inv-inner μ-inner Inv-outer μ-outer)
     → admits (take (c .before .before .before .before .outer .n) (c .before .before .before .before .outer .masks)) (c .before .inner .m) ≡ false
@@ -116,9 +118,10 @@ outer-less-3 c = search needs
 
 outer-again-3 : tie.Need-outer-again-3 Inv-inner μ-inner Inv-outer μ-outer
 outer-again-3 c =
+    let s = c .before .before .before .before .before .args in
     let o = c .before .before .before .before .outer in
     let i = c .before .inner in
-    (omega arith, kept-new (c .before .before .before .before .before .args .set) (i .m) (o .n) (o .masks) (o .rest) (omega arith) (kept c) (c .before .before .if1 .left) (none c) (omega arith))
+    (omega arith, kept-new (s .set) (i .m) (o .n) (o .masks) (o .rest) (omega arith) (kept c) (c .before .before .if1 .left) (none c) (omega arith))
 
 cast-count : tie.Need-cast-count Inv-inner μ-inner Inv-outer μ-outer
 cast-count c =
@@ -128,8 +131,9 @@ cast-count c =
 
 returns : tie.Need-returns Inv-inner μ-inner Inv-outer μ-outer
 returns c =
+    let s = c .before .before .args in
     let o = c .before .outer in
-    kept-end (c .before .before .args .set) (o .m) (o .n) (o .masks) (o .rest) (omega arith) (o .inv .1) (c .before .before .args .limit) (omega arith)
+    kept-end (s .set) (o .m) (o .n) (o .masks) (o .rest) (omega arith) (o .inv .1) (s .limit) (omega arith)
 
 pub written-spec : {M : Type 1} → statement M
 written-spec =
