@@ -7,6 +7,8 @@ pub mod Constraint
 pub mod Chains
 pub mod Lattice
 pub mod Held
+pub mod Set
+pub mod Kept
 pub mod Outcome
 pub mod Joining
 pub mod Examples

@@ -5,5 +5,6 @@ pub mod Lists
 pub mod Mask
 pub mod Constraint
 pub mod Held
+pub mod Set
 pub mod Outcome
 pub mod Joining

@@ -13,7 +13,8 @@ ghost use lib.Seq.{sets};
 ghost use Rattle.masks.specs.Limits.{maxArity, allPatterns};
 ghost use Rattle.masks.specs.Lists.{has};
 ghost use Rattle.masks.specs.Constraint.{admits, inRange, written, minimise};
-ghost use Rattle.masks.specs.Held.{masksOf, packed, bitAt, Holds};
+ghost use Rattle.masks.specs.Held.{masksOf, packed};
+ghost use Rattle.masks.specs.Set.{bitAt, Holds};
 
 // A constraint's masks are the first n of the array.
 pub struct Constraint {

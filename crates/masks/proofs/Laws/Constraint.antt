@@ -15,7 +15,7 @@ use Rattle.masks.specs.Mask.{within}
 use Rattle.masks.specs.Lists.{any, all, anyBelow, has, ascending}
 use Rattle.masks.specs.Constraint.{unlike, admits, inRange, apart, isWritten, drops, least, written, minimise, choice, unions, joint}
 use Rattle.masks.proofs.Laws.Logic.{byBool, clash, false-of, same, and-intro, and-left, and-right, or-case, not-intro, not-elim}
-use Rattle.masks.proofs.Laws.Lists.{front-lt, any-append, any-suc, any-at, has-append, has-here, any-has, has-any, all-has, has-all, anyBelow-at, at-anyBelow, below-has, has-below, anyBelow-cong, below-cong, ascending-below, ascending-ext}
+use Rattle.masks.proofs.Laws.Lists.{front-lt, any-append, any-suc, any-at, all-at, has-append, has-here, any-has, has-any, all-has, has-all, anyBelow-at, at-anyBelow, below-has, has-below, anyBelow-cong, below-cong, ascending-below, ascending-ext}
 use Rattle.masks.proofs.Laws.Mask.{within-and, and-within, within-refl, within-trans, within-le, within-antisym, within-or}
 
 -- ---- masks in range
@@ -27,6 +27,10 @@ inRange-has n c t a h = ltb-true a n (all-has (λ m. ltb m n) c t a h)
 pub has-inRange : (n : ℕ) (c : List ℕ) → ((a : ℕ) → has c a ≡ true → a < n) → inRange n c ≡ true
 unfolding inRange
 has-inRange n c f = has-all (λ m. ltb m n) c (λ a h. lt-ltb a n (f a h))
+
+pub inRange-at : (n : ℕ) (c : List ℕ) (i : ℕ) → inRange n c ≡ true → i < length c → getD c i 0 < n
+unfolding inRange
+inRange-at n c i t h = ltb-true (getD c i 0) n (all-at (λ m. ltb m n) 0 c i h t)
 
 pub inRange-mono : (n k : ℕ) (c : List ℕ) → n ≤ k → inRange n c ≡ true → inRange k c ≡ true
 inRange-mono n k c l t = has-inRange k c (λ a h. let b = inRange-has n c t a h in omega arith)

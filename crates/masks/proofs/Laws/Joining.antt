@@ -1,80 +1,31 @@
 -- What the code of joining does, turn by turn, to the definitions. Assumes nothing.
-use mathlib.Core.Path.{_≡_, refl, sym, ap, ap₂, _∙_, subst}
-use mathlib.Core.Bool.{Bool, true, _&&_, _||_, or-assoc, or-false}
+use mathlib.Core.Path.{_≡_, refl, sym, ap, _∙_, subst}
+use mathlib.Core.Bool.{Bool, true, _&&_, _||_}
 use mathlib.Core.List.{List, [], _∷_, _++_, map, append-nil, append-assoc}
 use Prim.Native.Nat.{ℕ, zero, suc, _+_, _^_, _≤_, _<_}
 use native.Mathlib.Omega.{arith}
 use native.Mathlib.Numerals.{add-one}
 use native.Mathlib.Nat.{pow-le-pow-right}
-use lib.Bits.{bitOr, or-lt}
-use lib.Dec.{eqb, ltb}
+use lib.Bits.{bitOr}
+use lib.Dec.{ltb}
 use lib.ListN.{length, getD, take}
 use lib.Seq.{take-suc, take-length}
-use borrow.Author.Tests.{le-ltb, lt-ltb, ltb-true, ltb-false}
+use borrow.Author.Tests.{le-ltb, lt-ltb, ltb-false}
 use Rattle.masks.specs.Limits.{maxArity, maxMasks, allPatterns}
 use Rattle.masks.specs.Lists.{has}
-use Rattle.masks.specs.Constraint.{admits, isWritten, inRange, written, minimise, choice, unions, joint}
-use Rattle.masks.specs.Held.{packed, bitAt, Holds}
+use Rattle.masks.specs.Constraint.{admits, isWritten, inRange, written, unions, joint}
+use Rattle.masks.specs.Held.{packed}
+use Rattle.masks.specs.Set.{bitAt, Holds}
 use Rattle.masks.specs.Outcome.{Outcome, refused, done, Answers}
 use Rattle.masks.specs.declared.reply.Reply.{Reply}
 use Rattle.masks.specs.Joining.{listFault, orElse, fault, combined, unless, joining}
 use Rattle.masks.specs.declared.Way.{Way}
 use Rattle.masks.specs.declared.Way.the-variants.{Choice, Joint}
 use Rattle.masks.proofs.Laws.Logic.{byBool}
-use Rattle.masks.proofs.Laws.Lists.{any-suc, all-suc, all-at, has-append, has-map}
-use Rattle.masks.proofs.Laws.Constraint.{inRange-mono, written-cong, choice-isWritten, joint-isWritten, admits-choice, admits-joint}
+use Rattle.masks.proofs.Laws.Lists.{all-suc, has-append}
+use Rattle.masks.proofs.Laws.Constraint.{inRange-at, inRange-mono, choice-isWritten, joint-isWritten, admits-choice, admits-joint}
 use Rattle.masks.proofs.Laws.Outcome.{answers-bytes, answers-number}
-use Rattle.masks.proofs.Laws.Held.{bitAt-zero, bitAt-or, bitAt-power}
-
--- ---- sets in words
-
--- the unions of m with the first i masks of l are in
-module _ (word m : ℕ) (l : List ℕ) where
-  pub with-start : Holds word (λ k. bitAt word k || has (map (bitOr m) (take 0 l)) k)
-  with-start k = sym (or-false (bitAt word k))
-
-  pub with-next : (now i : ℕ) → i < length l → Holds now (λ k. bitAt word k || has (map (bitOr m) (take i l)) k)
-      → Holds (bitOr now (2 ^ bitOr m (getD l i 0))) (λ k. bitAt word k || has (map (bitOr m) (take (i + 1) l)) k)
-  with-next now i h f k =
-      let u = bitOr m (getD l i 0) in
-      bitAt-or now (2 ^ u) k
-      ∙ ap₂ (λ (a b : Bool). a || b) (f k) (bitAt-power u k)
-      ∙ or-assoc (bitAt word k) (has (map (bitOr m) (take i l)) k) (eqb k u)
-      ∙ ap (λ (b : Bool). bitAt word k || b)
-      (ap (λ (b : Bool). b || eqb k u) (has-map (bitOr m) (take i l) k)
-      ∙ sym (any-suc (λ x. eqb k (bitOr m x)) 0 l i h) ∙ sym (has-map (bitOr m) (take (i + 1) l) k))
-
--- a mask of a list in range, and its union with another
-pub element-below : (n : ℕ) (l : List ℕ) (i : ℕ) → inRange n l ≡ true → i < length l → getD l i 0 < n
-unfolding inRange
-element-below n l i s h = ltb-true (getD l i 0) n (all-at (λ m. ltb m n) 0 l i h s)
-
-pub union-below : (m : ℕ) (l : List ℕ) (i : ℕ) → m < allPatterns → inRange allPatterns l ≡ true → i < length l → bitOr m (getD l i 0) < allPatterns
-union-below m l i h s k = or-lt 6 m (getD l i 0) h (element-below allPatterns l i s k)
-
--- ---- the written form of what a word holds
-
-map-zero : (l : List ℕ) → map (bitOr 0) l ≡ l
-map-zero [] = refl
-map-zero (x ∷ xs) = ap {B = List ℕ} (λ (t : List ℕ). x ∷ t) (map-zero xs)
-
--- the masks of x, added to the empty set; those of y besides
-pub holds-list : (word : ℕ) (x : List ℕ) → Holds word (λ k. bitAt 0 k || has (map (bitOr 0) x) k) → Holds word (has x)
-holds-list word x f k = f k ∙ ap₂ (λ (a : Bool) (l : List ℕ). a || has l k) (bitAt-zero k) (map-zero x)
-
-pub holds-both : (word more : ℕ) (x y : List ℕ) → Holds word (has x) → Holds more (λ k. bitAt word k || has (map (bitOr 0) y) k) → Holds more (has (x ++ y))
-holds-both word more x y f g k = g k ∙ ap₂ (λ (a : Bool) (l : List ℕ). a || has l k) (f k) (map-zero y) ∙ sym (has-append x y k)
-
-holds-packed : (word : ℕ) (c : List ℕ) → Holds word (has c) → packed (written (bitAt word) allPatterns) ≡ packed (written (has c) allPatterns)
-holds-packed word c f = ap packed (written-cong (bitAt word) (has c) allPatterns (λ k h. f k))
-
-pub minimise-packed : (word : ℕ) (c : List ℕ) → Holds word (has c) → packed (written (bitAt word) allPatterns) ≡ packed (minimise c)
-unfolding minimise
-minimise-packed word c f = holds-packed word c f
-
-pub choice-packed : (word : ℕ) (x y : List ℕ) → Holds word (has (x ++ y)) → packed (written (bitAt word) allPatterns) ≡ packed (choice x y)
-unfolding choice
-choice-packed word x y f = minimise-packed word (x ++ y) f
+use Rattle.masks.proofs.Laws.Set.{minimise-packed, bitAt-zero}
 
 -- ---- the joint: the unions of the first i masks of x with those of y are in
 
@@ -114,7 +65,7 @@ module _ (limit : ℕ) (l : List ℕ) where
   unfolding listFault
   fault-mask h i k e =
       rw (le-ltb maxMasks (length l) h)
-      (byBool (inRange limit l) (λ t. let b = element-below limit l i t k in absurd (omega arith)) (λ t. rw t))
+      (byBool (inRange limit l) (λ t. let b = inRange-at limit l i t k in absurd (omega arith)) (λ t. rw t))
 
   pub fault-none : length l ≤ maxMasks → inRange limit l ≡ true → 0 ≡ listFault limit l
   unfolding listFault

@@ -1,7 +1,7 @@
 -- `masks::choice_of` meets its contract. The set holds the masks of the two lists put together. Assumes nothing.
 use mathlib.Core.Path.{_∙_}
 use borrow.Author.Needs.{needs}
-use Rattle.masks.proofs.Laws.Joining.{holds-list, holds-both, choice-packed}
+use Rattle.masks.proofs.Laws.Set.{holds-list, holds-both, choice-packed}
 use Rattle.masks.proofs.choice_of.Statement.{statement}
 use Rattle.masks.proofs.choice_of.Tie as tie
 

@@ -4,10 +4,11 @@ use Prim.Native.Nat.{_-_, _≤_}
 use native.Mathlib.Omega.{arith}
 use lib.ListN.{length, take}
 use borrow.Author.Needs.{needs}
-use Rattle.masks.specs.Held.{Holds}
+use Rattle.masks.specs.Set.{Holds}
 use Rattle.masks.specs.Lists.{has}
 use Rattle.masks.specs.Constraint.{unions}
-use Rattle.masks.proofs.Laws.Joining.{joint-start, joint-next, joint-packed, element-below}
+use Rattle.masks.proofs.Laws.Joining.{joint-start, joint-next, joint-packed}
+use Rattle.masks.proofs.Laws.Constraint.{inRange-at}
 use Rattle.masks.proofs.joint_of.Statement.{statement}
 use Rattle.masks.proofs.joint_of.Tie as tie
 
@@ -28,7 +29,7 @@ with-unions-requires c κs =
     let l = c .before .before .loop in
     let p = c .before .before .before .before .before .pre in
     let s = c .before .before .before .before .before .args in
-    (element-below 64 (s .first .now) (l .i) (p .0) (omega arith), p .1)
+    (inRange-at 64 (s .first .now) (l .i) (p .0) (omega arith), p .1)
 
 add-i : tie.Need-add-i Inv-loop μ-loop
 add-i c = search needs

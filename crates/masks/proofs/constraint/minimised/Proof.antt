@@ -1,7 +1,7 @@
 -- `masks::constraint::minimised` meets its contract. The set of the list's unions with the mask 0 holds just the masks of the list. Assumes nothing.
 use mathlib.Core.Path.{_∙_}
 use borrow.Author.Needs.{needs}
-use Rattle.masks.proofs.Laws.Joining.{holds-list, minimise-packed}
+use Rattle.masks.proofs.Laws.Set.{holds-list, minimise-packed}
 use Rattle.masks.proofs.constraint.minimised.Statement.{statement}
 use Rattle.masks.proofs.constraint.minimised.Tie as tie
 

@@ -8,9 +8,9 @@ use lib.Seq.{take-length}
 use lib.Bits.{bitOr}
 use lib.ListN.{length, take}
 use borrow.Author.Needs.{needs}
-use Rattle.masks.specs.Held.{bitAt, Holds}
+use Rattle.masks.specs.Set.{bitAt, Holds}
 use Rattle.masks.specs.Lists.{has}
-use Rattle.masks.proofs.Laws.Joining.{with-start, with-next, union-below}
+use Rattle.masks.proofs.Laws.Set.{with-start, with-next, union-below}
 use Rattle.masks.proofs.constraint.with_unions.Statement.{statement}
 use Rattle.masks.proofs.constraint.with_unions.Tie as tie
 

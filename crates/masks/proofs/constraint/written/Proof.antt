@@ -8,7 +8,7 @@ use native.Mathlib.Omega.{arith}
 use lib.ListN.{take}
 use borrow.Author.Needs.{needs}
 use Rattle.masks.specs.Constraint.{admits}
-use Rattle.masks.proofs.Laws.Held.{Kept, kept-start, kept-room, kept-length, kept-absent, kept-dropped, kept-space, kept-new, kept-end}
+use Rattle.masks.proofs.Laws.Kept.{Kept, kept-start, kept-room, kept-length, kept-absent, kept-dropped, kept-space, kept-new, kept-end}
 use Rattle.masks.proofs.Laws.Constraint.{admits-suc}
 use Rattle.masks.proofs.constraint.written.Statement.{statement}
 use Rattle.masks.proofs.constraint.written.Tie as tie

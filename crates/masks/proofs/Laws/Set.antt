@@ -1,0 +1,119 @@
+-- A bit set in a word adds a mask to its set; a loop over a list adds the union of m with each of its masks. Sets with the same masks have the
+-- same written form. Assumes nothing.
+use mathlib.Core.Path.{_≡_, refl, sym, ap, ap₂, _∙_}
+use mathlib.Core.Bool.{Bool, true, false, _||_, or-assoc, or-false}
+use mathlib.Core.List.{List, [], _∷_, _++_, map}
+use Prim.Native.Nat.{ℕ, zero, suc, _+_, _/_, _%_, _^_, _<_}
+use native.Mathlib.Omega.{arith}
+use native.Mathlib.Nat.{pow-suc}
+use lib.Bits.{bitOr, or-step, or-lt}
+use lib.Dec.{eqb}
+use lib.ListN.{length, getD, take}
+use borrow.Author.Tests.{eq-eqb, ne-eqb, eqb-true, eqb-false}
+use Rattle.masks.specs.Limits.{allPatterns}
+use Rattle.masks.specs.Constraint.{written, inRange, minimise, choice}
+use Rattle.masks.specs.Held.{packed}
+use Rattle.masks.specs.Set.{bitAt, Holds}
+use Rattle.masks.specs.Lists.{has}
+use Rattle.masks.proofs.Laws.Logic.{byBool, same, or-case, or-left, or-right}
+use Rattle.masks.proofs.Laws.Constraint.{inRange-at, written-cong}
+use Rattle.masks.proofs.Laws.Lists.{any-suc, has-append, has-map}
+
+-- ---- the bits of a word
+
+pub bitAt-zero : (k : ℕ) → bitAt 0 k ≡ false
+unfolding bitAt
+bitAt-zero zero = refl
+bitAt-zero (suc k) = bitAt-zero k
+
+or-digit : (x y : ℕ) → eqb (bitOr x y % 2) 1 ≡ (eqb (x % 2) 1 || eqb (y % 2) 1)
+or-digit x y =
+    let s = or-step x y in
+    same (eqb (bitOr x y % 2) 1) (eqb (x % 2) 1 || eqb (y % 2) 1)
+    (λ t. byBool (eqb (x % 2) 1) (or-left (eqb (x % 2) 1) (eqb (y % 2) 1))
+    (λ f. let e = eqb-true (bitOr x y % 2) 1 t in let ne = eqb-false (x % 2) 1 f in or-right (eqb (x % 2) 1) (eq-eqb (y % 2) 1 (omega arith))))
+    (λ t. or-case (eqb (x % 2) 1) (eqb (y % 2) 1) t
+    (λ h. let e = eqb-true (x % 2) 1 h in eq-eqb (bitOr x y % 2) 1 (omega arith))
+    (λ h. let e = eqb-true (y % 2) 1 h in eq-eqb (bitOr x y % 2) 1 (omega arith)))
+
+pub bitAt-or : (x y k : ℕ) → bitAt (bitOr x y) k ≡ (bitAt x k || bitAt y k)
+unfolding bitAt
+bitAt-or x y zero = or-digit x y
+bitAt-or x y (suc k) =
+    let s = or-step x y in
+    let e : bitOr x y / 2 ≡ bitOr (x / 2) (y / 2) = omega arith in
+    ap (λ (z : ℕ). bitAt z k) e ∙ bitAt-or (x / 2) (y / 2) k
+
+pub bitAt-power : (u k : ℕ) → bitAt (2 ^ u) k ≡ eqb k u
+unfolding bitAt
+bitAt-power zero zero = refl
+bitAt-power zero (suc k) = bitAt-zero k ∙ sym (ne-eqb (suc k) 0 (λ e. omega arith))
+bitAt-power (suc u) zero = let p = pow-suc 2 u in ne-eqb (2 ^ suc u % 2) 1 (λ e. omega arith) ∙ sym (ne-eqb 0 (suc u) (λ e. omega arith))
+bitAt-power (suc u) (suc k) =
+    let p = pow-suc 2 u in
+    let e : 2 ^ suc u / 2 ≡ 2 ^ u = omega arith in
+    ap (λ (z : ℕ). bitAt z k) e ∙ bitAt-power u k ∙ same-suc (eqb k u) refl
+  where
+    same-suc : (b : Bool) → eqb k u ≡ b → eqb k u ≡ eqb (suc k) (suc u)
+    same-suc true e = e ∙ sym (eq-eqb (suc k) (suc u) (ap suc (eqb-true k u e)))
+    same-suc false e = e ∙ sym (ne-eqb (suc k) (suc u) (λ q. eqb-false k u e (omega arith)))
+
+-- the bits from k on
+unfoldable pub from : ℕ → ℕ → ℕ
+from word zero = word
+from word (suc k) = from word k / 2
+
+bitAt-from : (word k j : ℕ) → bitAt (from word k) j ≡ bitAt word (k + j)
+unfolding from bitAt
+bitAt-from word zero j = let e : j ≡ 0 + j = omega arith in ap (bitAt word) e
+bitAt-from word (suc k) j = let e : k + suc j ≡ suc k + j = omega arith in bitAt-from word k (suc j) ∙ ap (bitAt word) e
+
+pub bitAt-here : (word k : ℕ) → bitAt word k ≡ eqb (from word k % 2) 1
+unfolding bitAt
+bitAt-here word k = let e : k ≡ k + 0 = omega arith in ap (bitAt word) e ∙ sym (bitAt-from word k 0)
+
+-- ---- one mask more
+
+-- the unions of m with the first i masks of l are in
+module _ (word m : ℕ) (l : List ℕ) where
+  pub with-start : Holds word (λ k. bitAt word k || has (map (bitOr m) (take 0 l)) k)
+  with-start k = sym (or-false (bitAt word k))
+
+  pub with-next : (now i : ℕ) → i < length l → Holds now (λ k. bitAt word k || has (map (bitOr m) (take i l)) k)
+      → Holds (bitOr now (2 ^ bitOr m (getD l i 0))) (λ k. bitAt word k || has (map (bitOr m) (take (i + 1) l)) k)
+  with-next now i h f k =
+      let u = bitOr m (getD l i 0) in
+      bitAt-or now (2 ^ u) k
+      ∙ ap₂ (λ (a b : Bool). a || b) (f k) (bitAt-power u k)
+      ∙ or-assoc (bitAt word k) (has (map (bitOr m) (take i l)) k) (eqb k u)
+      ∙ ap (λ (b : Bool). bitAt word k || b)
+      (ap (λ (b : Bool). b || eqb k u) (has-map (bitOr m) (take i l) k)
+      ∙ sym (any-suc (λ x. eqb k (bitOr m x)) 0 l i h) ∙ sym (has-map (bitOr m) (take (i + 1) l) k))
+
+-- a union of masks is one
+pub union-below : (m : ℕ) (l : List ℕ) (i : ℕ) → m < allPatterns → inRange allPatterns l ≡ true → i < length l → bitOr m (getD l i 0) < allPatterns
+union-below m l i h s k = or-lt 6 m (getD l i 0) h (inRange-at allPatterns l i s k)
+
+-- ---- the written form of what a word holds
+
+map-zero : (l : List ℕ) → map (bitOr 0) l ≡ l
+map-zero [] = refl
+map-zero (x ∷ xs) = ap {B = List ℕ} (λ (t : List ℕ). x ∷ t) (map-zero xs)
+
+-- the masks of x, added to the empty set; those of y besides
+pub holds-list : (word : ℕ) (x : List ℕ) → Holds word (λ k. bitAt 0 k || has (map (bitOr 0) x) k) → Holds word (has x)
+holds-list word x f k = f k ∙ ap₂ (λ (a : Bool) (l : List ℕ). a || has l k) (bitAt-zero k) (map-zero x)
+
+pub holds-both : (word more : ℕ) (x y : List ℕ) → Holds word (has x) → Holds more (λ k. bitAt word k || has (map (bitOr 0) y) k) → Holds more (has (x ++ y))
+holds-both word more x y f g k = g k ∙ ap₂ (λ (a : Bool) (l : List ℕ). a || has l k) (f k) (map-zero y) ∙ sym (has-append x y k)
+
+holds-packed : (word : ℕ) (c : List ℕ) → Holds word (has c) → packed (written (bitAt word) allPatterns) ≡ packed (written (has c) allPatterns)
+holds-packed word c f = ap packed (written-cong (bitAt word) (has c) allPatterns (λ k h. f k))
+
+pub minimise-packed : (word : ℕ) (c : List ℕ) → Holds word (has c) → packed (written (bitAt word) allPatterns) ≡ packed (minimise c)
+unfolding minimise
+minimise-packed word c f = holds-packed word c f
+
+pub choice-packed : (word : ℕ) (x y : List ℕ) → Holds word (has (x ++ y)) → packed (written (bitAt word) allPatterns) ≡ packed (choice x y)
+unfolding choice
+choice-packed word x y f = minimise-packed word (x ++ y) f

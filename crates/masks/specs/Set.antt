@@ -1,0 +1,14 @@
+-- A set of masks, held in a word of 64 bits. Assumes nothing.
+use mathlib.Core.Bool.{Bool}
+use mathlib.Core.Path.{_≡_}
+use Prim.Native.Nat.{ℕ, zero, suc, _/_, _%_}
+use lib.Dec.{eqb}
+
+-- mask m is in the set where bit m of the word is set
+unfoldable pub bitAt : ℕ → ℕ → Bool
+bitAt word zero = eqb (word % 2) 1
+bitAt word (suc m) = bitAt (word / 2) m
+
+-- the set has just the masks that f tells
+abbrev pub Holds : ℕ → (ℕ → Bool) → Type 0
+Holds word f = (m : ℕ) → bitAt word m ≡ f m
