@@ -107,12 +107,9 @@ holds-list word x f k = f k ∙ ap₂ (λ (a : Bool) (l : List ℕ). a || has l 
 pub holds-both : (word more : ℕ) (x y : List ℕ) → Holds word (has x) → Holds more (λ k. bitAt word k || has (map (bitOr 0) y) k) → Holds more (has (x ++ y))
 holds-both word more x y f g k = g k ∙ ap₂ (λ (a : Bool) (l : List ℕ). a || has l k) (f k) (map-zero y) ∙ sym (has-append x y k)
 
-holds-packed : (word : ℕ) (c : List ℕ) → Holds word (has c) → packed (written (bitAt word) allPatterns) ≡ packed (written (has c) allPatterns)
-holds-packed word c f = ap packed (written-cong (bitAt word) (has c) allPatterns (λ k h. f k))
-
 pub minimise-packed : (word : ℕ) (c : List ℕ) → Holds word (has c) → packed (written (bitAt word) allPatterns) ≡ packed (minimise c)
 unfolding minimise
-minimise-packed word c f = holds-packed word c f
+minimise-packed word c f = ap packed (written-cong (bitAt word) (has c) allPatterns (λ k h. f k))
 
 pub choice-packed : (word : ℕ) (x y : List ℕ) → Holds word (has (x ++ y)) → packed (written (bitAt word) allPatterns) ≡ packed (choice x y)
 unfolding choice
