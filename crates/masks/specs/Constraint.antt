@@ -1,12 +1,12 @@
 -- Constraints: lists of masks. Every definition computes. Assumes nothing.
-use mathlib.Core.Bool.{Bool, true, not, _&&_}
+use mathlib.Core.Bool.{Bool, not, _&&_}
 use mathlib.Core.List.{List, [], _∷_, _++_, map}
 use Prim.Native.Nat.{ℕ}
 use lib.Dec.{eqb, ltb}
 use lib.Bits.{bitOr}
 use Rattle.masks.specs.Limits.{allPatterns}
 use Rattle.masks.specs.Mask.{within}
-use Rattle.masks.specs.Lists.{any, all, anyBelow, below, has, ascending}
+use Rattle.masks.specs.Lists.{any, all, anyBelow, below, has, ascending, pairwise}
 
 -- ---- a pattern and a constraint
 
@@ -27,13 +27,12 @@ trivial = 0 ∷ []
 unfoldable pub inRange : ℕ → List ℕ → Bool
 inRange n c = all (λ m. ltb m n) c
 
--- neither of two masks contains the other; no two of a list do
+-- neither of two masks contains the other; none of a list contains another
 abbrev pub unlike : ℕ → ℕ → Bool
 unlike x y = not (within x y) && not (within y x)
 
 abbrev pub apart : List ℕ → Bool
-apart [] = true
-apart (x ∷ xs) = all (unlike x) xs && apart xs
+apart c = pairwise unlike c
 
 -- in range, ascending (so that equal ones stand once), none containing another
 unfoldable pub isWritten : ℕ → List ℕ → Bool

@@ -1,9 +1,6 @@
 -- How the code holds a constraint. Assumes nothing.
-use mathlib.Core.Bool.{Bool}
 use mathlib.Core.List.{List, _++_}
-use mathlib.Core.Path.{_≡_}
-use Prim.Native.Nat.{ℕ, zero, suc, _-_, _/_, _%_}
-use lib.Dec.{eqb}
+use Prim.Native.Nat.{ℕ, _-_}
 use lib.ListN.{length, take, replicate}
 use Rattle.masks.specs.Limits.{maxMasks}
 use Rattle.masks.specs.declared.constraint.Constraint.{Constraint}

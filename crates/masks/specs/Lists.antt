@@ -29,7 +29,11 @@ below p (suc n) = below p n ++ cond (p n) (n ∷ []) []
 abbrev pub has : List ℕ → ℕ → Bool
 has xs x = any (eqb x) xs
 
--- each number is less than those after it
+-- r holds of each element and every one after it
+abbrev pub pairwise : (ℕ → ℕ → Bool) → List ℕ → Bool
+pairwise r [] = true
+pairwise r (x ∷ xs) = all (r x) xs && pairwise r xs
+
+-- each is less than those after it, so equal ones stand once
 abbrev pub ascending : List ℕ → Bool
-ascending [] = true
-ascending (x ∷ xs) = all (ltb x) xs && ascending xs
+ascending xs = pairwise ltb xs

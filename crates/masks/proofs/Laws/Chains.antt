@@ -10,10 +10,10 @@ use lib.ListN.{length, getD, length-map}
 use borrow.Author.Tests.{eqb-true, eqb-false, eq-eqb, ltb-true}
 use Rattle.masks.specs.Limits.{maxMasks, allPatterns}
 use Rattle.masks.specs.Mask.{within}
-use Rattle.masks.specs.Lists.{all, has}
+use Rattle.masks.specs.Lists.{has}
 use Rattle.masks.specs.Constraint.{unlike, inRange, apart, isWritten}
 use Rattle.masks.proofs.Laws.Logic.{byBool, and-left, and-right, or-right, or-case, not-elim}
-use Rattle.masks.proofs.Laws.Lists.{has-here, all-has}
+use Rattle.masks.proofs.Laws.Lists.{pairwise-head, pairwise-tail, has-here}
 use Rattle.masks.proofs.Laws.Constraint.{inRange-has, inRange-mono, written-inRange, written-apart}
 
 -- ---- a list of different numbers below n has at most n members
@@ -129,10 +129,10 @@ chains-distinct : (c : List ℕ) → ((a : ℕ) → has c a ≡ true → a < all
 chains-distinct [] s t = tt
 chains-distinct (x ∷ xs) s t = (
   (λ m. let r = map-has chain xs (chain x) m in let y = r .0 in
-      let u = all-has (unlike x) xs (and-left (all (unlike x) xs) (apart xs) t) y (r .1) in
+      let u = pairwise-head unlike x xs t y (r .1) in
       or-case (within x y) (within y x) (chain-linked x y (s x (has-here x xs)) (s y (or-right (eqb y x) (r .1))) (r .2))
       (not-elim (within x y) (and-left (not (within x y)) (not (within y x)) u)) (not-elim (within y x) (and-right (not (within x y)) (not (within y x)) u))),
-  chains-distinct xs (λ a m. s a (or-right (eqb a x) m)) (and-right (all (unlike x) xs) (apart xs) t),
+  chains-distinct xs (λ a m. s a (or-right (eqb a x) m)) (pairwise-tail unlike x xs t),
 )
 
 pub antichain : (c : List ℕ) → inRange allPatterns c ≡ true → apart c ≡ true → length c ≤ maxMasks

@@ -15,7 +15,7 @@ use Rattle.masks.specs.Mask.{within}
 use Rattle.masks.specs.Lists.{any, all, anyBelow, has, ascending}
 use Rattle.masks.specs.Constraint.{unlike, admits, inRange, apart, isWritten, drops, least, written, minimise, choice, unions, joint}
 use Rattle.masks.proofs.Laws.Logic.{byBool, clash, false-of, same, and-intro, and-left, and-right, or-case, not-intro, not-elim}
-use Rattle.masks.proofs.Laws.Lists.{front-lt, any-append, any-suc, any-at, all-at, has-append, has-here, any-has, has-any, all-has, has-all, anyBelow-at, at-anyBelow, below-has, has-below, anyBelow-cong, below-cong, ascending-below, ascending-ext}
+use Rattle.masks.proofs.Laws.Lists.{pairwise-head, pairwise-tail, ascending-head, ascending-tail, front-lt, any-append, any-suc, any-at, all-at, has-append, has-here, any-has, has-any, all-has, has-all, anyBelow-at, at-anyBelow, below-has, has-below, anyBelow-cong, below-cong, ascending-below, ascending-ext}
 use Rattle.masks.proofs.Laws.Mask.{within-and, and-within, within-refl, within-trans, within-le, within-antisym, within-or}
 
 -- ---- masks in range
@@ -99,20 +99,20 @@ apart-within (x ∷ xs) t a b m h w =
     (λ k. not-elim (within x b) (and-left (not (within x b)) (not (within b x)) (others b k)) (ap (λ (y : ℕ). within y b) (sym (eqb-true a x p)) ∙ w)))
     (λ k. or-case (eqb b x) (has xs b) h
     (λ q. not-elim (within a x) (and-right (not (within x a)) (not (within a x)) (others a k)) (ap (within a) (sym (eqb-true b x q)) ∙ w))
-    (λ l. apart-within xs (and-right (all (unlike x) xs) (apart xs) t) a b k l w))
+    (λ l. apart-within xs (pairwise-tail unlike x xs t) a b k l w))
   where
     others : (y : ℕ) → has xs y ≡ true → unlike x y ≡ true
-    others y k = all-has (unlike x) xs (and-left (all (unlike x) xs) (apart xs) t) y k
+    others y k = pairwise-head unlike x xs t y k
 
 within-apart : (c : List ℕ) → ascending c ≡ true → ((a b : ℕ) → has c a ≡ true → has c b ≡ true → within a b ≡ true → a ≡ b) → apart c ≡ true
 within-apart [] s f = refl
 within-apart (x ∷ xs) s f =
     and-intro
     (has-all (unlike x) xs (λ y m.
-    let l : x < y = ltb-true x y (all-has (ltb x) xs (and-left (all (ltb x) xs) (ascending xs) s) y m) in
+    let l = ascending-head x xs s y m in
     let k = or-tail y m in
     and-intro (not-intro (λ w. let e = f x y (has-here x xs) k w in omega arith)) (not-intro (λ w. let e = f y x k (has-here x xs) w in omega arith))))
-    (within-apart xs (and-right (all (ltb x) xs) (ascending xs) s) (λ a b m h. f a b (or-tail a m) (or-tail b h)))
+    (within-apart xs (ascending-tail x xs s) (λ a b m h. f a b (or-tail a m) (or-tail b h)))
   where
     or-tail : (y : ℕ) → has xs y ≡ true → has (x ∷ xs) y ≡ true
     or-tail y m = byBool (eqb y x) (λ e. rw e) (λ e. rw e m)

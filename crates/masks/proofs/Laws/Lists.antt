@@ -10,7 +10,7 @@ use lib.Dec.{eqb, ltb}
 use lib.ListN.{length, getD, take, set, length-take}
 use lib.Seq.{take-suc, sets, length-take-le}
 use borrow.Author.Tests.{eqb-true, eqb-false, eq-eqb, ltb-true, lt-ltb}
-use Rattle.masks.specs.Lists.{any, all, anyBelow, below, has, ascending}
+use Rattle.masks.specs.Lists.{any, all, anyBelow, below, has, pairwise, ascending}
 use Rattle.masks.proofs.Laws.Logic.{byBool, and-intro, and-left, and-right, or-left, or-right, or-case}
 
 -- ---- the front of a list, and a run of stores
@@ -142,14 +142,23 @@ pub below-cong : (p q : ℕ → Bool) (n : ℕ) → ((k : ℕ) → k < n → p k
 below-cong p q zero f = refl
 below-cong p q (suc n) f = ap₂ (λ (l : List ℕ) (b : Bool). l ++ cond b (n ∷ []) []) (below-cong p q n (λ k h. f k (omega arith))) (f n (omega arith))
 
+-- ---- lists in which a relation holds pairwise
+
+module _ (r : ℕ → ℕ → Bool) (x : ℕ) (xs : List ℕ) (t : pairwise r (x ∷ xs) ≡ true) where
+  pub pairwise-head : (a : ℕ) → has xs a ≡ true → r x a ≡ true
+  pairwise-head a h = all-has (r x) xs (and-left (all (r x) xs) (pairwise r xs) t) a h
+
+  pub pairwise-tail : pairwise r xs ≡ true
+  pairwise-tail = and-right (all (r x) xs) (pairwise r xs) t
+
 -- ---- ascending lists
 
 -- the first is less than the others
-ascending-head : (x : ℕ) (xs : List ℕ) → ascending (x ∷ xs) ≡ true → (a : ℕ) → has xs a ≡ true → x < a
-ascending-head x xs t a h = ltb-true x a (all-has (ltb x) xs (and-left (all (ltb x) xs) (ascending xs) t) a h)
+pub ascending-head : (x : ℕ) (xs : List ℕ) → ascending (x ∷ xs) ≡ true → (a : ℕ) → has xs a ≡ true → x < a
+ascending-head x xs t a h = ltb-true x a (pairwise-head ltb x xs t a h)
 
-ascending-tail : (x : ℕ) (xs : List ℕ) → ascending (x ∷ xs) ≡ true → ascending xs ≡ true
-ascending-tail x xs t = and-right (all (ltb x) xs) (ascending xs) t
+pub ascending-tail : (x : ℕ) (xs : List ℕ) → ascending (x ∷ xs) ≡ true → ascending xs ≡ true
+ascending-tail x xs t = pairwise-tail ltb x xs t
 
 ascending-append : (xs ys : List ℕ) → ascending xs ≡ true → ascending ys ≡ true
     → ((a b : ℕ) → has xs a ≡ true → has ys b ≡ true → a < b) → ascending (xs ++ ys) ≡ true

@@ -1,4 +1,5 @@
--- `masks::join` meets its contract. A fault makes the outcome a refusal; without one both lists are masks, and the outcome is what they combine to. Assumes nothing.
+-- `masks::join` meets its contract. A fault makes the outcome a refusal; without one both lists are of masks, and the outcome is what they
+-- combine to. Assumes nothing.
 use mathlib.Core.Path.{_≡_, sym, ap, _∙_}
 use borrow.Author.Needs.{needs}
 use Rattle.masks.specs.Joining.{combined}

@@ -28,7 +28,7 @@ shared-slice-read-if2 c = search needs
 returns-2 : tie.Need-returns-2 Inv-loop μ-loop
 returns-2 c =
     let s = c .before .before .before .before .before .args in
-    fault-mask (s .limit) (s .masks .now) (omega arith) (c .before .before .before .loop .i) (omega arith) (c .if2 .taken)
+    fault-mask (s .limit) (s .masks .now) (omega arith) (c .before .before .before .loop .i) (omega arith) (omega arith)
 
 add-i : tie.Need-add-i Inv-loop μ-loop
 add-i c = search needs
