@@ -48,6 +48,7 @@ drops f m k = f k && (within k m && not (eqb k m))
 unfoldable pub least : (ℕ → Bool) → ℕ → ℕ → Bool
 least f n m = f m && not (anyBelow (drops f m) n)
 
+-- those masks, ascending
 unfoldable pub written : (ℕ → Bool) → ℕ → List ℕ
 written f n = below (least f n) n
 
@@ -61,10 +62,11 @@ minimise c = written (has c) allPatterns
 unfoldable pub choice : List ℕ → List ℕ → List ℕ
 choice c d = minimise (c ++ d)
 
--- "the joint by one that fits each": the union of each mask of one with each of the other
+-- the union of each mask of one with each of the other
 abbrev pub unions : List ℕ → List ℕ → List ℕ
 unions [] d = []
 unions (x ∷ xs) d = map (bitOr x) d ++ unions xs d
 
+-- "the joint by one that fits each"
 unfoldable pub joint : List ℕ → List ℕ → List ℕ
 joint c d = minimise (unions c d)

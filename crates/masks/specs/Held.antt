@@ -13,5 +13,6 @@ masksOf c = take (c .n) (c .masks)
 unfoldable pub padded : List ℕ → List ℕ
 padded l = l ++ replicate (maxMasks - length l) 0
 
+-- the constraint of these masks, every byte of it fixed
 abbrev pub packed : List ℕ → Constraint
 packed l = record { n = length l; masks = padded l }

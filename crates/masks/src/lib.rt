@@ -58,7 +58,11 @@ fn give(c: Constraint, out: &mut [u8]) -> Reply
         return Reply::refused(9, n as u64);
     }
     constraint::put_masks(out, 0, c);
-    Reply::done(n as u64, 0)
+    Reply {
+        number: 0,
+        value: n as u64,
+        rounds: 0,
+    }
 }
 
 // "tried as arity, first list's length, its masks, the second's": the number of the first fault, or 0.

@@ -10,7 +10,7 @@ pub struct Reply {
 }
 
 impl Reply {
-    // A refusal.
+    // A refusal: its number and its value.
     pub fn refused(number: u32, value: u64) -> Reply
         ensures { λ r. ⌜ r ≡ record { number = number; value = value; rounds = 0 } ⌝ }
     {
@@ -18,17 +18,6 @@ impl Reply {
             number,
             value,
             rounds: 0,
-        }
-    }
-
-    // Done: the bytes written, and the rounds.
-    pub fn done(value: u64, rounds: u64) -> Reply
-        ensures { λ r. ⌜ r ≡ record { number = 0; value = value; rounds = rounds } ⌝ }
-    {
-        Reply {
-            number: 0,
-            value,
-            rounds,
         }
     }
 }

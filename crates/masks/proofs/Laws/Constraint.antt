@@ -241,9 +241,9 @@ written-suc f m =
 
 -- ---- lists in any order
 
-pub minimise-written : (c : List ℕ) → isWritten allPatterns (minimise c) ≡ true
+pub minimise-isWritten : (c : List ℕ) → isWritten allPatterns (minimise c) ≡ true
 unfolding minimise
-minimise-written c = written-isWritten (has c) allPatterns
+minimise-isWritten c = written-isWritten (has c) allPatterns
 
 pub admits-minimise : (c : List ℕ) → inRange allPatterns c ≡ true → (a : ℕ) → admits (minimise c) a ≡ admits c a
 unfolding minimise
@@ -261,15 +261,15 @@ unfolding minimise
 minimise-inRange n c s = has-inRange n (written (has c) allPatterns) (λ a h. inRange-has n c s a (written-has (has c) allPatterns a h .1))
 
 -- so it is a written form of as many patterns as the list
-pub minimise-isWritten : (n : ℕ) (c : List ℕ) → inRange n c ≡ true → isWritten n (minimise c) ≡ true
+pub minimise-isWritten-at : (n : ℕ) (c : List ℕ) → inRange n c ≡ true → isWritten n (minimise c) ≡ true
 unfolding isWritten
-minimise-isWritten n c s =
-    let w = minimise-written c in
+minimise-isWritten-at n c s =
+    let w = minimise-isWritten c in
     and-intro (minimise-inRange n c s) (and-intro (written-ascending allPatterns (minimise c) w) (written-apart allPatterns (minimise c) w))
 
 pub minimise-same : (c : List ℕ) → isWritten allPatterns c ≡ true → minimise c ≡ c
 minimise-same c w =
-    canonical allPatterns (minimise c) c (minimise-written c) w (λ a h. admits-minimise c (written-inRange allPatterns c w) a)
+    canonical allPatterns (minimise c) c (minimise-isWritten c) w (λ a h. admits-minimise c (written-inRange allPatterns c w) a)
 
 -- ---- choice: the masks of both
 
@@ -278,13 +278,13 @@ append-inRange n c d s t =
     has-inRange n (c ++ d)
     (λ a h. or-case (has c a) (has d a) (sym (has-append c d a) ∙ h) (inRange-has n c s a) (inRange-has n d t a))
 
-pub choice-written : (c d : List ℕ) → isWritten allPatterns (choice c d) ≡ true
+pub choice-isWritten : (c d : List ℕ) → isWritten allPatterns (choice c d) ≡ true
 unfolding choice
-choice-written c d = minimise-written (c ++ d)
+choice-isWritten c d = minimise-isWritten (c ++ d)
 
-pub choice-isWritten : (n : ℕ) (c d : List ℕ) → inRange n c ≡ true → inRange n d ≡ true → isWritten n (choice c d) ≡ true
+pub choice-isWritten-at : (n : ℕ) (c d : List ℕ) → inRange n c ≡ true → inRange n d ≡ true → isWritten n (choice c d) ≡ true
 unfolding choice
-choice-isWritten n c d s t = minimise-isWritten n (c ++ d) (append-inRange n c d s t)
+choice-isWritten-at n c d s t = minimise-isWritten-at n (c ++ d) (append-inRange n c d s t)
 
 pub admits-choice : (c d : List ℕ) → inRange allPatterns c ≡ true → inRange allPatterns d ≡ true
     → (a : ℕ) → admits (choice c d) a ≡ (admits c a || admits d a)
@@ -309,13 +309,13 @@ unions-inRange k (x ∷ xs) d s t =
     (union-inRange k x (ltb-true x (2 ^ k) (and-left (ltb x (2 ^ k)) (all (λ y. ltb y (2 ^ k)) xs) s)) d t)
     (unions-inRange k xs d (and-right (ltb x (2 ^ k)) (all (λ y. ltb y (2 ^ k)) xs) s) t)
 
-pub joint-written : (c d : List ℕ) → isWritten allPatterns (joint c d) ≡ true
+pub joint-isWritten : (c d : List ℕ) → isWritten allPatterns (joint c d) ≡ true
 unfolding joint
-joint-written c d = minimise-written (unions c d)
+joint-isWritten c d = minimise-isWritten (unions c d)
 
-pub joint-isWritten : (k : ℕ) (c d : List ℕ) → inRange (2 ^ k) c ≡ true → inRange (2 ^ k) d ≡ true → isWritten (2 ^ k) (joint c d) ≡ true
+pub joint-isWritten-at : (k : ℕ) (c d : List ℕ) → inRange (2 ^ k) c ≡ true → inRange (2 ^ k) d ≡ true → isWritten (2 ^ k) (joint c d) ≡ true
 unfolding joint
-joint-isWritten k c d s t = minimise-isWritten (2 ^ k) (unions c d) (unions-inRange k c d s t)
+joint-isWritten-at k c d s t = minimise-isWritten-at (2 ^ k) (unions c d) (unions-inRange k c d s t)
 
 admits-union : (m : ℕ) (d : List ℕ) (a : ℕ) → admits (map (bitOr m) d) a ≡ (within m a && admits d a)
 unfolding admits

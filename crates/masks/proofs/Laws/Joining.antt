@@ -1,4 +1,4 @@
--- What the code of joining does, turn by turn, to the definitions. Assumes nothing.
+-- What the code of joining does, turn by turn, to the definitions, and what a success of the two operations means. Assumes nothing.
 use mathlib.Core.Path.{_≡_, refl, sym, ap, _∙_, subst}
 use mathlib.Core.Bool.{Bool, true, _&&_, _||_}
 use mathlib.Core.List.{List, [], _∷_, _++_, map, append-nil, append-assoc}
@@ -23,7 +23,7 @@ use Rattle.masks.specs.declared.Way.{Way}
 use Rattle.masks.specs.declared.Way.the-variants.{Choice, Joint}
 use Rattle.masks.proofs.Laws.Logic.{byBool}
 use Rattle.masks.proofs.Laws.Lists.{all-suc, has-append}
-use Rattle.masks.proofs.Laws.Constraint.{inRange-at, inRange-mono, choice-isWritten, joint-isWritten, admits-choice, admits-joint}
+use Rattle.masks.proofs.Laws.Constraint.{inRange-at, inRange-mono, choice-isWritten-at, joint-isWritten-at, admits-choice, admits-joint}
 use Rattle.masks.proofs.Laws.Outcome.{answers-bytes, answers-number}
 use Rattle.masks.proofs.Laws.Set.{minimise-packed, bitAt-zero}
 
@@ -145,16 +145,16 @@ module _ (arity : ℕ) (x y : List ℕ) where
 -- ---- what a success means: the bytes written are a written form of the arity, and a pattern fits them just where document 01 says
 
 -- "fitted by a pattern that fits either"; "by one that fits each"
-abbrev pub fitsBoth : Way → Bool → Bool → Bool
-fitsBoth Choice p q = p || q
-fitsBoth Joint p q = p && q
+abbrev pub fitted : Way → Bool → Bool → Bool
+fitted Choice p q = p || q
+fitted Joint p q = p && q
 
-combined-isWritten : (way : Way) (k : ℕ) (x y : List ℕ) → inRange (2 ^ k) x ≡ true → inRange (2 ^ k) y ≡ true → isWritten (2 ^ k) (combined way x y) ≡ true
-combined-isWritten Choice k x y s t = choice-isWritten (2 ^ k) x y s t
-combined-isWritten Joint k x y s t = joint-isWritten k x y s t
+combined-isWritten-at : (way : Way) (k : ℕ) (x y : List ℕ) → inRange (2 ^ k) x ≡ true → inRange (2 ^ k) y ≡ true → isWritten (2 ^ k) (combined way x y) ≡ true
+combined-isWritten-at Choice k x y s t = choice-isWritten-at (2 ^ k) x y s t
+combined-isWritten-at Joint k x y s t = joint-isWritten-at k x y s t
 
 admits-combined : (way : Way) (x y : List ℕ) → inRange allPatterns x ≡ true → inRange allPatterns y ≡ true
-    → (a : ℕ) → admits (combined way x y) a ≡ fitsBoth way (admits x a) (admits y a)
+    → (a : ℕ) → admits (combined way x y) a ≡ fitted way (admits x a) (admits y a)
 admits-combined Choice x y s t a = admits-choice x y s t a
 admits-combined Joint x y s t a = admits-joint x y s t a
 
@@ -173,11 +173,11 @@ module _ (way : Way) (arity : ℕ) (x y : List ℕ) {out : List ℕ} {r : Reply}
           absurd (omega arith)
 
   pub joining-means : Answers (joining way arity x y) out r after → r .number ≡ 0
-      → (isWritten (2 ^ arity) (take (r .value) after) ≡ true) × ((a : ℕ) → admits (take (r .value) after) a ≡ fitsBoth way (admits x a) (admits y a))
+      → (isWritten (2 ^ arity) (take (r .value) after) ≡ true) × ((a : ℕ) → admits (take (r .value) after) a ≡ fitted way (admits x a) (admits y a))
   joining-means b z =
       let s = success b z in
       let f = fault-range arity x y (s .0) in
       let g = fault-free arity x y (s .0) in (
-        ap (isWritten (2 ^ arity)) (s .1) ∙ combined-isWritten way arity x y (f .0) (f .1),
+        ap (isWritten (2 ^ arity)) (s .1) ∙ combined-isWritten-at way arity x y (f .0) (f .1),
         λ a. ap (λ (c : List ℕ). admits c a) (s .1) ∙ admits-combined way x y (g .0) (g .1) a,
       )
