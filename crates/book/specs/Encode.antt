@@ -1,0 +1,81 @@
+-- The bytes of a book, and the books that have bytes. Every definition computes. Assumes nothing.
+use mathlib.Core.Path.{_≡_}
+use mathlib.Core.Bool.{Bool, true, not, _&&_}
+use mathlib.Core.List.{List, [], _∷_, _++_}
+use Prim.Native.Nat.{ℕ, suc, _^_}
+use lib.Dec.{eqb, leb}
+use lib.ListN.{length, getD}
+use Rattle.masks.specs.Limits.{maxArity, maxMasks}
+use Rattle.masks.specs.Lists.{all}
+use Rattle.book.specs.Limits.{maxPredicates, maxClauses, maxSubgoals}
+use Rattle.book.specs.Book.{Call, Mode, Clause, Book}
+use Rattle.book.specs.Format.{spelling, within, hasMode}
+use Rattle.book.specs.declared.mark.Mark.the-variants.{Pr, Mo, Cl, Sg, Qu}
+use Rattle.book.specs.declared.range.Range.{Range}
+use Rattle.book.specs.declared.range.Range.the-variants.{Below, AtMost, Argument, HeadArgument}
+
+-- ---- "A book is a run of records"
+
+-- one record after another
+abbrev pub run : {A : Type 0} → (A → List ℕ) → List A → List ℕ
+run f [] = []
+run f (x ∷ xs) = f x ++ run f xs
+
+-- "PR: arity"
+abbrev pub encPredicate : ℕ → List ℕ
+encPredicate a = spelling Pr ++ (a ∷ [])
+
+-- "MO: predicate, n, n masks"
+abbrev pub encMode : Mode → List ℕ
+encMode m = spelling Mo ++ (m .pred ∷ length (m .masks) ∷ m .masks)
+
+-- "predicate, one argument per position"
+abbrev pub encCall : Call → List ℕ
+encCall c = c .pred ∷ c .args
+
+-- "SG"
+abbrev pub encSubgoal : Call → List ℕ
+encSubgoal c = spelling Sg ++ encCall c
+
+-- "CL", then its subgoals
+abbrev pub encClause : Clause → List ℕ
+encClause c = spelling Cl ++ (encCall (c .head) ++ run encSubgoal (c .body))
+
+-- "all PR, then all MO, then clauses, then one QU"
+unfoldable pub encode : Book → List ℕ
+encode b =
+    run encPredicate (b .arities)
+    ++ (run encMode (b .modes) ++ (run encClause (b .clauses) ++ (spelling Qu ++ run encSubgoal (b .query))))
+
+-- ---- the books that keep to the limits
+
+-- a predicate of the book, and as many arguments as its arity, each in its range
+abbrev pub callFits : Range → List ℕ → Call → Bool
+callFits r ar c = within (Below (length ar)) (c .pred) && (eqb (length (c .args)) (getD ar (c .pred) 0) && all (within r) (c .args))
+
+-- a predicate of the book, at most 20 alternatives, each a mask of its positions
+abbrev pub modeFits : List ℕ → Mode → Bool
+modeFits ar m =
+    within (Below (length ar)) (m .pred)
+    && (within (AtMost maxMasks) (length (m .masks)) && all (within (Below (2 ^ getD ar (m .pred) 0))) (m .masks))
+
+-- "MO records rise strictly by predicate", none below b
+abbrev pub rises : ℕ → List Mode → Bool
+rises b [] = true
+rises b (m ∷ ms) = leb b (m .pred) && rises (suc (m .pred)) ms
+
+-- a head for a predicate that has no MO, and at most 8 subgoals
+abbrev pub clauseFits : List ℕ → List Mode → Clause → Bool
+clauseFits ar ms c =
+    callFits HeadArgument ar (c .head)
+    && (not (hasMode ms (c .head .pred)) && (leb (length (c .body)) maxSubgoals && all (callFits Argument ar) (c .body)))
+
+pub record WellFormed (b : Book) : Type 0 where
+  pub fewPredicates : leb (length (b .arities)) maxPredicates ≡ true
+  pub aritiesFit : all (within (AtMost maxArity)) (b .arities) ≡ true
+  pub modesFit : all (modeFits (b .arities)) (b .modes) ≡ true
+  pub modesRise : rises 0 (b .modes) ≡ true
+  pub fewClauses : leb (length (b .clauses)) maxClauses ≡ true
+  pub clausesFit : all (clauseFits (b .arities) (b .modes)) (b .clauses) ≡ true
+  pub fewAsked : leb (length (b .query)) maxSubgoals ≡ true
+  pub queryFits : all (callFits Argument (b .arities)) (b .query) ≡ true

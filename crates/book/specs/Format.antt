@@ -1,0 +1,221 @@
+-- Every string of bytes judged from the left: document 01, "What a rule book says" and "Replies". It is recursion on the bytes that are left, so
+-- that a place is said by how many bytes are left from it on; `judge` turns that into an offset, once. Every definition computes. Assumes
+-- nothing.
+use mathlib.Core.Bool.{Bool, cond, _&&_, _||_, false}
+use mathlib.Core.List.{List, [], _∷_, _++_}
+use Prim.Native.Nat.{ℕ, zero, suc, _-_, _^_}
+use lib.Dec.{eqb, ltb, leb}
+use lib.ListN.{length, getD, drop}
+use Rattle.masks.specs.Limits.{maxArity, maxMasks}
+use Rattle.masks.specs.Lists.{any}
+use Rattle.book.specs.Limits.{maxPredicates, maxClauses, maxSubgoals}
+use Rattle.book.specs.Book.{Call, Mode, Clause, Book}
+use Rattle.book.specs.declared.fault.Fault.{Fault}
+use Rattle.book.specs.declared.fault.Fault.the-variants.{PastEnd, NoMark, OutOfTurn, OutOfRange, TooMany, Conflict}
+use Rattle.book.specs.declared.mark.Mark.{Mark}
+use Rattle.book.specs.declared.mark.Mark.the-variants.{Pr, Mo, Cl, Sg, Qu, Other, Half, End}
+use Rattle.book.specs.declared.mark.Phase.{Phase}
+use Rattle.book.specs.declared.mark.Phase.the-variants.{Predicates, Modes, Clauses, Body, Query}
+use Rattle.book.specs.declared.mark.Turn.{Turn}
+use Rattle.book.specs.declared.mark.Turn.the-variants.{Mine, Over, No}
+use Rattle.book.specs.declared.range.Range.{Range}
+use Rattle.book.specs.declared.range.Range.the-variants.{Below, AtMost, Argument, HeadArgument}
+
+-- ---- "The value": what comes of a fault
+
+-- "No.": the number of the reply
+abbrev pub number : Fault → ℕ
+number PastEnd = 1
+number NoMark = 2
+number OutOfTurn = 3
+number OutOfRange = 4
+number TooMany = 5
+number Conflict = 6
+
+-- "offset of the record": of a fault, the bytes left from the record on and those left from the byte at fault on, the place's
+abbrev pub placed : Fault → ℕ → ℕ → ℕ
+placed f record· byte· = record·
+
+-- ---- "each led by a two-byte mark in ASCII"
+
+abbrev pub spelling : Mark → List ℕ
+spelling Pr = 80 ∷ 82 ∷ []
+spelling Mo = 77 ∷ 79 ∷ []
+spelling Cl = 67 ∷ 76 ∷ []
+spelling Sg = 83 ∷ 71 ∷ []
+spelling Qu = 81 ∷ 85 ∷ []
+spelling Other = []
+spelling Half = []
+spelling End = []
+
+-- the bytes begin with the two of m
+abbrev pub leads : List ℕ → List ℕ → Bool
+leads m [] = false
+leads m (x ∷ []) = false
+leads m (x ∷ y ∷ s) = eqb x (getD m 0 0) && eqb y (getD m 1 0)
+
+-- two bytes that are no mark, one byte, or none
+abbrev pub unmarked : List ℕ → Mark
+unmarked [] = End
+unmarked (x ∷ []) = Half
+unmarked (x ∷ y ∷ s) = Other
+
+-- what the bytes begin with
+unfoldable pub markAt : List ℕ → Mark
+markAt s =
+    cond (leads (spelling Pr) s) Pr
+    (cond (leads (spelling Mo) s) Mo
+    (cond (leads (spelling Cl) s) Cl
+    (cond (leads (spelling Sg) s) Sg
+    (cond (leads (spelling Qu) s) Qu (unmarked s)))))
+
+-- ---- "Turn: all PR, then all MO, then clauses, then one QU; SG only after CL, QU or SG."
+
+-- "both bytes of the mark present (1), known (2)"; the turn of a mark that is, or of the end, stands in a table
+abbrev pub column : Mark → Turn → Turn → Turn → Turn → Turn → Turn → Turn
+column Pr pr mo cl sg qu end = pr
+column Mo pr mo cl sg qu end = mo
+column Cl pr mo cl sg qu end = cl
+column Sg pr mo cl sg qu end = sg
+column Qu pr mo cl sg qu end = qu
+column End pr mo cl sg qu end = end
+column Other pr mo cl sg qu end = No NoMark
+column Half pr mo cl sg qu end = No PastEnd
+
+-- "3: a mark is out of turn, or the book ends without QU"
+abbrev pub no : Turn
+no = No OutOfTurn
+
+-- for each run of records, what PR, MO, CL, SG, QU and the end of the bytes mean there
+abbrev pub turn : Phase → Mark → Turn
+turn Predicates m = column m Mine Over Over no Over no
+turn Modes m = column m no Mine Over no Over no
+turn Clauses m = column m no no Mine no Over no
+turn Body m = column m no no Over Mine Over no
+turn Query m = column m no no no Mine no Over
+
+-- ---- "4: a byte is out of its range: arity, predicate, n, mask, argument"
+
+-- "0 to 15 is a variable .., 255 a literal, 254 a wildcard (subgoals only)"
+unfoldable pub within : Range → ℕ → Bool
+within (Below n) x = ltb x n
+within (AtMost n) x = leb x n
+within Argument x = leb x 15 || (eqb x 254 || eqb x 255)
+within HeadArgument x = leb x 15 || eqb x 255
+
+-- ---- reading
+
+-- what reading comes to: a fault and how many bytes are left from its place on, or a value and the bytes left after it
+pub data Got (A : Type 0) : Type 0 where
+  bad : Fault → ℕ → Got A
+  got : A → List ℕ → Got A
+
+-- "the first fault found is given"
+abbrev pub andThen : {A B : Type 0} → Got A → (A → List ℕ → Got B) → Got B
+andThen (bad f k) next = bad f k
+andThen (got a s) next = next a s
+
+-- "byte by byte from the left, present (1) before in range (4)"
+abbrev pub byte : Range → List ℕ → Got ℕ
+byte r [] = bad PastEnd 0
+byte r (x ∷ s) = cond (within r x) (got x s) (bad OutOfRange (suc (length s)))
+
+-- k bytes, after those of acc
+unfoldable pub bytes : Range → ℕ → List ℕ → List ℕ → Got (List ℕ)
+bytes r zero acc s = got acc s
+bytes r (suc k) acc s = andThen (byte r s) (λ x t. bytes r k (acc ++ (x ∷ [])) t)
+
+-- the fields of the record at s: a fault of theirs is given its place
+abbrev pub inRecord : {A : Type 0} → List ℕ → Got A → Got A
+inRecord s (bad f k) = bad f (placed f (length s) k)
+inRecord s (got a t) = got a t
+
+-- a record of the run, its end, or a fault
+abbrev pub onTurn : {A : Type 0} → Turn → Got (List A) → List A → List ℕ → Got (List A)
+onTurn Mine more acc s = more
+onTurn Over more acc s = got acc s
+onTurn (No f) more acc s = bad f (placed f (length s) (length s))
+
+-- "in turn (3), not one too many (5)": a run of records, at most `room` of them, after those of acc
+unfoldable pub many : {A : Type 0} → Phase → (List A → List ℕ → Got A) → ℕ → List A → List ℕ → Got (List A)
+many p item zero acc s = onTurn (turn p (markAt s)) (bad TooMany (placed TooMany (length s) (length s))) acc s
+many p item (suc room) acc s =
+    let more = andThen (item acc s) (λ a t. many p item room (acc ++ (a ∷ [])) t) in
+    onTurn (turn p (markAt s)) more acc s
+
+-- ---- the records; those before are acc
+
+-- "PR: arity"
+unfoldable pub predicate : List ℕ → List ℕ → Got ℕ
+predicate acc s = inRecord s (byte (AtMost maxArity) (drop 2 s))
+
+-- "MO: predicate, n, n masks", and "MO records rise strictly by predicate": the least predicate that the next may name
+unfoldable pub lowFrom : ℕ → List Mode → ℕ
+lowFrom b [] = b
+lowFrom b (m ∷ ms) = lowFrom (suc (m .pred)) ms
+
+abbrev pub low : List Mode → ℕ
+low ms = lowFrom 0 ms
+
+-- "6: MO not rising", tried last
+unfoldable pub modeFields : List ℕ → ℕ → List ℕ → Got Mode
+modeFields ar b s =
+    andThen (byte (Below (length ar)) s) (λ p t.
+    andThen (byte (AtMost maxMasks) t) (λ n u.
+    andThen (bytes (Below (2 ^ getD ar p 0)) n [] u) (λ masks v.
+    cond (leb b p) (got (record { pred = p; masks = masks }) v) (bad Conflict (length s)))))
+
+unfoldable pub mode : List ℕ → List Mode → List ℕ → Got Mode
+mode ar acc s = inRecord s (modeFields ar (low acc) (drop 2 s))
+
+-- "predicate, one argument per position"
+unfoldable pub call : Range → List ℕ → List ℕ → Got Call
+call r ar s =
+    andThen (byte (Below (length ar)) s) (λ p t.
+    andThen (bytes r (getD ar p 0) [] t) (λ args u.
+    got (record { pred = p; args = args }) u))
+
+-- "SG: the next subgoal of the clause or query just begun"
+unfoldable pub subgoal : List ℕ → List Call → List ℕ → Got Call
+subgoal ar acc s = inRecord s (call Argument ar (drop 2 s))
+
+unfoldable pub hasMode : List Mode → ℕ → Bool
+hasMode ms p = any (λ (m : Mode). eqb (m .pred) p) ms
+
+-- "6: CL for a predicate that has MO", tried last
+unfoldable pub headFields : List ℕ → List Mode → List ℕ → Got Call
+headFields ar ms s =
+    andThen (call HeadArgument ar s) (λ h t.
+    cond (hasMode ms (h .pred)) (bad Conflict (length s)) (got h t))
+
+-- "CL: a clause head", and the subgoals of the clause
+unfoldable pub clause : List ℕ → List Mode → List Clause → List ℕ → Got Clause
+clause ar ms acc s =
+    andThen (inRecord s (headFields ar ms (drop 2 s))) (λ h t.
+    andThen (many Body (subgoal ar) maxSubgoals [] t) (λ body u.
+    got (record { head = h; body = body }) u))
+
+-- ---- the book
+
+-- MO records rise, so there are never more than predicates: the one that could be too many is refused for another fault. The clauses end at QU,
+-- whose two bytes are dropped.
+unfoldable pub readBook : List ℕ → Got Book
+readBook s =
+    andThen (many Predicates predicate maxPredicates [] s) (λ ar t.
+    andThen (many Modes (mode ar) (suc maxPredicates) [] t) (λ ms u.
+    andThen (many Clauses (clause ar ms) maxClauses [] u) (λ cs v.
+    andThen (many Query (subgoal ar) maxSubgoals [] (drop 2 v)) (λ q w.
+    got (record { arities = ar; modes = ms; clauses = cs; query = q }) w))))
+
+-- a fault and its offset, or the book
+pub data Judged : Type 0 where
+  fault : Fault → ℕ → Judged
+  book : Book → Judged
+
+abbrev pub judged : List ℕ → Got Book → Judged
+judged s (bad f k) = fault f (length s - k)
+judged s (got b t) = book b
+
+-- "Records are judged from the left and the first fault found is given."
+unfoldable pub judge : List ℕ → Judged
+judge s = judged s (readBook s)

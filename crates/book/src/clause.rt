@@ -1,0 +1,103 @@
+// Clauses: by value, and in the array that holds those of a book.
+use crate::limits::CALL_SIZE;
+use crate::limits::CLAUSE_SIZE;
+use crate::limits::MAX_SUBGOALS;
+use crate::limits::RULES_SIZE;
+ghost use mathlib.Core.Path.{_≡_};
+ghost use Prim.Native.Nat.{_+_, _≤_};
+ghost use Rattle.book.specs.Limits.{maxClauses};
+ghost use Rattle.book.specs.Held.{callOf, clauseOf, callSize, callIn, window, StoredCall, rulesSize, clauseAt, StoredClause};
+
+// A subgoal, or the head of a clause: a predicate and its arguments, the first n of the array.
+pub struct Call {
+    pub pred: u8,
+    pub n: u8,
+    pub args: [u8; 6],
+}
+
+// The head of a clause, and its subgoals: the first n of the array.
+pub struct Clause {
+    pub n: u8,
+    pub head: Call,
+    pub body: [Call; MAX_SUBGOALS],
+}
+
+// Clause k of an array.
+pub fn clause_at(rules: &[u8; RULES_SIZE], k: usize) -> Clause
+    requires { ⌜ k ≤ maxClauses ⌝ }
+    ensures { λ r. ⌜ clauseOf r ≡ clauseAt (now (rules .entry)) k ⌝ }
+{
+    let at = k * CLAUSE_SIZE;
+    let none = no_call();
+    let mut body = [none; MAX_SUBGOALS];
+    let mut j: usize = 0;
+    while j < MAX_SUBGOALS {
+        let c = call_at(rules, at + 9 + j * CALL_SIZE);
+        body[j] = c;
+        j += 1;
+    }
+    let head = call_at(rules, at + 1);
+    Clause {
+        n: rules[at],
+        head,
+        body,
+    }
+}
+
+// Makes clause k of an array this one.
+pub fn put_clause(rules: &mut [u8; RULES_SIZE], k: usize, c: Clause)
+    requires { ⌜ k ≤ maxClauses ⌝ }
+    ensures { λ _. ⌜ StoredClause (now (rules .entry)) (now (rules .exit)) k (clauseOf c) ⌝ }
+{
+    let at = k * CLAUSE_SIZE;
+    rules[at] = c.n;
+    let head = c.head;
+    put_call(rules, at + 1, head);
+    let mut j: usize = 0;
+    while j < MAX_SUBGOALS {
+        let call = c.body[j];
+        put_call(rules, at + 9 + j * CALL_SIZE, call);
+        j += 1;
+    }
+}
+
+// A call that says nothing.
+pub fn no_call() -> Call {
+    Call {
+        pred: 0,
+        n: 0,
+        args: [0u8; 6],
+    }
+}
+
+// The call whose bytes begin at a place.
+fn call_at(rules: &[u8; RULES_SIZE], at: usize) -> Call
+    requires { ⌜ at + callSize ≤ rulesSize ⌝ }
+    ensures { λ r. ⌜ callOf r ≡ callIn (window at callSize (now (rules .entry))) ⌝ }
+{
+    let mut args = [0u8; 6];
+    let mut i: usize = 0;
+    while i < 6 {
+        args[i] = rules[at + 2 + i];
+        i += 1;
+    }
+    Call {
+        pred: rules[at],
+        n: rules[at + 1],
+        args,
+    }
+}
+
+// Stores the bytes of a call from a place on.
+fn put_call(rules: &mut [u8; RULES_SIZE], at: usize, c: Call)
+    requires { ⌜ at + callSize ≤ rulesSize ⌝ }
+    ensures { λ _. ⌜ StoredCall (now (rules .entry)) (now (rules .exit)) at (callOf c) ⌝ }
+{
+    rules[at] = c.pred;
+    rules[at + 1] = c.n;
+    let mut i: usize = 0;
+    while i < 6 {
+        rules[at + 2 + i] = c.args[i];
+        i += 1;
+    }
+}

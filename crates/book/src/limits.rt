@@ -1,0 +1,23 @@
+// The numbers of document 01, "Numbers", that a book keeps to, and the sizes that follow for the arrays that hold one. The arity's and the
+// alternatives' limits are in `masks::limits`.
+pub const MAX_PREDICATES: usize = 64;
+
+pub const MAX_CLAUSES: usize = 64;
+
+// In a body or query.
+pub const MAX_SUBGOALS: usize = 8;
+
+// What a predicate takes among the modes: whether it has `MO`, the number of its masks, and 20 masks.
+pub const MODE_SIZE: usize = 22;
+
+// The modes of 64 predicates.
+pub const MODES_SIZE: usize = 1408;
+
+// What a call takes: its predicate, the number of its arguments, and six arguments.
+pub const CALL_SIZE: usize = 8;
+
+// What a clause takes: the number of its subgoals, its head, and eight subgoals.
+pub const CLAUSE_SIZE: usize = 73;
+
+// The room of 64 clauses and of the query, which stands after them.
+pub const RULES_SIZE: usize = 4745;
