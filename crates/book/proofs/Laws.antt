@@ -1,1 +1,6 @@
--- Laws
+-- The laws of this crate's definitions, for its own proofs and for the crates above.
+pub mod Marks
+pub mod Got
+pub mod Trip
+pub mod Bound
+pub mod Examples

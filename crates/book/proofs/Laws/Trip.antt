@@ -1,0 +1,342 @@
+-- ROUND TRIP. The bytes of a well-formed book are judged to be that book, and bytes that are judged to be a book are its bytes, and it is well
+-- formed: record by record, both ways, by the laws of reading. Assumes nothing.
+use mathlib.Core.Path.{_≡_, refl, sym, ap, _∙_, subst}
+use mathlib.Core.Logic.{⊎-elim}
+use mathlib.Core.Bool.{Bool, true, false, not, cond, _&&_}
+use mathlib.Core.List.{List, [], _∷_, _++_, append-assoc, append-nil}
+use Prim.Native.Nat.{ℕ, suc, _+_, _^_, _≤_, _<_}
+use native.Mathlib.Omega.{arith}
+use lib.Dec.{eqb, leb}
+use lib.ListN.{length, getD, drop}
+use borrow.Author.Tests.{eqb-true, eq-eqb, leb-true, le-leb, ltb-true}
+use Rattle.masks.specs.Limits.{maxArity, maxMasks}
+use Rattle.masks.specs.Lists.{all}
+use Rattle.masks.proofs.Laws.Logic.{byBool, and-intro, and-left, and-right, not-elim}
+use Rattle.book.specs.Limits.{maxPredicates, maxClauses, maxSubgoals}
+use Rattle.book.specs.Book.{Call, Mode, Clause, Book}
+use Rattle.book.specs.Format.{Got, bad, got, andThen, inRecord, byte, bytes, many, turn, markAt, within, lowFrom, low, hasMode, spelling, call, predicate, modeFields, mode, subgoal, headFields, clause, readBook, fault, book, judged, judge}
+use Rattle.book.specs.Encode.{run, encPredicate, encMode, encCall, encSubgoal, encClause, encode, callFits, modeFits, rises, clauseFits, WellFormed}
+use Rattle.book.specs.declared.fault.Fault.the-variants.{Conflict}
+use Rattle.book.specs.declared.mark.Mark.the-variants.{Pr, Mo, Cl, Sg, Qu}
+use Rattle.book.specs.declared.mark.Phase.the-variants.{Predicates, Modes, Clauses, Body, Query}
+use Rattle.book.specs.declared.mark.Turn.the-variants.{Mine, Over}
+use Rattle.book.specs.declared.range.Range.{Range}
+use Rattle.book.specs.declared.range.Range.the-variants.{Below, AtMost, Argument, HeadArgument}
+use Rattle.book.proofs.Laws.Marks.{mine-leads, mine-starts, clauses-over-starts, query-over-ends, clause-ends, clauses-end}
+use Rattle.book.proofs.Laws.Got.{then-inv, then-got, record-inv, record-got, test-inv, untest-inv, carry, byte-inv, byte-got, bytes-got, bytes-inv, Each, Follows, each-all, all-each, many-got, many-inv}
+
+-- ---- a call
+
+module _ (r : Range) (ar : List ℕ) (c : Call) where
+  pub call-known : callFits r ar c ≡ true → within (Below (length ar)) (c .pred) ≡ true
+  call-known t = and-left (within (Below (length ar)) (c .pred)) (eqb (length (c .args)) (getD ar (c .pred) 0) && all (within r) (c .args)) t
+
+  pub call-size : callFits r ar c ≡ true → length (c .args) ≡ getD ar (c .pred) 0
+  call-size t =
+      eqb-true (length (c .args)) (getD ar (c .pred) 0)
+      (and-left (eqb (length (c .args)) (getD ar (c .pred) 0)) (all (within r) (c .args))
+      (and-right (within (Below (length ar)) (c .pred)) (eqb (length (c .args)) (getD ar (c .pred) 0) && all (within r) (c .args)) t))
+
+  call-range : callFits r ar c ≡ true → all (within r) (c .args) ≡ true
+  call-range t =
+      and-right (eqb (length (c .args)) (getD ar (c .pred) 0)) (all (within r) (c .args))
+      (and-right (within (Below (length ar)) (c .pred)) (eqb (length (c .args)) (getD ar (c .pred) 0) && all (within r) (c .args)) t)
+
+  pub call-got : (s : List ℕ) → callFits r ar c ≡ true → call r ar (encCall c ++ s) ≡ got c s
+  unfolding call
+  call-got s t = rw (byte-got (Below (length ar)) (c .pred) (c .args ++ s) (call-known t), ← call-size t, bytes-got r (c .args) [] s (call-range t))
+
+pub call-inv : (r : Range) (ar s : List ℕ) (c : Call) (t : List ℕ) → call r ar s ≡ got c t → (s ≡ encCall c ++ t) × (callFits r ar c ≡ true)
+unfolding call
+call-inv r ar s c t e =
+    let w = then-inv (byte (Below (length ar)) s) (λ p u. andThen (bytes r (getD ar p 0) [] u) (λ args v. got (record { pred = p; args = args }) v)) e in
+    let b = byte-inv (Below (length ar)) s (w .2) in
+    let v = then-inv (bytes r (getD ar (w .0) 0) [] (w .1)) (λ args u. got (record { pred = w .0; args = args }) u) (w .3) in
+    let n = bytes-inv r (getD ar (w .0) 0) (w .1) (v .2) in
+    carry (λ (x : Call) (q : List ℕ). (s ≡ encCall x ++ q) × (callFits r ar x ≡ true)) (v .3) (
+      b .0 ∙ ap (λ (l : List ℕ). w .0 ∷ l) (n .1),
+      and-intro (b .1) (and-intro (eq-eqb _ _ (n .0)) (n .2)),
+    )
+
+-- ---- a predicate
+
+abbrev pub PredicateFits : List ℕ → ℕ → Type 0
+PredicateFits acc a = within (AtMost maxArity) a ≡ true
+
+predicate-got : (acc : List ℕ) (a : ℕ) (r : List ℕ) → PredicateFits acc a → predicate acc (encPredicate a ++ r) ≡ got a r
+unfolding predicate
+predicate-got acc a r h = record-got (encPredicate a ++ r) (byte-got (AtMost maxArity) a r h)
+
+pub predicate-inv : (acc s : List ℕ) (a : ℕ) (r : List ℕ) → turn Predicates (markAt s) ≡ Mine → predicate acc s ≡ got a r → (s ≡ encPredicate a ++ r) × PredicateFits acc a
+unfolding predicate
+predicate-inv acc s a r t e =
+    let b = byte-inv (AtMost maxArity) (drop 2 s) (record-inv s (byte (AtMost maxArity) (drop 2 s)) e) in
+    (mine-starts Predicates s t ∙ ap (λ (l : List ℕ). spelling Pr ++ l) (b .0), b .1)
+
+-- ---- a subgoal
+
+abbrev pub SubgoalFits : List ℕ → List Call → Call → Type 0
+SubgoalFits ar acc c = callFits Argument ar c ≡ true
+
+subgoal-got : (ar : List ℕ) (acc : List Call) (c : Call) (r : List ℕ) → SubgoalFits ar acc c → subgoal ar acc (encSubgoal c ++ r) ≡ got c r
+unfolding subgoal
+subgoal-got ar acc c r h = record-got (encSubgoal c ++ r) (call-got Argument ar c r h)
+
+subgoal-from : (ar : List ℕ) (acc : List Call) (s : List ℕ) (c : Call) (r : List ℕ) → s ≡ spelling Sg ++ drop 2 s → subgoal ar acc s ≡ got c r → (s ≡ encSubgoal c ++ r) × SubgoalFits ar acc c
+unfolding subgoal
+subgoal-from ar acc s c r t e =
+    let b = call-inv Argument ar (drop 2 s) c r (record-inv s (call Argument ar (drop 2 s)) e) in
+    (t ∙ ap (λ (l : List ℕ). spelling Sg ++ l) (b .0), b .1)
+
+pub body-inv : (ar : List ℕ) (acc : List Call) (s : List ℕ) (c : Call) (r : List ℕ) → turn Body (markAt s) ≡ Mine → subgoal ar acc s ≡ got c r → (s ≡ encSubgoal c ++ r) × SubgoalFits ar acc c
+body-inv ar acc s c r t e = subgoal-from ar acc s c r (mine-starts Body s t) e
+
+pub query-inv : (ar : List ℕ) (acc : List Call) (s : List ℕ) (c : Call) (r : List ℕ) → turn Query (markAt s) ≡ Mine → subgoal ar acc s ≡ got c r → (s ≡ encSubgoal c ++ r) × SubgoalFits ar acc c
+query-inv ar acc s c r t e = subgoal-from ar acc s c r (mine-starts Query s t) e
+
+-- ---- a mode
+
+abbrev pub ModeFits : List ℕ → List Mode → Mode → Type 0
+ModeFits ar acc m = (modeFits ar m ≡ true) × (leb (low acc) (m .pred) ≡ true)
+
+module _ (ar : List ℕ) (m : Mode) (t : modeFits ar m ≡ true) where
+  fields : (within (AtMost maxMasks) (length (m .masks)) && all (within (Below (2 ^ getD ar (m .pred) 0))) (m .masks)) ≡ true
+  fields = and-right (within (Below (length ar)) (m .pred)) (within (AtMost maxMasks) (length (m .masks)) && all (within (Below (2 ^ getD ar (m .pred) 0))) (m .masks)) t
+
+  pub mode-known : within (Below (length ar)) (m .pred) ≡ true
+  mode-known = and-left (within (Below (length ar)) (m .pred)) (within (AtMost maxMasks) (length (m .masks)) && all (within (Below (2 ^ getD ar (m .pred) 0))) (m .masks)) t
+
+  pub mode-few : within (AtMost maxMasks) (length (m .masks)) ≡ true
+  mode-few = and-left (within (AtMost maxMasks) (length (m .masks))) (all (within (Below (2 ^ getD ar (m .pred) 0))) (m .masks)) fields
+
+  mode-range : all (within (Below (2 ^ getD ar (m .pred) 0))) (m .masks) ≡ true
+  mode-range = and-right (within (AtMost maxMasks) (length (m .masks))) (all (within (Below (2 ^ getD ar (m .pred) 0))) (m .masks)) fields
+
+mode-got : (ar : List ℕ) (acc : List Mode) (m : Mode) (r : List ℕ) → ModeFits ar acc m → mode ar acc (encMode m ++ r) ≡ got m r
+unfolding mode modeFields
+mode-got ar acc m r h =
+    record-got (encMode m ++ r)
+    {g = modeFields ar (low acc) (m .pred ∷ length (m .masks) ∷ (m .masks ++ r))}
+    (rw (
+      byte-got (Below (length ar)) (m .pred) (length (m .masks) ∷ (m .masks ++ r)) (mode-known ar m (h .0)),
+      byte-got (AtMost maxMasks) (length (m .masks)) (m .masks ++ r) (mode-few ar m (h .0)),
+      bytes-got (Below (2 ^ getD ar (m .pred) 0)) (m .masks) [] r (mode-range ar m (h .0)),
+      h .1,
+    ))
+
+pub mode-inv : (ar : List ℕ) (acc : List Mode) (s : List ℕ) (m : Mode) (r : List ℕ) → turn Modes (markAt s) ≡ Mine → mode ar acc s ≡ got m r → (s ≡ encMode m ++ r) × ModeFits ar acc m
+unfolding mode modeFields
+mode-inv ar acc s m r t e =
+    let d = drop 2 s in
+    let b = low acc in
+    let last : ℕ → List ℕ → List ℕ → Got Mode = λ p masks v. cond (leb b p) (got (record { pred = p; masks = masks }) v) (bad Conflict (length d)) in
+    let f = record-inv s (modeFields ar b d) e in
+    let w = then-inv (byte (Below (length ar)) d) (λ p u. andThen (byte (AtMost maxMasks) u) (λ n v. andThen (bytes (Below (2 ^ getD ar p 0)) n [] v) (last p))) f in
+    let p = w .0 in
+    let x = byte-inv (Below (length ar)) d (w .2) in
+    let v = then-inv (byte (AtMost maxMasks) (w .1)) (λ n u. andThen (bytes (Below (2 ^ getD ar p 0)) n [] u) (last p)) (w .3) in
+    let y = byte-inv (AtMost maxMasks) (w .1) (v .2) in
+    let u = then-inv (bytes (Below (2 ^ getD ar p 0)) (v .0) [] (v .1)) (last p) (v .3) in
+    let masks = u .0 in
+    let z = bytes-inv (Below (2 ^ getD ar p 0)) (v .0) (v .1) (u .2) in
+    let g = test-inv (leb b p) (record { pred = p; masks = masks }) (u .1) Conflict (length d) (u .3) in
+    let few : within (AtMost maxMasks) (length masks) ≡ true = rw (z .0) (y .1) in
+    let n : v .0 ∷ (masks ++ u .1) ≡ length masks ∷ (masks ++ u .1) = ap (λ (k : ℕ). k ∷ (masks ++ u .1)) (sym (z .0)) in
+    carry (λ (k : Mode) (l : List ℕ). (s ≡ encMode k ++ l) × ModeFits ar acc k) (g .1) (
+      mine-starts Modes s t ∙ ap (λ (l : List ℕ). spelling Mo ++ l) (x .0 ∙ ap (λ (l : List ℕ). p ∷ l) (y .0 ∙ (ap (λ (l : List ℕ). v .0 ∷ l) (z .1) ∙ n))),
+      (and-intro (x .1) (and-intro few (z .2)), g .0),
+    )
+
+-- ---- a clause
+
+abbrev pub ClauseFits : List ℕ → List Mode → List Clause → Clause → Type 0
+ClauseFits ar ms acc c = clauseFits ar ms c ≡ true
+
+module _ (ar : List ℕ) (ms : List Mode) (c : Clause) (t : clauseFits ar ms c ≡ true) where
+  abbrev goals : Bool
+  goals = leb (length (c .body)) maxSubgoals && all (callFits Argument ar) (c .body)
+
+  rest : (not (hasMode ms (c .head .pred)) && goals) ≡ true
+  rest = and-right (callFits HeadArgument ar (c .head)) (not (hasMode ms (c .head .pred)) && goals) t
+
+  pub clause-head : callFits HeadArgument ar (c .head) ≡ true
+  clause-head = and-left (callFits HeadArgument ar (c .head)) (not (hasMode ms (c .head .pred)) && goals) t
+
+  pub clause-free : hasMode ms (c .head .pred) ≡ false
+  clause-free =
+      byBool (hasMode ms (c .head .pred)) (not-elim (hasMode ms (c .head .pred)) (and-left (not (hasMode ms (c .head .pred))) goals rest)) (λ f. f)
+
+  pub clause-few : length (c .body) ≤ maxSubgoals
+  clause-few = leb-true _ _ (and-left (leb (length (c .body)) maxSubgoals) (all (callFits Argument ar) (c .body)) (and-right (not (hasMode ms (c .head .pred))) goals rest))
+
+  pub clause-goals : all (callFits Argument ar) (c .body) ≡ true
+  clause-goals = and-right (leb (length (c .body)) maxSubgoals) (all (callFits Argument ar) (c .body)) (and-right (not (hasMode ms (c .head .pred))) goals rest)
+
+clause-got : (ar : List ℕ) (ms : List Mode) (acc : List Clause) (c : Clause) (r : List ℕ) → ClauseFits ar ms acc c → turn Body (markAt r) ≡ Over → clause ar ms acc (encClause c ++ r) ≡ got c r
+unfolding clause headFields
+clause-got ar ms acc c r h o =
+    let rest· = run encSubgoal (c .body) ++ r in
+    let head· : headFields ar ms (encCall (c .head) ++ rest·) ≡ got (c .head) rest· =
+        rw (call-got HeadArgument ar (c .head) rest· (clause-head ar ms c h), clause-free ar ms c h) in
+    let bytes· : headFields ar ms ((encCall (c .head) ++ run encSubgoal (c .body)) ++ r) ≡ got (c .head) rest· =
+        ap (headFields ar ms) (append-assoc (encCall (c .head)) (run encSubgoal (c .body)) r) ∙ head· in
+    then-got _ (record-got (encClause c ++ r) bytes·)
+    ∙ then-got _ (many-got Body (subgoal ar) (SubgoalFits ar) encSubgoal (λ s q. mine-leads Body (encCall s ++ q)) (λ b s q k f. subgoal-got ar b s q k) maxSubgoals [] (c .body) r
+    (clause-few ar ms c h) (all-each (callFits Argument ar) [] (c .body) (clause-goals ar ms c h)) o)
+
+clause-reads : (ar : List ℕ) (ms : List Mode) (acc : List Clause) (c : Clause) (r : List ℕ) → ClauseFits ar ms acc c → Follows Clauses r → clause ar ms acc (encClause c ++ r) ≡ got c r
+clause-reads ar ms acc c r h f = clause-got ar ms acc c r h (⊎-elim (clause-ends (markAt r)) (clauses-end (markAt r)) f)
+
+head-inv : (ar : List ℕ) (ms : List Mode) (s : List ℕ) (h : Call) (r : List ℕ) → headFields ar ms s ≡ got h r
+    → (s ≡ encCall h ++ r) × (callFits HeadArgument ar h ≡ true) × (hasMode ms (h .pred) ≡ false)
+unfolding headFields
+head-inv ar ms s h r e =
+    let w = then-inv (call HeadArgument ar s) (λ k q. cond (hasMode ms (k .pred)) (bad Conflict (length s)) (got k q)) e in
+    let x = untest-inv (hasMode ms (w .0 .pred)) (w .0) (w .1) Conflict (length s) (w .3) in
+    let b = call-inv HeadArgument ar s (w .0) (w .1) (w .2) in
+    carry (λ (y : Call) (l : List ℕ). (s ≡ encCall y ++ l) × (callFits HeadArgument ar y ≡ true) × (hasMode ms (y .pred) ≡ false)) (x .1) (b .0, b .1, x .0)
+
+pub clause-inv : (ar : List ℕ) (ms : List Mode) (acc : List Clause) (s : List ℕ) (c : Clause) (r : List ℕ) → turn Clauses (markAt s) ≡ Mine → clause ar ms acc s ≡ got c r → (s ≡ encClause c ++ r) × ClauseFits ar ms acc c
+unfolding clause
+clause-inv ar ms acc s c r t e =
+    let made : Call → List Call → List ℕ → Got Clause = λ h body u. got (record { head = h; body = body }) u in
+    let w = then-inv (inRecord s (headFields ar ms (drop 2 s))) (λ h q. andThen (many Body (subgoal ar) maxSubgoals [] q) (made h)) e in
+    let h = w .0 in
+    let v = then-inv (many Body (subgoal ar) maxSubgoals [] (w .1)) (made h) (w .3) in
+    let b = head-inv ar ms (drop 2 s) h (w .1) (record-inv s (headFields ar ms (drop 2 s)) (w .2)) in
+    let n = many-inv Body (subgoal ar) (SubgoalFits ar) encSubgoal (body-inv ar) maxSubgoals (w .1) (v .0) (v .1) (v .2) in
+    let free : not (hasMode ms (h .pred)) ≡ true = rw (b .2) in
+    let bytes· : drop 2 s ≡ (encCall h ++ run encSubgoal (v .0)) ++ v .1 = b .0 ∙ (ap (λ (l : List ℕ). encCall h ++ l) (n .from) ∙ sym (append-assoc (encCall h) (run encSubgoal (v .0)) (v .1))) in
+    carry (λ (x : Clause) (l : List ℕ). (s ≡ encClause x ++ l) × ClauseFits ar ms acc x) (v .3) (
+      mine-starts Clauses s t ∙ ap (λ (l : List ℕ). spelling Cl ++ l) bytes·,
+      and-intro (b .1) (and-intro free (and-intro (le-leb _ _ (n .few)) (each-all (callFits Argument ar) [] (v .0) (n .good)))),
+    )
+
+-- ---- MO records rise
+
+pub low-last : (b : ℕ) (acc : List Mode) (m : Mode) → lowFrom b (acc ++ (m ∷ [])) ≡ suc (m .pred)
+unfolding lowFrom
+low-last b [] m = refl
+low-last b (x ∷ acc) m = low-last (suc (x .pred)) acc m
+
+module _ (ar : List ℕ) where
+  modes-each : (acc ms : List Mode) → all (modeFits ar) ms ≡ true → rises (low acc) ms ≡ true → Each (ModeFits ar) acc ms
+  modes-each acc [] t u = tt
+  modes-each acc (m ∷ ms) t u =
+      let r : rises (low (acc ++ (m ∷ []))) ms ≡ true = rw (low-last 0 acc m) (and-right (leb (low acc) (m .pred)) (rises (suc (m .pred)) ms) u) in
+      (
+        (and-left (modeFits ar m) (all (modeFits ar) ms) t, and-left (leb (low acc) (m .pred)) (rises (suc (m .pred)) ms) u),
+        modes-each (acc ++ (m ∷ [])) ms (and-right (modeFits ar m) (all (modeFits ar) ms) t) r,
+      )
+
+  each-modes : (acc ms : List Mode) → Each (ModeFits ar) acc ms → (all (modeFits ar) ms ≡ true) × (rises (low acc) ms ≡ true)
+  each-modes acc [] t = (refl, refl)
+  each-modes acc (m ∷ ms) t =
+      let r = each-modes (acc ++ (m ∷ [])) ms (t .1) in
+      let u : rises (suc (m .pred)) ms ≡ true = rw (low-last 0 acc m) at (r .1) in
+      (and-intro (t .0 .0) (r .0), and-intro (t .0 .1) u)
+
+  -- so there are no more of them than predicates
+  pub rising : (b : ℕ) (ms : List Mode) → b ≤ length ar → all (modeFits ar) ms ≡ true → rises b ms ≡ true → b + length ms ≤ length ar
+  unfolding within
+  rising b [] h t u = omega arith
+  rising b (m ∷ ms) h t u =
+      let k : m .pred < length ar = ltb-true _ _ (mode-known ar m (and-left (modeFits ar m) (all (modeFits ar) ms) t)) in
+      let l : b ≤ m .pred = leb-true _ _ (and-left (leb b (m .pred)) (rises (suc (m .pred)) ms) u) in
+      let r = rising (suc (m .pred)) ms k (and-right (modeFits ar m) (all (modeFits ar) ms) t) (and-right (leb b (m .pred)) (rises (suc (m .pred)) ms) u) in
+      omega arith
+
+-- ---- what may follow a run
+
+module _ (q : List Call) where
+  abbrev asks : List ℕ
+  asks = spelling Qu ++ run encSubgoal q
+
+  over-clauses : turn Clauses (markAt asks) ≡ Over
+  unfolding markAt
+  over-clauses = refl
+
+  over-modes : (cs : List Clause) → turn Modes (markAt (run encClause cs ++ asks)) ≡ Over
+  unfolding markAt
+  over-modes [] = refl
+  over-modes (c ∷ cs) = refl
+
+  over-predicates : (ms : List Mode) (cs : List Clause) → turn Predicates (markAt (run encMode ms ++ (run encClause cs ++ asks))) ≡ Over
+  unfolding markAt
+  over-predicates [] [] = refl
+  over-predicates [] (c ∷ cs) = refl
+  over-predicates (m ∷ ms) cs = refl
+
+over-query : turn Query (markAt []) ≡ Over
+unfolding markAt
+over-query = refl
+
+-- ---- the book
+
+read-got : (b : Book) → WellFormed b → readBook (encode b) ≡ got b []
+unfolding readBook encode lowFrom
+read-got b w =
+    let ar = b .arities in
+    let ms = b .modes in
+    let cs = b .clauses in
+    let q = b .query in
+    let few : length ar ≤ maxPredicates = leb-true _ _ (w .fewPredicates) in
+    let fewer : length ms ≤ suc maxPredicates = let r = rising ar 0 ms (omega arith) (w .modesFit) (w .modesRise) in omega arith in
+    then-got _ (many-got Predicates predicate PredicateFits encPredicate (λ a r. mine-leads Predicates (a ∷ r)) (λ acc a r k f. predicate-got acc a r k) maxPredicates [] ar
+    (run encMode ms ++ (run encClause cs ++ asks q)) few (all-each (within (AtMost maxArity)) [] ar (w .aritiesFit)) (over-predicates q ms cs))
+    ∙ then-got _ (many-got Modes (mode ar) (ModeFits ar) encMode (λ m r. mine-leads Modes (m .pred ∷ length (m .masks) ∷ (m .masks ++ r))) (λ acc m r k f. mode-got ar acc m r k)
+    (suc maxPredicates) [] ms (run encClause cs ++ asks q) fewer (modes-each ar [] ms (w .modesFit) (w .modesRise)) (over-modes q cs))
+    ∙ then-got _ (many-got Clauses (clause ar ms) (ClauseFits ar ms) encClause (λ c r. mine-leads Clauses ((encCall (c .head) ++ run encSubgoal (c .body)) ++ r)) (clause-reads ar ms)
+    maxClauses [] cs (asks q) (leb-true _ _ (w .fewClauses)) (all-each (clauseFits ar ms) [] cs (w .clausesFit)) (over-clauses q))
+    ∙ then-got _ (rw append-nil at (many-got Query (subgoal ar) (SubgoalFits ar) encSubgoal (λ c r. mine-leads Query (encCall c ++ r)) (λ acc c r k f. subgoal-got ar acc c r k)
+    maxSubgoals [] q [] (leb-true _ _ (w .fewAsked)) (all-each (callFits Argument ar) [] q (w .queryFits)) over-query))
+
+pub read-inv : (s : List ℕ) (b : Book) (r : List ℕ) → readBook s ≡ got b r → (encode b ≡ s) × WellFormed b
+unfolding readBook encode lowFrom
+read-inv s b r e =
+    let made : List ℕ → List Mode → List Clause → List Call → List ℕ → Got Book = λ ar ms cs q t. got (record { arities = ar; modes = ms; clauses = cs; query = q }) t in
+    let asked : List ℕ → List Mode → List Clause → List ℕ → Got Book = λ ar ms cs t. andThen (many Query (subgoal ar) maxSubgoals [] (drop 2 t)) (made ar ms cs) in
+    let ruled : List ℕ → List Mode → List ℕ → Got Book = λ ar ms t. andThen (many Clauses (clause ar ms) maxClauses [] t) (asked ar ms) in
+    let moded : List ℕ → List ℕ → Got Book = λ ar t. andThen (many Modes (mode ar) (suc maxPredicates) [] t) (ruled ar) in
+    let w1 = then-inv (many Predicates predicate maxPredicates [] s) moded e in
+    let ar = w1 .0 in
+    let w2 = then-inv (many Modes (mode ar) (suc maxPredicates) [] (w1 .1)) (ruled ar) (w1 .3) in
+    let ms = w2 .0 in
+    let w3 = then-inv (many Clauses (clause ar ms) maxClauses [] (w2 .1)) (asked ar ms) (w2 .3) in
+    let cs = w3 .0 in
+    let w4 = then-inv (many Query (subgoal ar) maxSubgoals [] (drop 2 (w3 .1))) (made ar ms cs) (w3 .3) in
+    let q = w4 .0 in
+    let a = many-inv Predicates predicate PredicateFits encPredicate predicate-inv maxPredicates s ar (w1 .1) (w1 .2) in
+    let m = many-inv Modes (mode ar) (ModeFits ar) encMode (mode-inv ar) (suc maxPredicates) (w1 .1) ms (w2 .1) (w2 .2) in
+    let c = many-inv Clauses (clause ar ms) (ClauseFits ar ms) encClause (clause-inv ar ms) maxClauses (w2 .1) cs (w3 .1) (w3 .2) in
+    let u = many-inv Query (subgoal ar) (SubgoalFits ar) encSubgoal (query-inv ar) maxSubgoals (drop 2 (w3 .1)) q (w4 .1) (w4 .2) in
+    let ends : drop 2 (w3 .1) ≡ run encSubgoal q = u .from ∙ (ap (λ (l : List ℕ). run encSubgoal q ++ l) (query-over-ends (w4 .1) (u .over)) ∙ append-nil (run encSubgoal q)) in
+    let query· : w3 .1 ≡ asks q = clauses-over-starts (w3 .1) (c .over) ∙ ap (λ (l : List ℕ). spelling Qu ++ l) ends in
+    let clauses· : w2 .1 ≡ run encClause cs ++ asks q = c .from ∙ ap (λ (l : List ℕ). run encClause cs ++ l) query· in
+    let modes· : w1 .1 ≡ run encMode ms ++ (run encClause cs ++ asks q) = m .from ∙ ap (λ (l : List ℕ). run encMode ms ++ l) clauses· in
+    let f = each-modes ar [] ms (m .good) in
+    carry (λ (x : Book) (l : List ℕ). (encode x ≡ s) × WellFormed x) (w4 .3) (
+      sym (a .from ∙ ap (λ (l : List ℕ). run encPredicate ar ++ l) modes·),
+      record {
+        fewPredicates = le-leb _ _ (a .few);
+        aritiesFit = each-all (within (AtMost maxArity)) [] ar (a .good);
+        modesFit = f .0;
+        modesRise = f .1;
+        fewClauses = le-leb _ _ (c .few);
+        clausesFit = each-all (clauseFits ar ms) [] cs (c .good);
+        fewAsked = le-leb _ _ (u .few);
+        queryFits = each-all (callFits Argument ar) [] q (u .good);
+      },
+    )
+
+pub judge-encode : (b : Book) → WellFormed b → judge (encode b) ≡ book b
+unfolding judge
+judge-encode b w = rw (read-got b w)
+
+pub judge-inv : (s : List ℕ) (b : Book) → judge s ≡ book b → (encode b ≡ s) × WellFormed b
+unfolding judge
+judge-inv s b e = go (readBook s) refl e
+  where
+    go : (g : Got Book) → readBook s ≡ g → judged s g ≡ book b → (encode b ≡ s) × WellFormed b
+    go (bad f k) d c = let z : _≡_ {A = ℕ} 0 1 = cc in absurd (omega arith)
+    go (got x r) d c = let z : x ≡ b = cc in read-inv s b r (d ∙ ap (λ (y : Book). got y r) z)
