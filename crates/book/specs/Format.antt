@@ -157,13 +157,16 @@ lowFrom b (m ∷ ms) = lowFrom (suc (m .pred)) ms
 abbrev pub low : List Mode → ℕ
 low ms = lowFrom 0 ms
 
+-- "n, n masks", each one of so many patterns
+unfoldable pub masks : ℕ → List ℕ → Got (List ℕ)
+masks patterns s = andThen (byte (AtMost maxMasks) s) (λ n t. bytes (Below patterns) n [] t)
+
 -- "6: MO not rising", tried last
 unfoldable pub modeFields : List ℕ → ℕ → List ℕ → Got Mode
 modeFields ar b s =
     andThen (byte (Below (length ar)) s) (λ p t.
-    andThen (byte (AtMost maxMasks) t) (λ n u.
-    andThen (bytes (Below (2 ^ getD ar p 0)) n [] u) (λ masks v.
-    cond (leb b p) (got (record { pred = p; masks = masks }) v) (bad Conflict (length s)))))
+    andThen (masks (2 ^ getD ar p 0) t) (λ ms u.
+    cond (leb b p) (got (record { pred = p; masks = ms }) u) (bad Conflict (length s))))
 
 unfoldable pub mode : List ℕ → List Mode → List ℕ → Got Mode
 mode ar acc s = inRecord s (modeFields ar (low acc) (drop 2 s))

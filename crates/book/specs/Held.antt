@@ -104,7 +104,7 @@ bookIn preds arities modes clauses rules =
     record {
       arities = take preds arities;
       modes = modesOf modes maxPredicates;
-      clauses = clausesOf rules clauses;
+      clauses = clausesOf rules (min clauses maxClauses);
       query = clauseAt rules maxClauses .body;
     }
 

@@ -14,7 +14,7 @@ use Rattle.masks.specs.Lists.{all}
 use Rattle.masks.proofs.Laws.Logic.{byBool, and-intro, and-left, and-right, not-elim}
 use Rattle.book.specs.Limits.{maxPredicates, maxClauses, maxSubgoals}
 use Rattle.book.specs.Book.{Call, Mode, Clause, Book}
-use Rattle.book.specs.Format.{Got, bad, got, andThen, inRecord, byte, bytes, many, turn, markAt, within, lowFrom, low, hasMode, spelling, call, predicate, modeFields, mode, subgoal, headFields, clause, readBook, fault, book, judged, judge}
+use Rattle.book.specs.Format.{Got, bad, got, andThen, inRecord, byte, bytes, many, turn, markAt, within, lowFrom, low, hasMode, spelling, call, predicate, masks, modeFields, mode, subgoal, headFields, clause, readBook, fault, book, judged, judge}
 use Rattle.book.specs.Encode.{run, encPredicate, encMode, encCall, encSubgoal, encClause, encode, callFits, modeFits, rises, clauseFits, WellFormed}
 use Rattle.book.specs.declared.fault.Fault.the-variants.{Conflict}
 use Rattle.book.specs.declared.mark.Mark.the-variants.{Pr, Mo, Cl, Sg, Qu}
@@ -112,39 +112,46 @@ module _ (ar : List ℕ) (m : Mode) (t : modeFits ar m ≡ true) where
   mode-range : all (within (Below (2 ^ getD ar (m .pred) 0))) (m .masks) ≡ true
   mode-range = and-right (within (AtMost maxMasks) (length (m .masks))) (all (within (Below (2 ^ getD ar (m .pred) 0))) (m .masks)) fields
 
+masks-got : (ar : List ℕ) (m : Mode) (r : List ℕ) → modeFits ar m ≡ true → masks (2 ^ getD ar (m .pred) 0) (length (m .masks) ∷ (m .masks ++ r)) ≡ got (m .masks) r
+unfolding masks
+masks-got ar m r t =
+    then-got _ (byte-got (AtMost maxMasks) (length (m .masks)) (m .masks ++ r) (mode-few ar m t))
+    ∙ bytes-got (Below (2 ^ getD ar (m .pred) 0)) (m .masks) [] r (mode-range ar m t)
+
+masks-inv : (k : ℕ) (s ms r : List ℕ) → masks k s ≡ got ms r
+    → (s ≡ length ms ∷ (ms ++ r)) × (within (AtMost maxMasks) (length ms) ≡ true) × (all (within (Below k)) ms ≡ true)
+unfolding masks
+masks-inv k s ms r e =
+    let w = then-inv (byte (AtMost maxMasks) s) (λ n t. bytes (Below k) n [] t) e in
+    let y = byte-inv (AtMost maxMasks) s (w .2) in
+    let z = bytes-inv (Below k) (w .0) (w .1) (w .3) in
+    (
+      y .0 ∙ (ap (λ (l : List ℕ). w .0 ∷ l) (z .1) ∙ ap (λ (n : ℕ). n ∷ (ms ++ r)) (sym (z .0))),
+      ap (within (AtMost maxMasks)) (z .0) ∙ y .1,
+      z .2,
+    )
+
 mode-got : (ar : List ℕ) (acc : List Mode) (m : Mode) (r : List ℕ) → ModeFits ar acc m → mode ar acc (encMode m ++ r) ≡ got m r
 unfolding mode modeFields
 mode-got ar acc m r h =
     record-got (encMode m ++ r)
     {g = modeFields ar (low acc) (m .pred ∷ length (m .masks) ∷ (m .masks ++ r))}
-    (rw (
-      byte-got (Below (length ar)) (m .pred) (length (m .masks) ∷ (m .masks ++ r)) (mode-known ar m (h .0)),
-      byte-got (AtMost maxMasks) (length (m .masks)) (m .masks ++ r) (mode-few ar m (h .0)),
-      bytes-got (Below (2 ^ getD ar (m .pred) 0)) (m .masks) [] r (mode-range ar m (h .0)),
-      h .1,
-    ))
+    (rw (byte-got (Below (length ar)) (m .pred) (length (m .masks) ∷ (m .masks ++ r)) (mode-known ar m (h .0)), masks-got ar m r (h .0), h .1))
 
 pub mode-inv : (ar : List ℕ) (acc : List Mode) (s : List ℕ) (m : Mode) (r : List ℕ) → turn Modes (markAt s) ≡ Mine → mode ar acc s ≡ got m r → (s ≡ encMode m ++ r) × ModeFits ar acc m
 unfolding mode modeFields
 mode-inv ar acc s m r t e =
     let d = drop 2 s in
-    let b = low acc in
-    let last : ℕ → List ℕ → List ℕ → Got Mode = λ p masks v. cond (leb b p) (got (record { pred = p; masks = masks }) v) (bad Conflict (length d)) in
-    let f = record-inv s (modeFields ar b d) e in
-    let w = then-inv (byte (Below (length ar)) d) (λ p u. andThen (byte (AtMost maxMasks) u) (λ n v. andThen (bytes (Below (2 ^ getD ar p 0)) n [] v) (last p))) f in
+    let last : ℕ → List ℕ → List ℕ → Got Mode = λ p ms u. cond (leb (low acc) p) (got (record { pred = p; masks = ms }) u) (bad Conflict (length d)) in
+    let w = then-inv (byte (Below (length ar)) d) (λ p u. andThen (masks (2 ^ getD ar p 0) u) (last p)) (record-inv s (modeFields ar (low acc) d) e) in
     let p = w .0 in
     let x = byte-inv (Below (length ar)) d (w .2) in
-    let v = then-inv (byte (AtMost maxMasks) (w .1)) (λ n u. andThen (bytes (Below (2 ^ getD ar p 0)) n [] u) (last p)) (w .3) in
-    let y = byte-inv (AtMost maxMasks) (w .1) (v .2) in
-    let u = then-inv (bytes (Below (2 ^ getD ar p 0)) (v .0) [] (v .1)) (last p) (v .3) in
-    let masks = u .0 in
-    let z = bytes-inv (Below (2 ^ getD ar p 0)) (v .0) (v .1) (u .2) in
-    let g = test-inv (leb b p) (record { pred = p; masks = masks }) (u .1) Conflict (length d) (u .3) in
-    let few : within (AtMost maxMasks) (length masks) ≡ true = rw (z .0) (y .1) in
-    let n : v .0 ∷ (masks ++ u .1) ≡ length masks ∷ (masks ++ u .1) = ap (λ (k : ℕ). k ∷ (masks ++ u .1)) (sym (z .0)) in
+    let v = then-inv (masks (2 ^ getD ar p 0) (w .1)) (last p) (w .3) in
+    let y = masks-inv (2 ^ getD ar p 0) (w .1) (v .0) (v .1) (v .2) in
+    let g = test-inv (leb (low acc) p) (record { pred = p; masks = v .0 }) (v .1) Conflict (length d) (v .3) in
     carry (λ (k : Mode) (l : List ℕ). (s ≡ encMode k ++ l) × ModeFits ar acc k) (g .1) (
-      mine-starts Modes s t ∙ ap (λ (l : List ℕ). spelling Mo ++ l) (x .0 ∙ ap (λ (l : List ℕ). p ∷ l) (y .0 ∙ (ap (λ (l : List ℕ). v .0 ∷ l) (z .1) ∙ n))),
-      (and-intro (x .1) (and-intro few (z .2)), g .0),
+      mine-starts Modes s t ∙ ap (λ (l : List ℕ). spelling Mo ++ l) (x .0 ∙ ap (λ (l : List ℕ). p ∷ l) (y .0)),
+      (and-intro (x .1) (and-intro (y .1) (y .2)), g .0),
     )
 
 -- ---- a clause
