@@ -7,11 +7,11 @@ use Prim.Native.Nat.{ℕ, zero, suc, _+_, _*_, min, _≤_, _<_}
 use native.Mathlib.Numerals.{add-one}
 use native.Mathlib.Omega.{arith}
 use lib.Dec.{eqb, leb}
-use lib.ListN.{length, getD, take, drop, set, replicate, length-set, length-append, List·getD-append}
+use lib.ListN.{length, getD, take, drop, set, replicate, length-set, length-append, length-map, List·getD-append}
 use lib.Seq.{take-nil, take-suc, take-all, take-append-le, take-set-le, take-suc-set, drop-set-lt, getD-set-same, getD-at}
 use borrow.Author.Tests.{leb-true, leb-false, eq-eqb, ne-eqb}
 use Rattle.masks.specs.Lists.{any}
-use Rattle.masks.proofs.Laws.Logic.{byBool, clash, or-right}
+use Rattle.masks.proofs.Laws.Logic.{byBool}
 use Rattle.masks.proofs.Laws.Lists.{any-append}
 use Rattle.book.specs.Limits.{maxSubgoals}
 use Rattle.book.specs.Book.{Call, Mode, Clause}
@@ -19,7 +19,7 @@ use Rattle.book.specs.Format.{hasMode}
 use Rattle.book.specs.Held.{callOf, clauseOf, window, callSize, callIn, StoredCall, callsIn, clauseSize, clauseIn, clauseAt, clausesOf, StoredClause, modeSize, hasIn, masksIn, modeBytes, modeAt, modesOf, StoredMode}
 use Rattle.book.specs.declared.clause.Call as call
 use Rattle.book.specs.declared.clause.Clause as clause
-use Rattle.book.proofs.Laws.Windows.{window-window, drop-window, getD-window, getD-window-first, take-front, getD-front, window-front, drop-back, window-others, Stored}
+use Rattle.book.proofs.Laws.Windows.{window-window, drop-window, getD-window, getD-window-first, take-shorter, getD-front, window-front, drop-longer, window-others, Stored}
 
 -- ---- the first n values of a function
 
@@ -43,13 +43,13 @@ module _ {A : Type 0} where
       let k = length-values f (suc n) in
       byBool (leb m n)
       (λ t.
-        let h = leb-true m n t in
-        let e : min m n ≡ min m (suc n) = omega arith in
-        take-append-le m (values f n) (f n ∷ []) (omega arith) ∙ take-values f m n ∙ ap (values f) e)
+      let h = leb-true m n t in
+      let e : min m n ≡ min m (suc n) = omega arith in
+      take-append-le m (values f n) (f n ∷ []) (omega arith) ∙ take-values f m n ∙ ap (values f) e)
       (λ t.
-        let h = leb-false m n t in
-        let e : suc n ≡ min m (suc n) = omega arith in
-        take-all m (values f (suc n)) (omega arith) ∙ ap (values f) e)
+      let h = leb-false m n t in
+      let e : suc n ≡ min m (suc n) = omega arith in
+      take-all m (values f (suc n)) (omega arith) ∙ ap (values f) e)
 
   getD-values : (f : ℕ → A) (d : A) (n i : ℕ) → i < n → getD (values f n) i d ≡ f i
   getD-values f d zero i h = absurd (omega arith)
@@ -57,15 +57,19 @@ module _ {A : Type 0} where
       let l = length-values f n in
       byBool (leb n i)
       (λ t.
-        let k = leb-true n i t in
-        let e : n ≡ i = omega arith in
-        getD-at (values f n) (f n) [] d i (omega arith) ∙ ap f e)
+      let k = leb-true n i t in
+      let e : n ≡ i = omega arith in
+      getD-at (values f n) (f n) [] d i (omega arith) ∙ ap f e)
       (λ t. let k = leb-false n i t in List·getD-append (values f n) (f n ∷ []) d i (omega arith) ∙ getD-values f d n i k)
 
 take-map : {A B : Type 0} (f : A → B) (n : ℕ) (l : List A) → map f (take n l) ≡ take n (map f l)
 take-map f zero l = refl
 take-map f (suc n) [] = refl
 take-map {B = B} f (suc n) (x ∷ xs) = ap (λ (s : List B). f x ∷ s) (take-map f n xs)
+
+-- the length of an array of structs, from what is known of its elements: `search (needs, length-of-map)`
+pub length-of-map : {A B : Type 0} (f : A → B) (l : List A) (n : ℕ) → length (map f l) ≡ n → length l ≡ n
+length-of-map f l n e = sym (length-map l f) ∙ e
 
 -- ---- calls
 
@@ -107,13 +111,14 @@ clauseIn-window l at =
   where
     w : List ℕ
     w = window at clauseSize l
+
     calls : callsIn w 9 maxSubgoals ≡ callsIn l (at + 9) maxSubgoals
     calls =
         callsIn-values w 9 maxSubgoals
         ∙ values-cong (callAt w 9) (callAt l (at + 9)) maxSubgoals
         (λ i h.
-          let e : at + (9 + i * callSize) ≡ at + 9 + i * callSize = omega arith in
-          ap callIn (window-window at clauseSize (9 + i * callSize) callSize l (omega arith) ∙ ap (λ (k : ℕ). window k callSize l) e))
+        let e : at + (9 + i * callSize) ≡ at + 9 + i * callSize = omega arith in
+        ap callIn (window-window at clauseSize (9 + i * callSize) callSize l (omega arith) ∙ ap (λ (k : ℕ). window k callSize l) e))
         ∙ sym (callsIn-values l (at + 9) maxSubgoals)
 
 -- the loop that reads the subgoals: the first j are read
@@ -136,10 +141,10 @@ module _ (rules : List ℕ) (at : ℕ) where
         most = omega arith;
         size = simp length-set s;
         front =
-          rw add-one
-          (ap (map callOf) (take-suc-set body j c (omega arith))
-          ∙ map-append callOf (take j body) (c ∷ [])
-          ∙ ap₂ (λ (b : List Call) (k : Call). b ++ (k ∷ [])) (r .front) e);
+            rw add-one
+            (ap (map callOf) (take-suc-set body j c (omega arith))
+            ∙ map-append callOf (take j body) (c ∷ [])
+            ∙ ap₂ (λ (b : List Call) (k : Call). b ++ (k ∷ [])) (r .front) e);
       }
 
 pub reading-end : (rules : List ℕ) (at : ℕ) (head : call.Call) {j : ℕ} {body : List call.Call} → maxSubgoals ≤ j
@@ -150,7 +155,7 @@ reading-end rules at head {j} {body} h e r =
     let s = r .size in
     let q : j ≡ maxSubgoals = omega arith in
     let all : map callOf body ≡ callsIn rules (at + 9) maxSubgoals =
-      ap (map callOf) (sym (take-all j body (omega arith))) ∙ r .front ∙ ap (callsIn rules (at + 9)) q in
+    ap (map callOf) (sym (take-all j body (omega arith))) ∙ r .front ∙ ap (callsIn rules (at + 9)) q in
     ap₂ (λ (k : Call) (b : List Call). record { head = k; body = b }) e (take-map callOf (getD rules at 0) body ∙ ap (take (getD rules at 0)) all)
     ∙ sym (clauseIn-window rules at)
 
@@ -163,36 +168,35 @@ pub record Writing (rules : List ℕ) (at : ℕ) (c : clause.Clause) (j : ℕ) (
   pub body : callsIn now (at + 9) j ≡ map callOf (take j (c .body))
   pub behind : drop (at + clauseSize) now ≡ drop (at + clauseSize) rules
 
-module _ (rules : List ℕ) (at : ℕ) (c : clause.Clause) where
-  pub writing-start : {now : List ℕ} → at < length rules → StoredCall (set rules at (c .n)) now (at + 1) (callOf (c .head)) → Writing rules at c 0 now
+module _ (at : ℕ) (c : clause.Clause) where
+  -- the number of the subgoals, then the head is stored
+  pub writing-start : (rules : List ℕ) {now : List ℕ} → at < length rules → StoredCall (set rules at (c .n)) now (at + 1) (callOf (c .head)) → Writing now at c 0 now
   unfolding callsIn
-  writing-start {now} h s =
-      let l = set rules at (c .n) in
+  writing-start rules {now} h s =
       record {
         most = omega arith;
-        before = take-front now l at (at + 1) (omega arith) (s .before) ∙ take-set-le at rules at (c .n) (omega arith);
-        count = getD-front now l at (at + 1) (omega arith) (s .before) ∙ getD-set-same rules at (c .n) 0 h;
+        before = refl;
+        count = getD-front now (set rules at (c .n)) at (at + 1) (omega arith) (s .before) ∙ getD-set-same rules at (c .n) 0 h;
         head = s .is;
         body = refl;
-        behind =
-          drop-back now l (at + clauseSize) (at + 1 + callSize) (omega arith) (s .behind) ∙ drop-set-lt (at + clauseSize) rules at (c .n) (omega arith);
+        behind = refl;
       }
 
-  pub writing-next : {j : ℕ} {now after : List ℕ} (d : call.Call) → length (c .body) ≡ maxSubgoals → j < maxSubgoals → Writing rules at c j now
+  pub writing-next : {j : ℕ} {rules now after : List ℕ} (d : call.Call) → length (c .body) ≡ maxSubgoals → j < maxSubgoals → Writing rules at c j now
       → StoredCall now after (at + 9 + j * callSize) (callOf (getD (c .body) j d)) → Writing rules at c (j + 1) after
   unfolding callsIn callAt
-  writing-next {j} {now} {after} d e h w s =
+  writing-next {j} {rules} {now} {after} d e h w s =
       let here = at + 9 + j * callSize in
       record {
         most = omega arith;
-        before = take-front after now at here (omega arith) (s .before) ∙ w .before;
+        before = take-shorter after now at here (omega arith) (s .before) ∙ w .before;
         count = getD-front after now at here (omega arith) (s .before) ∙ w .count;
         head = ap callIn (window-front after now (at + 1) callSize here (omega arith) (s .before)) ∙ w .head;
         body =
-          rw (add-one, take-suc (c .body) j d (omega arith))
-          (ap₂ (λ (b : List Call) (k : Call). b ++ (k ∷ [])) (kept ∙ w .body) (s .is)
-          ∙ sym (map-append callOf (take j (c .body)) (getD (c .body) j d ∷ [])));
-        behind = drop-back after now (at + clauseSize) (here + callSize) (omega arith) (s .behind) ∙ w .behind;
+            rw (add-one, take-suc (c .body) j d (omega arith))
+            (ap₂ (λ (b : List Call) (k : Call). b ++ (k ∷ [])) (kept ∙ w .body) (s .is)
+            ∙ sym (map-append callOf (take j (c .body)) (getD (c .body) j d ∷ [])));
+        behind = drop-longer after now (at + clauseSize) (here + callSize) (omega arith) (s .behind) ∙ w .behind;
       }
     where
       kept : callsIn after (at + 9) j ≡ callsIn now (at + 9) j
@@ -202,15 +206,23 @@ module _ (rules : List ℕ) (at : ℕ) (c : clause.Clause) where
           (λ i l. ap callIn (window-front after now (at + 9 + i * callSize) callSize (at + 9 + j * callSize) (omega arith) (s .before)))
           ∙ sym (callsIn-values now (at + 9) j)
 
-pub writing-end : (rules : List ℕ) (k : ℕ) (c : clause.Clause) {j : ℕ} {now : List ℕ} → length (c .body) ≡ maxSubgoals → maxSubgoals ≤ j
-    → Writing rules (k * clauseSize) c j now → StoredClause rules now k (clauseOf c)
-writing-end rules k c {j} {now} e h w =
+pub writing-end : (rules : List ℕ) (k : ℕ) (c : clause.Clause) {j : ℕ} {l now : List ℕ} → length (c .body) ≡ maxSubgoals → maxSubgoals ≤ j
+    → StoredCall (set rules (k * clauseSize) (c .n)) l (k * clauseSize + 1) (callOf (c .head)) → Writing l (k * clauseSize) c j now
+    → StoredClause rules now k (clauseOf c)
+writing-end rules k c {j} {l} {now} e h s w =
+    let at = k * clauseSize in
+    let r = set rules at (c .n) in
     record {
       is =
-        clauseIn-window now (k * clauseSize)
-        ∙ ap₂ (λ (a : Call) (b : List Call). record { head = a; body = b }) (w .head)
-        (ap₂ (λ (n : ℕ) (b : List Call). take n b) (w .count) all ∙ sym (take-map callOf (c .n) (c .body)));
-      others = λ i ne. ap clauseIn (window-others now rules clauseSize k i ne (w .before) (w .behind));
+          clauseIn-window now at
+          ∙ ap₂ (λ (a : Call) (b : List Call). record { head = a; body = b }) (w .head)
+          (ap₂ (λ (n : ℕ) (b : List Call). take n b) (w .count) all ∙ sym (take-map callOf (c .n) (c .body)));
+      others =
+          λ i ne.
+          ap clauseIn
+          (window-others now rules clauseSize k i ne
+          (w .before ∙ take-shorter l r at (at + 1) (omega arith) (s .before) ∙ take-set-le at rules at (c .n) (omega arith))
+          (w .behind ∙ drop-longer l r (at + clauseSize) (at + 1 + callSize) (omega arith) (s .behind) ∙ drop-set-lt (at + clauseSize) rules at (c .n) (omega arith)));
     }
   where
     all : callsIn now (k * clauseSize + 9) maxSubgoals ≡ map callOf (c .body)
@@ -263,7 +275,7 @@ pub modeAt-zeros : (n p : ℕ) → modeAt (replicate n 0) p ≡ []
 unfolding modeAt
 modeAt-zeros n p =
     let e : getD (modeBytes (replicate n 0) p) 0 0 ≡ 0 =
-      getD-window-first (p * modeSize) modeSize (replicate n 0) (omega arith) ∙ getD-zeros n (p * modeSize) in
+    getD-window-first (p * modeSize) modeSize (replicate n 0) (omega arith) ∙ getD-zeros n (p * modeSize) in
     rw e
 
 -- ---- the modes of the first n predicates
@@ -319,14 +331,14 @@ module _ (modes : List ℕ) (p : ℕ) where
       any-append isOf (modesOf modes n) (modeAt modes n)
       ∙ byBool (leb n p)
       (λ t.
-        let l = leb-true n p t in
-        let e : n ≡ p = omega arith in
-        ap₂ (λ (a b : Bool). a || b) (at-none n l) (at-one n)
-        ∙ ap₂ (λ (a b : Bool). a && b) (ap (λ (i : ℕ). hasIn (modeBytes modes i)) e) (eq-eqb n p e)
-        ∙ and-true (hasIn (modeBytes modes p)))
+      let l = leb-true n p t in
+      let e : n ≡ p = omega arith in
+      ap₂ (λ (a b : Bool). a || b) (at-none n l) (at-one n)
+      ∙ ap₂ (λ (a b : Bool). a && b) (ap (λ (i : ℕ). hasIn (modeBytes modes i)) e) (eq-eqb n p e)
+      ∙ and-true (hasIn (modeBytes modes p)))
       (λ t.
-        let l = leb-false n p t in
-        ap₂ (λ (a b : Bool). a || b) (at-some n l) (at-other n (λ e. omega arith)) ∙ or-false (hasIn (modeBytes modes p)))
+      let l = leb-false n p t in
+      ap₂ (λ (a b : Bool). a || b) (at-some n l) (at-other n (λ e. omega arith)) ∙ or-false (hasIn (modeBytes modes p)))
 
 pub hasMode-modesOf : (modes : List ℕ) (n p : ℕ) → p < n → hasMode (modesOf modes n) p ≡ hasIn (modeBytes modes p)
 unfolding hasMode

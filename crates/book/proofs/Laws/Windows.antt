@@ -8,7 +8,7 @@ use native.Mathlib.Numerals.{add-one}
 use native.Mathlib.Omega.{arith}
 use lib.Dec.{ltb}
 use lib.ListN.{length, getD, take, drop, set, length-set, length-drop, length-append}
-use lib.Seq.{take-nil, take-suc, take-all, take-take, drop-drop, getD-take, getD-drop, take-set-le, drop-set-lt, take-suc-set, drop-at, take-at, sets, sets-eq, length-take-le}
+use lib.Seq.{take-nil, take-suc, take-all, take-take, drop-drop, getD-take, getD-drop, take-suc-set, drop-at, take-at, sets, sets-eq, length-sets, length-take-le}
 use borrow.Author.Tests.{ltb-true, ltb-false}
 use Rattle.masks.proofs.Laws.Logic.{byBool}
 use Rattle.masks.proofs.Laws.Lists.{sets-suc}
@@ -45,8 +45,8 @@ getD-window-first at k l h = let e : at + 0 ≡ at = omega arith in getD-window 
 
 module _ (l m : List ℕ) where
   -- where a front is the same, so is what stands in it
-  pub take-front : (k n : ℕ) → k ≤ n → take n l ≡ take n m → take k l ≡ take k m
-  take-front k n h e = sym (take-take k n l h) ∙ ap (take k) e ∙ take-take k n m h
+  pub take-shorter : (k n : ℕ) → k ≤ n → take n l ≡ take n m → take k l ≡ take k m
+  take-shorter k n h e = sym (take-take k n l h) ∙ ap (take k) e ∙ take-take k n m h
 
   pub getD-front : (i n : ℕ) → i < n → take n l ≡ take n m → getD l i 0 ≡ getD m i 0
   getD-front i n h e = sym (getD-take n l i 0 h) ∙ ap (λ (s : List ℕ). getD s i 0) e ∙ getD-take n m i 0 h
@@ -55,8 +55,8 @@ module _ (l m : List ℕ) where
   window-front at k n h e = sym (front-window n at k l h) ∙ ap (window at k) e ∙ front-window n at k m h
 
   -- and where a back is
-  pub drop-back : (k n : ℕ) → n ≤ k → drop n l ≡ drop n m → drop k l ≡ drop k m
-  drop-back k n h e = back l ∙ ap (drop (k - n)) e ∙ sym (back m)
+  pub drop-longer : (k n : ℕ) → n ≤ k → drop n l ≡ drop n m → drop k l ≡ drop k m
+  drop-longer k n h e = back l ∙ ap (drop (k - n)) e ∙ sym (back m)
     where
       back : (s : List ℕ) → drop k s ≡ drop (k - n) (drop n s)
       back s = let q : k ≡ n + (k - n) = omega arith in ap (λ (i : ℕ). drop i s) q ∙ sym (drop-drop (k - n) n s)
@@ -66,7 +66,7 @@ module _ (l m : List ℕ) where
       → drop (k * size + size) l ≡ drop (k * size + size) m → window (i * size) size l ≡ window (i * size) size m
   window-others size k i ne before behind =
       byBool (ltb i k) (λ t. window-front (i * size) size (k * size) (next i k (ltb-true i k t)) before)
-      (λ t. let le = ltb-false i k t in ap (take size) (drop-back (i * size) (k * size + size) (next k i (omega arith)) behind))
+      (λ t. let le = ltb-false i k t in ap (take size) (drop-longer (i * size) (k * size + size) (next k i (omega arith)) behind))
     where
       next : (a b : ℕ) → a < b → a * size + size ≤ b * size
       next a b h = rw suc-mul at (mul-le-mul-right size h)
@@ -92,11 +92,11 @@ module _ (l : List ℕ) (at n : ℕ) where
         most = omega arith;
         size = simp length-set e;
         front =
-          rw add-one
-          (take-suc-set to i x (omega arith)
-          ∙ ap (λ (s : List ℕ). s ++ (x ∷ [])) (k .front)
-          ∙ ap (λ (y : ℕ). window at i l ++ (y ∷ [])) (sym (getD-drop at l i 0))
-          ∙ sym (take-suc (drop at l) i 0 (omega (arith, length-drop at l))));
+            rw add-one
+            (take-suc-set to i x (omega arith)
+            ∙ ap (λ (s : List ℕ). s ++ (x ∷ [])) (k .front)
+            ∙ ap (λ (y : ℕ). window at i l ++ (y ∷ [])) (sym (getD-drop at l i 0))
+            ∙ sym (take-suc (drop at l) i 0 (omega (arith, length-drop at l))));
       }
 
   pub copying-end : {i : ℕ} {to : List ℕ} → n ≤ i → Copying l at n i to → to ≡ window at n l
@@ -128,6 +128,7 @@ stored-sets l at n s e h =
   where
     front : length (take at l) ≡ at
     front = length-take-le at l (omega arith)
+
     split : sets l at s ≡ take at l ++ s ++ drop (at + n) l
     split = sets-eq s l at (omega arith) ∙ ap (λ (k : ℕ). take at l ++ s ++ drop (at + k) l) e
 
@@ -139,6 +140,9 @@ module _ (l : List ℕ) (at n : ℕ) (s : List ℕ) where
       → Storing l at n s (i + 1) (set now (at + i) (getD s i 0))
   storing-next {i} {now} e h k =
       record { most = omega arith; is = ap (λ (r : List ℕ). set r (at + i) (getD s i 0)) (k .is) ∙ sets-suc 0 l at s i (omega arith) }
+
+pub storing-length : {l : List ℕ} {at n : ℕ} {s : List ℕ} {i : ℕ} {now : List ℕ} → Storing l at n s i now → length now ≡ length l
+storing-length {l} {at} {n} {s} {i} k = ap length (k .is) ∙ length-sets l at (take i s)
 
 -- after two bytes that were stored before the loop
 pub storing-end : (l : List ℕ) (at n a b : ℕ) (s : List ℕ) {i : ℕ} {now : List ℕ} → length s ≡ n → at + (2 + n) ≤ length l → n ≤ i
