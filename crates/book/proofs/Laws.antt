@@ -1,6 +1,8 @@
--- The laws of this crate's definitions, for its own proofs and for the crates above.
+-- The laws of this crate's definitions, for its own proofs and for those of the crates above.
 pub mod Marks
 pub mod Got
 pub mod Trip
 pub mod Bound
 pub mod Examples
+pub mod Windows
+pub mod Held

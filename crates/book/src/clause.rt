@@ -1,4 +1,5 @@
-// Clauses: by value, and in the array that holds those of a book.
+// Clauses: by value, and in the array that holds those of a book. The array is gone over as a slice, since only then is its length known to the
+// proof.
 use crate::limits::CALL_SIZE;
 use crate::limits::CLAUSE_SIZE;
 use crate::limits::MAX_SUBGOALS;
@@ -50,7 +51,8 @@ pub fn put_clause(rules: &mut [u8; RULES_SIZE], k: usize, c: Clause)
     ensures { λ _. ⌜ StoredClause (now (rules .entry)) (now (rules .exit)) k (clauseOf c) ⌝ }
 {
     let at = k * CLAUSE_SIZE;
-    rules[at] = c.n;
+    let bytes: &mut [u8] = rules;
+    bytes[at] = c.n;
     let head = c.head;
     put_call(rules, at + 1, head);
     let mut j: usize = 0;
@@ -75,15 +77,16 @@ fn call_at(rules: &[u8; RULES_SIZE], at: usize) -> Call
     requires { ⌜ at + callSize ≤ rulesSize ⌝ }
     ensures { λ r. ⌜ callOf r ≡ callIn (window at callSize (now (rules .entry))) ⌝ }
 {
+    let bytes: &[u8] = rules;
     let mut args = [0u8; 6];
     let mut i: usize = 0;
     while i < 6 {
-        args[i] = rules[at + 2 + i];
+        args[i] = bytes[at + 2 + i];
         i += 1;
     }
     Call {
-        pred: rules[at],
-        n: rules[at + 1],
+        pred: bytes[at],
+        n: bytes[at + 1],
         args,
     }
 }
@@ -93,11 +96,12 @@ fn put_call(rules: &mut [u8; RULES_SIZE], at: usize, c: Call)
     requires { ⌜ at + callSize ≤ rulesSize ⌝ }
     ensures { λ _. ⌜ StoredCall (now (rules .entry)) (now (rules .exit)) at (callOf c) ⌝ }
 {
-    rules[at] = c.pred;
-    rules[at + 1] = c.n;
+    let bytes: &mut [u8] = rules;
+    bytes[at] = c.pred;
+    bytes[at + 1] = c.n;
     let mut i: usize = 0;
     while i < 6 {
-        rules[at + 2 + i] = c.args[i];
+        bytes[at + 2 + i] = c.args[i];
         i += 1;
     }
 }

@@ -1,6 +1,7 @@
-// The modes of predicates, in the array that holds those of a book.
-use crate::limits::MODES_SIZE;
+// The modes of predicates, in the array that holds those of a book. The array is gone over as a slice, since only then is its length known to
+// the proof.
 use crate::limits::MODE_SIZE;
+use crate::limits::MODES_SIZE;
 use masks::constraint::Constraint;
 use masks::limits::MAX_MASKS;
 ghost use mathlib.Core.Path.{_≡_};
@@ -24,14 +25,15 @@ pub fn mode_at(modes: &[u8; MODES_SIZE], p: u8) -> Constraint
     ensures { λ r. ⌜ masksOf r ≡ masksIn (modeBytes (now (modes .entry)) p) ⌝ }
 {
     let at = p as usize * MODE_SIZE;
+    let bytes: &[u8] = modes;
     let mut masks = [0u8; MAX_MASKS];
     let mut i: usize = 0;
     while i < MAX_MASKS {
-        masks[i] = modes[at + 2 + i];
+        masks[i] = bytes[at + 2 + i];
         i += 1;
     }
     Constraint {
-        n: modes[at + 1],
+        n: bytes[at + 1],
         masks,
     }
 }
@@ -42,11 +44,12 @@ pub fn put_mode(modes: &mut [u8; MODES_SIZE], p: u8, c: Constraint)
     ensures { λ _. ⌜ StoredMode (now (modes .entry)) (now (modes .exit)) p (masksOf c) ⌝ }
 {
     let at = p as usize * MODE_SIZE;
-    modes[at] = 1;
-    modes[at + 1] = c.n;
+    let bytes: &mut [u8] = modes;
+    bytes[at] = 1;
+    bytes[at + 1] = c.n;
     let mut i: usize = 0;
     while i < MAX_MASKS {
-        modes[at + 2 + i] = c.masks[i];
+        bytes[at + 2 + i] = c.masks[i];
         i += 1;
     }
 }
