@@ -1,0 +1,65 @@
+-- What the reader's answers stand for. Assumes nothing.
+use mathlib.Core.Path.{_≡_}
+use mathlib.Core.Bool.{true}
+use mathlib.Core.List.{List}
+use Prim.Native.Nat.{ℕ, _-_, _≤_}
+use lib.ListN.{length, drop}
+use Rattle.masks.specs.Limits.{maxArity}
+use Rattle.masks.specs.Lists.{all}
+use Rattle.masks.specs.declared.reply.Reply.{Reply}
+use Rattle.book.specs.Limits.{maxPredicates}
+use Rattle.book.specs.Format.{number, placed, within, Got, bad, got, turn, markAt, Judged, fault, book}
+use Rattle.book.specs.Held.{bookOf}
+use Rattle.book.specs.declared.mark.Phase.{Phase}
+use Rattle.book.specs.declared.mark.Turn.{Turn}
+use Rattle.book.specs.declared.mark.Turn.the-variants.{Mine, Over, No}
+use Rattle.book.specs.declared.range.Range.the-variants.{AtMost}
+use Rattle.reading.specs.declared.field.Found.{Found}
+use Rattle.reading.specs.declared.field.Found.the-variants.{Next, Bad}
+use Rattle.reading.specs.declared.Reading.{Reading}
+
+-- the place after what was read, or the place of a fault
+abbrev pub placeOf : Found → ℕ
+placeOf (Next at n) = at
+placeOf (Bad f at) = at
+
+-- an answer about the bytes s, where the value is what f makes of the number answered
+abbrev pub means : {A : Type 0} → List ℕ → Found → (ℕ → A) → Got A
+means s (Next at n) f = got (f n) (drop at s)
+means s (Bad w at) f = bad w (length s - at)
+
+pub record Reads {A : Type 0} (s : List ℕ) (r : Found) (f : ℕ → A) (g : Got A) : Type 0 where
+  pub inside : placeOf r ≤ length s
+  pub is : means s r f ≡ g
+
+-- a run that no further record of its own follows: its end, with the value a, or a fault
+abbrev pub onStop : {A : Type 0} → Turn → A → List ℕ → Got A
+onStop Mine a s = got a s
+onStop Over a s = got a s
+onStop (No f) a s = bad f (placed f (length s) (length s))
+
+abbrev pub stops : {A : Type 0} → Phase → A → List ℕ → Got A
+stops p a s = onStop (turn p (markAt s)) a s
+
+-- the fault of a record's field is the record's: `placed`
+abbrev pub recorded : ℕ → Found → Found
+recorded record· (Next at n) = Next at n
+recorded record· (Bad f at) = Bad f record·
+
+-- the arities of a book
+pub record Arities (ar : List ℕ) : Type 0 where
+  pub few : length ar ≤ maxPredicates
+  pub fit : all (within (AtMost maxArity)) ar ≡ true
+
+-- what reading a book comes to
+abbrev pub found : Reading → Judged
+found r = go (r .found)
+  where
+    go : Found → Judged
+    go (Next at n) = book (bookOf (r .book))
+    go (Bad f at) = fault f at
+
+-- "The check writes nothing and answers a valid book with 0 and the value 0"; a fault with its number and the offset of its record
+abbrev pub checked : Judged → Reply
+checked (fault f at) = record { number = number f; value = at; rounds = 0 }
+checked (book b) = record { number = 0; value = 0; rounds = 0 }
