@@ -200,15 +200,17 @@ clause ar ms acc s =
 
 -- ---- the book
 
--- MO records rise, so there are never more than predicates: the one that could be too many is refused for another fault. The clauses end at QU,
--- whose two bytes are dropped.
+-- What follows the predicates. MO records rise, so there are never more than predicates: the one that could be too many is refused for another
+-- fault. The clauses end at QU, whose two bytes are dropped.
+unfoldable pub rules : List ℕ → List ℕ → Got Book
+rules ar s =
+    andThen (many Modes (mode ar) (suc maxPredicates) [] s) (λ ms t.
+    andThen (many Clauses (clause ar ms) maxClauses [] t) (λ cs u.
+    andThen (many Query (subgoal ar) maxSubgoals [] (drop 2 u)) (λ q v.
+    got (record { arities = ar; modes = ms; clauses = cs; query = q }) v)))
+
 unfoldable pub readBook : List ℕ → Got Book
-readBook s =
-    andThen (many Predicates predicate maxPredicates [] s) (λ ar t.
-    andThen (many Modes (mode ar) (suc maxPredicates) [] t) (λ ms u.
-    andThen (many Clauses (clause ar ms) maxClauses [] u) (λ cs v.
-    andThen (many Query (subgoal ar) maxSubgoals [] (drop 2 v)) (λ q w.
-    got (record { arities = ar; modes = ms; clauses = cs; query = q }) w))))
+readBook s = andThen (many Predicates predicate maxPredicates [] s) (λ ar t. rules ar t)
 
 -- a fault and its offset, or the book
 pub data Judged : Type 0 where

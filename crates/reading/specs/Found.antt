@@ -1,15 +1,17 @@
 -- What the reader's answers stand for. Assumes nothing.
 use mathlib.Core.Path.{_≡_}
 use mathlib.Core.Bool.{true}
-use mathlib.Core.List.{List}
+use mathlib.Core.List.{List, []}
 use Prim.Native.Nat.{ℕ, _-_, _≤_}
 use lib.ListN.{length, drop}
 use Rattle.masks.specs.Limits.{maxArity}
 use Rattle.masks.specs.Lists.{all}
 use Rattle.masks.specs.declared.reply.Reply.{Reply}
 use Rattle.book.specs.Limits.{maxPredicates}
+use Rattle.book.specs.Book.{Book}
 use Rattle.book.specs.Format.{number, placed, within, Got, bad, got, turn, markAt, Judged, fault, book}
-use Rattle.book.specs.Held.{bookOf}
+use Rattle.book.specs.Held.{modeAt, bookOf}
+use Rattle.book.specs.declared.mark.Mark.the-variants.{Sg}
 use Rattle.book.specs.declared.mark.Phase.{Phase}
 use Rattle.book.specs.declared.mark.Turn.{Turn}
 use Rattle.book.specs.declared.mark.Turn.the-variants.{Mine, Over, No}
@@ -22,6 +24,11 @@ use Rattle.reading.specs.declared.Reading.{Reading}
 abbrev pub placeOf : Found → ℕ
 placeOf (Next at n) = at
 placeOf (Bad f at) = at
+
+-- the number answered
+abbrev pub counted : Found → ℕ
+counted (Next at n) = n
+counted (Bad f at) = 0
 
 -- an answer about the bytes s, where the value is what f makes of the number answered
 abbrev pub means : {A : Type 0} → List ℕ → Found → (ℕ → A) → Got A
@@ -51,13 +58,21 @@ pub record Arities (ar : List ℕ) : Type 0 where
   pub few : length ar ≤ maxPredicates
   pub fit : all (within (AtMost maxArity)) ar ≡ true
 
+-- a run of subgoals
+abbrev pub Bodied : Phase → Type 0
+Bodied p = turn p Sg ≡ Mine
+
+-- no predicate has MO
+abbrev pub NoModes : List ℕ → Type 0
+NoModes modes = (p : ℕ) → modeAt modes p ≡ []
+
 -- what reading a book comes to
+abbrev pub judgement : Found → Book → Judged
+judgement (Next at n) b = book b
+judgement (Bad f at) b = fault f at
+
 abbrev pub found : Reading → Judged
-found r = go (r .found)
-  where
-    go : Found → Judged
-    go (Next at n) = book (bookOf (r .book))
-    go (Bad f at) = fault f at
+found r = judgement (r .found) (bookOf (r .book))
 
 -- "The check writes nothing and answers a valid book with 0 and the value 0"; a fault with its number and the offset of its record
 abbrev pub checked : Judged → Reply

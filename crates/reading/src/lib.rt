@@ -1,10 +1,278 @@
+// Reading a book: every string of bytes is a book or has a first fault. Here are the public operation `check`, `read_book` for the crates above,
+// and the runs of records; single records and their bytes are in `field`, marks and whose turn it is in `turn`. One pass from the left: each
+// byte is looked at once, and the bytes of a mark where a run ends once more for each run that could go on there.
 pub mod field;
 pub mod turn;
 
 use book::Book;
+use book::clause::Call;
+use book::clause::Clause;
+use book::clause::no_call;
+use book::clause::put_clause;
+use book::fault::Fault;
+use book::fault::number;
+use book::limits::MAX_CLAUSES;
+use book::limits::MAX_PREDICATES;
+use book::limits::MAX_SUBGOALS;
+use book::limits::MODES_SIZE;
+use book::limits::RULES_SIZE;
+use book::mark::Phase;
+use book::mode::put_mode;
 use crate::field::Found;
+use crate::field::read_head;
+use crate::field::read_mode;
+use crate::field::read_predicate;
+use crate::field::read_subgoal;
+use crate::turn::is_mark;
+use crate::turn::run_end;
+use masks::reply::Reply;
+ghost use mathlib.Core.Path.{_≡_};
+ghost use mathlib.Core.List.{[]};
+ghost use Prim.Native.Nat.{suc, _+_, _≤_};
+ghost use lib.ListN.{length, take, drop};
+ghost use Rattle.book.specs.Limits.{maxPredicates, maxClauses, maxSubgoals};
+ghost use Rattle.book.specs.Format as format;
+ghost use Rattle.book.specs.Held.{callOf, clauseOf, clausesOf, modesOf, bookIn};
+ghost use Rattle.reading.specs.Found.{Reads, Arities, NoModes, Bodied, counted, found, checked};
 
+// What reading a book comes to: a book, where none of its records has a fault.
 pub struct Reading {
     pub found: Found,
     pub book: Book,
+}
+
+// A clause, where one was found.
+pub struct FoundClause {
+    pub found: Found,
+    pub clause: Clause,
+}
+
+// "The check writes nothing and answers a valid book with 0 and the value 0."
+pub fn check(s: &[u8]) -> Reply
+    ensures { λ r. ⌜ r ≡ checked (format.judge (now (s .entry))) ⌝ }
+{
+    let r = read_book(s);
+    let g = r.found;
+    match g {
+        Found::Bad(f, at) => Reply::refused(number(f), at as u64),
+        Found::Next(_, _) => Reply {
+            number: 0,
+            value: 0,
+            rounds: 0,
+        },
+    }
+}
+
+// The book that the bytes are, or their first fault.
+pub fn read_book(s: &[u8]) -> Reading
+    ensures { λ r. ⌜ found r ≡ format.judge (now (s .entry)) ⌝ }
+{
+    let mut arities = [0u8; MAX_PREDICATES];
+    let mut modes = [0u8; MODES_SIZE];
+    let mut rules = [0u8; RULES_SIZE];
+    let p = read_predicates(s, &mut arities);
+    let Found::Next(at, preds) = p else {
+        return Reading {
+            found: p,
+            book: Book {
+                preds: 0,
+                arities,
+                modes,
+                clauses: 0,
+                rules,
+            },
+        };
+    };
+    let r = read_rules(s, &arities, preds, at, &mut modes, &mut rules);
+    let clauses = count(r);
+    Reading {
+        found: r,
+        book: Book {
+            preds,
+            arities,
+            modes,
+            clauses,
+            rules,
+        },
+    }
+}
+
+// The number that was answered; 0 with a fault.
+fn count(g: Found) -> u8
+    ensures { λ r. ⌜ r ≡ counted g ⌝ }
+{
+    match g {
+        Found::Bad(_, _) => 0,
+        Found::Next(_, n) => n,
+    }
+}
+
+// What follows the predicates: the modes, the clauses and the query; how many clauses there are.
+fn read_rules<'a>(s: &'a [u8], arities: &'a [u8; MAX_PREDICATES], preds: u8, from: usize, modes: &mut [u8; MODES_SIZE], rules: &mut [u8; RULES_SIZE]) -> Found
+    requires { ⌜ (from ≤ length (now s)) × (preds ≤ maxPredicates) × Arities (take preds (now arities)) × NoModes (now modes) ⌝ }
+    ensures { λ r. ⌜ Reads (now (s .entry)) r (λ n. bookIn preds (now (arities .entry)) (now (modes .exit)) n (now (rules .exit))) (format.rules (take preds (now (arities .entry))) (drop from (now (s .entry)))) ⌝ }
+{
+    let bytes: &[u8] = arities;
+    let n = preds as usize;
+    let ar = &bytes[..n];
+    let m = read_modes(s, ar, from, modes);
+    let Found::Next(at, _) = m else {
+        return m;
+    };
+    let c = read_clauses(s, ar, modes, at, rules);
+    let Found::Next(end, clauses) = c else {
+        return c;
+    };
+    let q = read_body(s, ar, end + 2, Phase::Query, no_call());
+    let query = q.clause;
+    put_clause(rules, MAX_CLAUSES, query);
+    let g = q.found;
+    match g {
+        Found::Bad(_, _) => g,
+        Found::Next(last, _) => Found::Next(last, clauses),
+    }
+}
+
+// "all `PR`": how many there are, and their arities.
+fn read_predicates(s: &[u8], arities: &mut [u8; MAX_PREDICATES]) -> Found
+    ensures { λ r. ⌜ Reads (now (s .entry)) r (λ n. take n (now (arities .exit))) (format.many Phase.Predicates format.predicate maxPredicates [] (now (s .entry))) × (counted r ≤ maxPredicates) ⌝ }
+{
+    let bytes: &mut [u8] = arities;
+    let mut at: usize = 0;
+    let mut n: usize = 0;
+    while is_mark(s, at, b"PR") {
+        if MAX_PREDICATES <= n {
+            return Found::Bad(Fault::TooMany, at);
+        }
+        let g = read_predicate(s, at);
+        match g {
+            Found::Bad(_, _) => {
+                return g;
+            }
+            Found::Next(next, arity) => {
+                bytes[n] = arity;
+                n += 1;
+                at = next;
+            }
+        }
+    }
+    run_end(s, at, Phase::Predicates, n as u8)
+}
+
+// "then all `MO`", into modes that are none yet.
+fn read_modes(s: &[u8], ar: &[u8], from: usize, modes: &mut [u8; MODES_SIZE]) -> Found
+    requires { ⌜ (from ≤ length (now s)) × Arities (now ar) × NoModes (now modes) ⌝ }
+    ensures { λ r. ⌜ Reads (now (s .entry)) r (λ _. modesOf (now (modes .exit)) maxPredicates) (format.many Phase.Modes (format.mode (now (ar .entry))) (suc maxPredicates) [] (drop from (now (s .entry)))) ⌝ }
+{
+    let mut at = from;
+    let mut low: u8 = 0;
+    while is_mark(s, at, b"MO") {
+        let r = read_mode(s, ar, low, at);
+        let g = r.found;
+        let masks = r.masks;
+        match g {
+            Found::Bad(_, _) => {
+                return g;
+            }
+            Found::Next(next, pred) => {
+                put_mode(modes, pred, masks);
+                low = pred + 1;
+                at = next;
+            }
+        }
+    }
+    run_end(s, at, Phase::Modes, 0)
+}
+
+// "then clauses": how many there are, stored from the start of the rules.
+fn read_clauses(s: &[u8], ar: &[u8], modes: &[u8; MODES_SIZE], from: usize, rules: &mut [u8; RULES_SIZE]) -> Found
+    requires { ⌜ (from ≤ length (now s)) × Arities (now ar) ⌝ }
+    ensures { λ r. ⌜ Reads (now (s .entry)) r (λ n. clausesOf (now (rules .exit)) n) (format.many Phase.Clauses (format.clause (now (ar .entry)) (modesOf (now (modes .entry)) maxPredicates)) maxClauses [] (drop from (now (s .entry)))) × (counted r ≤ maxClauses) ⌝ }
+{
+    let mut at = from;
+    let mut n: usize = 0;
+    while is_mark(s, at, b"CL") {
+        if MAX_CLAUSES <= n {
+            return Found::Bad(Fault::TooMany, at);
+        }
+        let r = read_clause(s, ar, modes, at);
+        let g = r.found;
+        let clause = r.clause;
+        match g {
+            Found::Bad(_, _) => {
+                return g;
+            }
+            Found::Next(next, _) => {
+                put_clause(rules, n, clause);
+                n += 1;
+                at = next;
+            }
+        }
+    }
+    run_end(s, at, Phase::Clauses, n as u8)
+}
+
+// The clause whose record is at a place, with its subgoals.
+fn read_clause(s: &[u8], ar: &[u8], modes: &[u8; MODES_SIZE], at: usize) -> FoundClause
+    requires { ⌜ (at + 2 ≤ length (now s)) × Arities (now ar) ⌝ }
+    ensures { λ r. ⌜ Reads (now (s .entry)) (r .found) (λ _. clauseOf (r .clause)) (format.clause (now (ar .entry)) (modesOf (now (modes .entry)) maxPredicates) [] (drop at (now (s .entry)))) ⌝ }
+{
+    let h = read_head(s, ar, modes, at);
+    let g = h.found;
+    let head = h.call;
+    match g {
+        Found::Bad(_, _) => FoundClause {
+            found: g,
+            clause: Clause {
+                n: 0,
+                head,
+                body: [head; MAX_SUBGOALS],
+            },
+        },
+        Found::Next(next, _) => read_body(s, ar, next, Phase::Body, head),
+    }
+}
+
+// The subgoals of a clause or of the query, from a place on, as a clause with this head.
+fn read_body(s: &[u8], ar: &[u8], from: usize, phase: Phase, head: Call) -> FoundClause
+    requires { ⌜ (from ≤ length (now s)) × Arities (now ar) × Bodied phase ⌝ }
+    ensures { λ r. ⌜ Reads (now (s .entry)) (r .found) (λ _. clauseOf (r .clause) .body) (format.many phase (format.subgoal (now (ar .entry))) maxSubgoals [] (drop from (now (s .entry)))) × (callOf (r .clause .head) ≡ callOf head) ⌝ }
+{
+    let none = no_call();
+    let mut body = [none; MAX_SUBGOALS];
+    let mut at = from;
+    let mut n: usize = 0;
+    while is_mark(s, at, b"SG") {
+        if MAX_SUBGOALS <= n {
+            return FoundClause {
+                found: Found::Bad(Fault::TooMany, at),
+                clause: Clause { n: 0, head, body },
+            };
+        }
+        let r = read_subgoal(s, ar, at);
+        let g = r.found;
+        let call = r.call;
+        match g {
+            Found::Bad(_, _) => {
+                return FoundClause {
+                    found: g,
+                    clause: Clause { n: 0, head, body },
+                };
+            }
+            Found::Next(next, _) => {
+                body[n] = call;
+                n += 1;
+                at = next;
+            }
+        }
+    }
+    let count = n as u8;
+    FoundClause {
+        found: run_end(s, at, phase, count),
+        clause: Clause {
+            n: count,
+            head,
+            body,
+        },
+    }
 }

@@ -2,12 +2,12 @@
 use mathlib.Core.Path.{_≡_, refl}
 use mathlib.Core.List.{[], _∷_}
 use Rattle.book.specs.Book.{Book}
-use Rattle.book.specs.Format.{markAt, within, bytes, many, lowFrom, hasMode, predicate, masks, modeFields, mode, call, subgoal, headFields, clause, readBook, fault, book, judge}
+use Rattle.book.specs.Format.{markAt, within, bytes, many, lowFrom, hasMode, predicate, masks, modeFields, mode, call, subgoal, headFields, clause, rules, readBook, fault, book, judge}
 use Rattle.book.specs.Encode.{encode}
 use Rattle.book.specs.declared.fault.Fault.the-variants.{PastEnd, OutOfTurn, OutOfRange}
 
 compute : Unit {0}
-unfolding markAt within bytes many lowFrom hasMode predicate masks modeFields mode call subgoal headFields clause readBook judge encode
+unfolding markAt within bytes many lowFrom hasMode predicate masks modeFields mode call subgoal headFields clause rules readBook judge encode
 compute = tt
 
 -- "Clause: fault(H) :- low(V), volts(H,V). Query: fault(H), head(H)."

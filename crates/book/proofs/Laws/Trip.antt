@@ -14,7 +14,7 @@ use Rattle.masks.specs.Lists.{all}
 use Rattle.masks.proofs.Laws.Logic.{byBool, and-intro, and-left, and-right, not-elim}
 use Rattle.book.specs.Limits.{maxPredicates, maxClauses, maxSubgoals}
 use Rattle.book.specs.Book.{Call, Mode, Clause, Book}
-use Rattle.book.specs.Format.{Got, bad, got, andThen, inRecord, byte, bytes, many, turn, markAt, within, lowFrom, low, hasMode, spelling, call, predicate, masks, modeFields, mode, subgoal, headFields, clause, readBook, fault, book, judged, judge}
+use Rattle.book.specs.Format.{Got, bad, got, andThen, inRecord, byte, bytes, many, turn, markAt, within, lowFrom, low, hasMode, spelling, call, predicate, masks, modeFields, mode, subgoal, headFields, clause, rules, readBook, fault, book, judged, judge}
 use Rattle.book.specs.Encode.{run, encPredicate, encMode, encCall, encSubgoal, encClause, encode, callFits, modeFits, rises, clauseFits, WellFormed}
 use Rattle.book.specs.declared.fault.Fault.the-variants.{Conflict}
 use Rattle.book.specs.declared.mark.Mark.the-variants.{Pr, Mo, Cl, Sg, Qu}
@@ -281,7 +281,7 @@ over-query = refl
 -- ---- the book
 
 read-got : (b : Book) → WellFormed b → readBook (encode b) ≡ got b []
-unfolding readBook encode lowFrom
+unfolding readBook rules encode lowFrom
 read-got b w =
     let ar = b .arities in
     let ms = b .modes in
@@ -299,7 +299,7 @@ read-got b w =
     maxSubgoals [] q [] (leb-true _ _ (w .fewAsked)) (all-each (callFits Argument ar) [] q (w .queryFits)) over-query))
 
 pub read-inv : (s : List ℕ) (b : Book) (r : List ℕ) → readBook s ≡ got b r → (encode b ≡ s) × WellFormed b
-unfolding readBook encode lowFrom
+unfolding readBook rules encode lowFrom
 read-inv s b r e =
     let made : List ℕ → List Mode → List Clause → List Call → List ℕ → Got Book = λ ar ms cs q t. got (record { arities = ar; modes = ms; clauses = cs; query = q }) t in
     let asked : List ℕ → List Mode → List Clause → List ℕ → Got Book = λ ar ms cs t. andThen (many Query (subgoal ar) maxSubgoals [] (drop 2 t)) (made ar ms cs) in

@@ -11,10 +11,12 @@ use lib.Seq.{drop-cons, drop-drop, take-suc-set}
 use borrow.Author.Tests.{leb-true, le-leb, lt-leb, ltb-true, eqb-true, eqb-false, eq-eqb}
 use Rattle.masks.specs.Limits.{maxArity, maxMasks}
 use Rattle.masks.proofs.Laws.Logic.{byBool, same, or-left, or-right, or-case}
-use Rattle.book.specs.Book.{Call, Mode}
-use Rattle.book.specs.Format.{within, placed, Got, bad, got, andThen, byte, bytes, inRecord, predicate, call, subgoal, masks, modeFields, hasMode, headFields}
+use Rattle.book.specs.Limits.{maxSubgoals}
+use Rattle.book.specs.Book.{Call, Mode, Clause}
+use Rattle.book.specs.Format.{within, placed, Got, bad, got, andThen, byte, bytes, inRecord, predicate, call, subgoal, masks, modeFields, hasMode, headFields, clause, many}
 use Rattle.book.specs.declared.fault.Fault.{Fault}
 use Rattle.book.specs.declared.fault.Fault.the-variants.{PastEnd, OutOfRange, Conflict}
+use Rattle.book.specs.declared.mark.Phase.the-variants.{Body}
 use Rattle.book.specs.declared.range.Range.{Range}
 use Rattle.book.specs.declared.range.Range.the-variants.{Below, AtMost, Argument, HeadArgument}
 use Rattle.book.proofs.Laws.Trip.{call-known, call-inv}
@@ -243,3 +245,16 @@ module _ (ar s : List ℕ) (ms : List Mode) (at : ℕ) {g : Found} {c : Call} (w
     head-free t =
         subst (λ (q : Found). Reads s q (λ k. c) (headFields ar ms (drop at s))) (sym e)
         (then-next _ w e (record { inside = next-inside w e; is = rw t }))
+
+-- a head, then the subgoals
+module _ (ar s : List ℕ) (ms : List Mode) (at : ℕ) {g : Found} {h : Call} (w : Reads s g (λ n. h) (inRecord (drop at s) (headFields ar ms (drop 2 (drop at s))))) where
+  pub clause-bad : {f : ℕ → Clause} {v : Fault} {p : ℕ} → g ≡ Bad v p → Reads s g f (clause ar ms [] (drop at s))
+  unfolding clause
+  clause-bad {f} e = then-bad _ w {h = f} e
+
+  pub clause-next : {next n : ℕ} {r : Found} {body : List Call} {head : Call} → g ≡ Next next n → Reads s r (λ k. body) (many Body (subgoal ar) maxSubgoals [] (drop next s))
+      → head ≡ h → Reads s r (λ k. record { head = head; body = body }) (clause ar ms [] (drop at s))
+  unfolding clause
+  clause-next {r = r} {body = body} e v d =
+      subst (λ (c : Call). Reads s r (λ k. record { head = c; body = body }) (clause ar ms [] (drop at s))) (sym d)
+      (then-next _ w e (reads-map (λ (l : List Call). record { head = h; body = l }) v))

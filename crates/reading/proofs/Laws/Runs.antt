@@ -1,0 +1,135 @@
+-- A loop over the records of a run: what is still to be read, after the records acc, comes to what the whole run comes to. Assumes nothing.
+use mathlib.Core.Path.{_≡_, refl, sym, ap, _∙_, subst}
+use mathlib.Core.Bool.{true, false}
+use mathlib.Core.List.{List, [], _∷_, _++_, map, map-append}
+use Prim.Native.Nat.{ℕ, zero, suc, _+_, _-_, _≤_, _<_}
+use native.Mathlib.Omega.{arith}
+use native.Mathlib.Numerals.{add-one}
+use lib.ListN.{length, take, drop, set, length-drop, length-append}
+use lib.Seq.{take-suc-set}
+use Rattle.book.specs.Format.{spelling, leads, markAt, turn, Got, bad, got, andThen, onTurn, many}
+use Rattle.book.specs.declared.fault.Fault.{Fault}
+use Rattle.book.specs.declared.fault.Fault.the-variants.{TooMany}
+use Rattle.book.specs.declared.mark.Mark.{Mark}
+use Rattle.book.specs.declared.mark.Phase.{Phase}
+use Rattle.book.specs.declared.mark.Phase.the-variants.{Predicates, Modes, Clauses, Body, Query}
+use Rattle.book.specs.declared.mark.Turn.{Turn}
+use Rattle.book.specs.declared.mark.Turn.the-variants.{Mine, Over, No}
+use Rattle.book.proofs.Laws.Got.{bad-got, got-value}
+use Rattle.book.proofs.Laws.Marks.{mineOf, leads-mine, unled, mine-starts}
+use Rattle.reading.specs.declared.field.Found.{Found}
+use Rattle.reading.specs.declared.field.Found.the-variants.{Next, Bad}
+use Rattle.reading.specs.Found.{counted, means, Reads, onStop, stops}
+use Rattle.reading.proofs.Laws.Reads.{then-bad, reads-map}
+
+-- so far the n records acc were read, up to a place
+pub record Going {A : Type 0} (p : Phase) (item : List A → List ℕ → Got A) (s : List ℕ) (room from at n : ℕ) (acc : List A) : Type 0 where
+  pub inside : at ≤ length s
+  pub turns : n ≤ room
+  pub size : length acc ≡ n
+  pub kept : many p item (room - n) acc (drop at s) ≡ many p item room [] (drop from s)
+
+-- the mark of a run leads the bytes at a place
+module _ (p : Phase) {m : Mark} (own : m ≡ mineOf p) (s : List ℕ) (at : ℕ) where
+  pub mine-at : leads (spelling m) (drop at s) ≡ true → turn p (markAt (drop at s)) ≡ Mine
+  mine-at t = leads-mine p (drop at s) (subst (λ (k : Mark). leads (spelling k) (drop at s) ≡ true) own t)
+
+  pub not-mine-at : leads (spelling m) (drop at s) ≡ false → turn p (markAt (drop at s)) ≡ Mine → ⊥
+  not-mine-at t = unled p (drop at s) (subst (λ (k : Mark). leads (spelling k) (drop at s) ≡ false) own t)
+
+spelling-two : (p : Phase) (r : List ℕ) → length (spelling (mineOf p) ++ r) ≡ suc (suc (length r))
+spelling-two p r = go p
+  where
+    go : (q : Phase) → length (spelling (mineOf q) ++ r) ≡ suc (suc (length r))
+    go Predicates = refl
+    go Modes = refl
+    go Clauses = refl
+    go Body = refl
+    go Query = refl
+
+-- so the two bytes of the mark are there
+pub mark-there : (p : Phase) (s : List ℕ) (at : ℕ) → turn p (markAt (drop at s)) ≡ Mine → at + 2 ≤ length s
+mark-there p s at t =
+    let e = ap length (mine-starts p (drop at s) t) in
+    let l : length (drop at s) ≡ length s - at = length-drop at s in
+    let z = spelling-two p (drop 2 (drop at s)) in
+    omega arith
+
+module _ {A : Type 0} (p : Phase) (item : List A → List ℕ → Got A) (s : List ℕ) (room from : ℕ) where
+  pub going-start : from ≤ length s → Going p item s room from from 0 []
+  going-start h = record { inside = h; turns = omega arith; size = refl; kept = let e : room - 0 ≡ room = omega arith in rw e }
+
+  module _ {at n : ℕ} {acc : List A} (l : Going p item s room from at n acc) where
+    -- "not one too many (5)"
+    pub going-full : {f : ℕ → List A} → turn p (markAt (drop at s)) ≡ Mine → room ≤ n → Reads s (Bad TooMany at) f (many p item room [] (drop from s))
+    unfolding many
+    going-full t h =
+        let z : room - n ≡ 0 = omega arith in
+        record { inside = l .inside; is = rw (t, length-drop) at (rw z at (l .kept)) }
+
+    one : turn p (markAt (drop at s)) ≡ Mine → n < room
+        → many p item (room - n) acc (drop at s) ≡ andThen (item acc (drop at s)) (λ x r. many p item (room - (n + 1)) (acc ++ (x ∷ [])) r)
+    unfolding many
+    one t h = let e : room - n ≡ suc (room - (n + 1)) = omega arith in rw (e, t)
+
+    module _ (t : turn p (markAt (drop at s)) ≡ Mine) (h : n < room) {g : Found} {f : ℕ → A} (w : Reads s g f (item acc (drop at s))) where
+      pub going-bad : {k : ℕ → List A} {v : Fault} {q : ℕ} → g ≡ Bad v q → Reads s g k (many p item room [] (drop from s))
+      going-bad {k} e =
+          let u = then-bad (λ x r. many p item (room - (n + 1)) (acc ++ (x ∷ [])) r) w {h = k} e in
+          record { inside = u .inside; is = u .is ∙ (sym (one t h) ∙ l .kept) }
+
+      pub going-next : {next m : ℕ} {more : List A} → g ≡ Next next m → more ≡ acc ++ (f m ∷ []) → Going p item s room from next (n + 1) more
+      going-next {next} {m} {more} e d =
+          let u : Reads s (Next next m) f (item acc (drop at s)) = subst (λ (q : Found). Reads s q f (item acc (drop at s))) e w in
+          let step : many p item (room - (n + 1)) (acc ++ (f m ∷ [])) (drop next s) ≡ many p item (room - n) acc (drop at s) =
+              ap (λ (q : Got A). andThen q (λ x r. many p item (room - (n + 1)) (acc ++ (x ∷ [])) r)) (u .is) ∙ sym (one t h) in
+          let long : length (acc ++ (f m ∷ [])) ≡ n + 1 = length-append acc (f m ∷ []) ∙ ap (λ (k : ℕ). k + 1) (l .size) in
+          record {
+            inside = u .inside;
+            turns = omega arith;
+            size = ap length d ∙ long;
+            kept = ap (λ (k : List A). many p item (room - (n + 1)) k (drop next s)) d ∙ (step ∙ l .kept);
+          }
+
+    -- the end of the run, or a fault
+    pub going-end : (turn p (markAt (drop at s)) ≡ Mine → ⊥) → (f : ℕ → List A) (m : ℕ) → f m ≡ acc → {r : Found} → Reads s r (λ k. k) (stops p m (drop at s))
+        → Reads s r f (many p item room [] (drop from s))
+    unfolding many
+    going-end other f m e {r} w =
+        let u : Reads s r f (andThen (stops p m (drop at s)) (λ a t. got (f a) t)) = reads-map f w in
+        record { inside = u .inside; is = u .is ∙ (go (turn p (markAt (drop at s))) other ∙ (all (room - n) ∙ l .kept)) }
+      where
+        go : (t : Turn) → (t ≡ Mine → ⊥) → andThen (onStop t m (drop at s)) (λ a t. got (f a) t) ≡ onTurn t (got acc (drop at s)) acc (drop at s)
+        go Mine q = absurd (q refl)
+        go Over q = ap (λ (x : List A). got x (drop at s)) e
+        go (No v) q = refl
+        same : (t : Turn) → (t ≡ Mine → ⊥) → (x y : Got (List A)) → onTurn t x acc (drop at s) ≡ onTurn t y acc (drop at s)
+        same Mine q x y = absurd (q refl)
+        same Over q x y = refl
+        same (No v) q x y = refl
+        all : (k : ℕ) → onTurn (turn p (markAt (drop at s))) (got acc (drop at s)) acc (drop at s) ≡ many p item k acc (drop at s)
+        all zero = same (turn p (markAt (drop at s))) other _ _
+        all (suc k) = same (turn p (markAt (drop at s))) other _ _
+
+-- how many were counted at the end of a run
+pub stops-count : (p : Phase) (n : ℕ) (s t : List ℕ) {r : Found} → Reads s r (λ k. k) (stops p n t) → counted r ≤ n
+stops-count p n s t {r} w = go (turn p (markAt t)) r (w .is)
+  where
+    go : (u : Turn) (q : Found) → means s q (λ k. k) ≡ onStop u n t → counted q ≤ n
+    go u (Bad v at) e = omega arith
+    go Mine (Next at k) e = let z : k ≡ n = got-value e in omega arith
+    go Over (Next at k) e = let z : k ≡ n = got-value e in omega arith
+    go (No v) (Next at k) e = bad-got (sym e)
+
+-- one more of the first n of an array
+pub front-more : {X Y : Type 0} (f : X → Y) (l : List X) (n : ℕ) (x : X) → n < length l → map f (take (n + 1) (set l n x)) ≡ map f (take n l) ++ (f x ∷ [])
+front-more f l n x h = rw (add-one, take-suc-set l n x h) (map-append f (take n l) (x ∷ []))
+
+pub take-more : (l : List ℕ) (n x : ℕ) → n < length l → take (n + 1) (set l n x) ≡ take n l ++ (x ∷ [])
+take-more l n x h = rw (add-one, take-suc-set l n x h)
+
+pub count-bad : {g : Found} {v : Fault} {at : ℕ} (k : ℕ) → g ≡ Bad v at → counted g ≤ k
+count-bad k e = rw e (omega arith)
+
+pub count-next : {g : Found} {at n : ℕ} (k : ℕ) → g ≡ Next at n → counted g ≤ k → n ≤ k
+count-next k e h = subst (λ (q : Found). counted q ≤ k) e h
