@@ -152,11 +152,7 @@ fn read_call(s: &[u8], ar: &[u8], at: usize, range: Range) -> FoundCall
             let found = read_bytes(s, next, n, range, &mut args);
             FoundCall {
                 found,
-                call: Call {
-                    pred,
-                    n,
-                    args,
-                },
+                call: Call { pred, n, args },
             }
         }
     }

@@ -4,6 +4,13 @@
 pub mod field;
 pub mod turn;
 
+use crate::field::Found;
+use crate::field::read_head;
+use crate::field::read_mode;
+use crate::field::read_predicate;
+use crate::field::read_subgoal;
+use crate::turn::is_mark;
+use crate::turn::run_end;
 use book::Book;
 use book::clause::Call;
 use book::clause::Clause;
@@ -18,13 +25,6 @@ use book::limits::MODES_SIZE;
 use book::limits::RULES_SIZE;
 use book::mark::Phase;
 use book::mode::put_mode;
-use crate::field::Found;
-use crate::field::read_head;
-use crate::field::read_mode;
-use crate::field::read_predicate;
-use crate::field::read_subgoal;
-use crate::turn::is_mark;
-use crate::turn::run_end;
 use masks::reply::Reply;
 ghost use mathlib.Core.Path.{_≡_};
 ghost use mathlib.Core.List.{[]};
@@ -108,7 +108,14 @@ fn count(g: Found) -> u8
 }
 
 // What follows the predicates: the modes, the clauses and the query; how many clauses there are.
-fn read_rules<'a>(s: &'a [u8], arities: &'a [u8; MAX_PREDICATES], preds: u8, from: usize, modes: &mut [u8; MODES_SIZE], rules: &mut [u8; RULES_SIZE]) -> Found
+fn read_rules<'a>(
+    s: &'a [u8],
+    arities: &'a [u8; MAX_PREDICATES],
+    preds: u8,
+    from: usize,
+    modes: &mut [u8; MODES_SIZE],
+    rules: &mut [u8; RULES_SIZE],
+) -> Found
     requires { ⌜ (from ≤ length (now s)) × (preds ≤ maxPredicates) × Arities (take preds (now arities)) × NoModes (now modes) ⌝ }
     ensures { λ r. ⌜ Reads (now (s .entry)) r (λ n. bookIn preds (now (arities .entry)) (now (modes .exit)) n (now (rules .exit))) (format.rules (take preds (now (arities .entry))) (drop from (now (s .entry)))) ⌝ }
 {
@@ -185,7 +192,13 @@ fn read_modes(s: &[u8], ar: &[u8], from: usize, modes: &mut [u8; MODES_SIZE]) ->
 }
 
 // "then clauses": how many there are, stored from the start of the rules.
-fn read_clauses(s: &[u8], ar: &[u8], modes: &[u8; MODES_SIZE], from: usize, rules: &mut [u8; RULES_SIZE]) -> Found
+fn read_clauses(
+    s: &[u8],
+    ar: &[u8],
+    modes: &[u8; MODES_SIZE],
+    from: usize,
+    rules: &mut [u8; RULES_SIZE],
+) -> Found
     requires { ⌜ (from ≤ length (now s)) × Arities (now ar) ⌝ }
     ensures { λ r. ⌜ Reads (now (s .entry)) r (λ n. clausesOf (now (rules .exit)) n) (format.many Phase.Clauses (format.clause (now (ar .entry)) (modesOf (now (modes .entry)) maxPredicates)) maxClauses [] (drop from (now (s .entry)))) × (counted r ≤ maxClauses) ⌝ }
 {

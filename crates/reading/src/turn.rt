@@ -1,9 +1,9 @@
 // Marks, and whose turn it is where a record may begin: "all `PR`, then all `MO`, then clauses, then one `QU`; `SG` only after `CL`, `QU` or `SG`".
+use crate::field::Found;
 use book::fault::Fault;
 use book::mark::Mark;
 use book::mark::Phase;
 use book::mark::Turn;
-use crate::field::Found;
 ghost use mathlib.Core.Path.{_≡_};
 ghost use Prim.Native.Nat.{_≤_};
 ghost use lib.ListN.{length, drop};

@@ -124,8 +124,7 @@ unfolding masks
 masks-inv k s ms r e =
     let w = then-inv (byte (AtMost maxMasks) s) (λ n t. bytes (Below k) n [] t) e in
     let y = byte-inv (AtMost maxMasks) s (w .2) in
-    let z = bytes-inv (Below k) (w .0) (w .1) (w .3) in
-    (
+    let z = bytes-inv (Below k) (w .0) (w .1) (w .3) in (
       y .0 ∙ (ap (λ (l : List ℕ). w .0 ∷ l) (z .1) ∙ ap (λ (n : ℕ). n ∷ (ms ++ r)) (sym (z .0))),
       ap (within (AtMost maxMasks)) (z .0) ∙ y .1,
       z .2,
@@ -184,9 +183,9 @@ unfolding clause headFields
 clause-got ar ms acc c r h o =
     let rest· = run encSubgoal (c .body) ++ r in
     let head· : headFields ar ms (encCall (c .head) ++ rest·) ≡ got (c .head) rest· =
-        rw (call-got HeadArgument ar (c .head) rest· (clause-head ar ms c h), clause-free ar ms c h) in
+    rw (call-got HeadArgument ar (c .head) rest· (clause-head ar ms c h), clause-free ar ms c h) in
     let bytes· : headFields ar ms ((encCall (c .head) ++ run encSubgoal (c .body)) ++ r) ≡ got (c .head) rest· =
-        ap (headFields ar ms) (append-assoc (encCall (c .head)) (run encSubgoal (c .body)) r) ∙ head· in
+    ap (headFields ar ms) (append-assoc (encCall (c .head)) (run encSubgoal (c .body)) r) ∙ head· in
     then-got _ (record-got (encClause c ++ r) bytes·)
     ∙ then-got _ (many-got Body (subgoal ar) (SubgoalFits ar) encSubgoal (λ s q. mine-leads Body (encCall s ++ q)) (λ b s q k f. subgoal-got ar b s q k) maxSubgoals [] (c .body) r
     (clause-few ar ms c h) (all-each (callFits Argument ar) [] (c .body) (clause-goals ar ms c h)) o)
@@ -230,8 +229,7 @@ module _ (ar : List ℕ) where
   modes-each : (acc ms : List Mode) → all (modeFits ar) ms ≡ true → rises (low acc) ms ≡ true → Each (ModeFits ar) acc ms
   modes-each acc [] t u = tt
   modes-each acc (m ∷ ms) t u =
-      let r : rises (low (acc ++ (m ∷ []))) ms ≡ true = rw (low-last 0 acc m) (and-right (leb (low acc) (m .pred)) (rises (suc (m .pred)) ms) u) in
-      (
+      let r : rises (low (acc ++ (m ∷ []))) ms ≡ true = rw (low-last 0 acc m) (and-right (leb (low acc) (m .pred)) (rises (suc (m .pred)) ms) u) in (
         (and-left (modeFits ar m) (all (modeFits ar) ms) t, and-left (leb (low acc) (m .pred)) (rises (suc (m .pred)) ms) u),
         modes-each (acc ++ (m ∷ [])) ms (and-right (modeFits ar m) (all (modeFits ar) ms) t) r,
       )

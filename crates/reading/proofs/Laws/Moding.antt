@@ -53,7 +53,7 @@ module _ (ar s : List ℕ) (arities : Arities ar) (from : ℕ) where
         unfolding within
         fits =
             let u : Reads s (Next next p) (λ k. record { pred = k; masks = ms }) (mode ar (modesOf modes b) (drop at s)) =
-                subst (λ (q : Found). Reads s q (λ k. record { pred = k; masks = ms }) (mode ar (modesOf modes b) (drop at s))) e reads in
+            subst (λ (q : Found). Reads s q (λ k. record { pred = k; masks = ms }) (mode ar (modesOf modes b) (drop at s))) e reads in
             let m : Mode = record { pred = p; masks = ms } in
             let f = mode-inv ar (modesOf modes b) (drop at s) m (drop next s) t (sym (u .is)) .1 in
             let k : p < length ar = ltb-true p (length ar) (mode-known ar m (f .0)) in

@@ -100,6 +100,7 @@ record-reads {A} {s} {r} {f} {g} at h w = record { inside = within· r (w .insid
     within· : (q : Found) → placeOf q ≤ length s → placeOf (recorded at q) ≤ length s
     within· (Next p n) i = i
     within· (Bad v p) i = h
+
     go : (q : Found) → means s (recorded at q) f ≡ inRecord (drop at s) (means s q f)
     go (Next p n) = refl
     go (Bad v p) = rw length-drop
@@ -134,7 +135,7 @@ module _ (r : Range) (s : List ℕ) (k from : ℕ) where
           let u : Reads s (Next next x) (λ y. y) (byte r (drop at s)) = subst (λ (q : Found). Reads s q (λ y. y) (byte r (drop at s))) e w in
           let longer : take (i + 1) (set out i x) ≡ take i out ++ (x ∷ []) = rw add-one (take-suc-set out i x b) in
           let step : bytes r (k - (i + 1)) (take i out ++ (x ∷ [])) (drop next s) ≡ bytes r (k - i) (take i out) (drop at s) =
-              ap (λ (q : Got ℕ). andThen q (λ y t. bytes r (k - (i + 1)) (take i out ++ (y ∷ [])) t)) (u .is) ∙ sym (one h) in
+          ap (λ (q : Got ℕ). andThen q (λ y t. bytes r (k - (i + 1)) (take i out ++ (y ∷ [])) t)) (u .is) ∙ sym (one h) in
           record { inside = u .inside; turns = omega arith; kept = rw longer (step ∙ l .kept) }
 
     pub left-end : (n : ℕ) → k ≤ i → Reads s (Next at n) (λ m. take k out) (bytes r k [] (drop from s))

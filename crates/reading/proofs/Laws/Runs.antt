@@ -82,7 +82,7 @@ module _ {A : Type 0} (p : Phase) (item : List A → List ℕ → Got A) (s : Li
       going-next {next} {m} {more} e d =
           let u : Reads s (Next next m) f (item acc (drop at s)) = subst (λ (q : Found). Reads s q f (item acc (drop at s))) e w in
           let step : many p item (room - (n + 1)) (acc ++ (f m ∷ [])) (drop next s) ≡ many p item (room - n) acc (drop at s) =
-              ap (λ (q : Got A). andThen q (λ x r. many p item (room - (n + 1)) (acc ++ (x ∷ [])) r)) (u .is) ∙ sym (one t h) in
+          ap (λ (q : Got A). andThen q (λ x r. many p item (room - (n + 1)) (acc ++ (x ∷ [])) r)) (u .is) ∙ sym (one t h) in
           let long : length (acc ++ (f m ∷ [])) ≡ n + 1 = length-append acc (f m ∷ []) ∙ ap (λ (k : ℕ). k + 1) (l .size) in
           record {
             inside = u .inside;
@@ -103,10 +103,12 @@ module _ {A : Type 0} (p : Phase) (item : List A → List ℕ → Got A) (s : Li
         go Mine q = absurd (q refl)
         go Over q = ap (λ (x : List A). got x (drop at s)) e
         go (No v) q = refl
+
         same : (t : Turn) → (t ≡ Mine → ⊥) → (x y : Got (List A)) → onTurn t x acc (drop at s) ≡ onTurn t y acc (drop at s)
         same Mine q x y = absurd (q refl)
         same Over q x y = refl
         same (No v) q x y = refl
+
         all : (k : ℕ) → onTurn (turn p (markAt (drop at s))) (got acc (drop at s)) acc (drop at s) ≡ many p item k acc (drop at s)
         all zero = same (turn p (markAt (drop at s))) other _ _
         all (suc k) = same (turn p (markAt (drop at s))) other _ _

@@ -48,7 +48,7 @@ module _ (s : List ℕ) {p : Found} {arities : ℕ → List ℕ} (w : Reads s p 
     pub whole-arities : Arities (arities n)
     whole-arities =
         let u : Reads s (Next at n) arities (many Predicates predicate maxPredicates [] s) =
-            subst (λ (q : Found). Reads s q arities (many Predicates predicate maxPredicates [] s)) e w in
+        subst (λ (q : Found). Reads s q arities (many Predicates predicate maxPredicates [] s)) e w in
         let r = many-inv Predicates predicate PredicateFits encPredicate predicate-inv maxPredicates s (arities n) (drop at s) (sym (u .is)) in
         record { few = r .few; fit = each-all (within (AtMost maxArity)) [] (arities n) (r .good) }
 
@@ -75,7 +75,7 @@ module _ (ar s : List ℕ) (from : ℕ) {p : Found} {ms : List Mode} (w : Reads 
       pub rules-asked : end + 2 ≤ length s
       rules-asked =
           let u : Reads s (Next end m) clauses (many Clauses (clause ar ms) maxClauses [] (drop at s)) =
-              subst (λ (r : Found). Reads s r clauses (many Clauses (clause ar ms) maxClauses [] (drop at s))) d v in
+          subst (λ (r : Found). Reads s r clauses (many Clauses (clause ar ms) maxClauses [] (drop at s))) d v in
           let r = many-inv Clauses (clause ar ms) (ClauseFits ar ms) encClause (clause-inv ar ms) maxClauses (drop at s) (clauses m) (drop end s) (sym (u .is)) in
           let o = ap length (clauses-over-starts (drop end s) (r .over)) in
           let l : length (drop end s) ≡ length s - end = length-drop end s in

@@ -1,21 +1,14 @@
-use Rattle.reading.proofs.Laws.Moding.{Moding, moding-start, moding-bad, moding-below, moding-rises, moding-next, moding-end}
-use Rattle.reading.proofs.Laws.Runs.{mine-at, not-mine-at, mark-there}
+-- `reading::read_modes` meets its contract. Each turn stores the modes of a predicate above those before it, so the predicates left fall. Assumes nothing.
+use mathlib.Core.Path.{refl, sym, _∙_}
+use Prim.Native.Nat.{_-_}
+use native.Mathlib.Omega.{arith}
+use borrow.Author.Needs.{needs}
 use Rattle.book.specs.declared.mark.Phase.the-variants.{Modes}
 use Rattle.book.specs.declared.mark.Mark.the-variants.{Mo}
-use borrow.Author.Needs.{needs}
-use native.Mathlib.Omega.{arith}
-use Prim.Native.Nat.{ℕ, _+_, _-_, _*_, _≤_, _<_}
-use mathlib.Core.Path.{_≡_, refl, sym, ap, _∙_}
-use lib.ListN.{length, getD, take, drop}
-use mathlib.Core.Logic.{⊎-elim}
+use Rattle.reading.proofs.Laws.Moding.{Moding, moding-start, moding-bad, moding-below, moding-rises, moding-next, moding-end}
+use Rattle.reading.proofs.Laws.Runs.{mine-at, not-mine-at, mark-there}
 use Rattle.reading.proofs.read_modes.Statement.{statement}
 use Rattle.reading.proofs.read_modes.Tie as tie
-use Rattle.reading.proofs.read_modes.Reads as reads
-use Rattle.reading.proofs.read_modes.Lts as lts
-use Rattle.book.proofs.mode.put_mode.Reads as put-mode-reads
-use Rattle.reading.proofs.field.read_mode.Reads as read-mode-reads
-use Rattle.reading.proofs.turn.is_mark.Reads as is-mark-reads
-use Rattle.reading.proofs.turn.run_end.Reads as run-end-reads
 
 abbrev Inv-loop : tie.InvT-loop
 Inv-loop s ar from modes₀ at₀ low₀ t12 modes at low = Moding ar s from at low modes
@@ -23,53 +16,91 @@ Inv-loop s ar from modes₀ at₀ low₀ t12 modes at low = Moding ar s from at 
 abbrev μ-loop : tie.MeasureT-loop
 μ-loop s ar from modes₀ at₀ low₀ t12 modes at low = 64 - low
 
--- src/lib.rt:163:5
 loop-holds : tie.Need-loop-holds Inv-loop μ-loop
-loop-holds c = moding-start _ _ (c .before .before .pre .1) _ (c .before .before .pre .0) (c .before .before .pre .2)
+loop-holds c =
+    let pre = c .before .before .pre in
+    moding-start _ _ (pre .1) _ (pre .0) (pre .2)
 
--- src/lib.rt:163:11
 is-mark-requires : tie.Need-is-mark-requires Inv-loop μ-loop
 is-mark-requires c κs = c .before .loop .inv .going .inside
 
--- src/lib.rt:164:13
 read-mode-requires : tie.Need-read-mode-requires Inv-loop μ-loop
-read-mode-requires c κs = (mark-there Modes (c .before .before .before .before .before .before .args .s .now) _ (mine-at Modes {m = Mo} refl (c .before .before .before .before .before .before .args .s .now) (c .before .before .before .loop .at) (sym (c .before .is-mark .ensures) ∙ c .if1 .taken)), c .before .before .before .before .before .before .pre .1)
+read-mode-requires c κs =
+    let args = c .before .before .before .before .before .before .args in
+    let pre = c .before .before .before .before .before .before .pre in
+    let loop = c .before .before .before .loop in
+    (mark-there Modes (args .s .now) _ (mine-at Modes {m = Mo} refl (args .s .now) (loop .at) (sym (c .before .is-mark .ensures) ∙ c .if1 .taken)), pre .1)
 
--- src/lib.rt:169:17
 enum-told : tie.Need-enum-told Inv-loop μ-loop
 enum-told c = search needs
 
--- src/lib.rt:169:17
 returns : tie.Need-returns Inv-loop μ-loop
-returns c = moding-bad _ _ (c .before .before .before .before .before .before .before .before .before .before .pre .1) _ (c .before .before .before .before .before .before .before .loop .inv) (mine-at Modes {m = Mo} refl (c .before .before .before .before .before .before .before .before .before .before .args .s .now) (c .before .before .before .before .before .before .before .loop .at) (sym (c .before .before .before .before .before .is-mark .ensures) ∙ c .before .before .before .before .if1 .taken)) (c .before .before .before .read-mode .ensures) (c .enum-told .given .1)
+returns c =
+    let args = c .before .before .before .before .before .before .before .before .before .before .args in
+    let pre = c .before .before .before .before .before .before .before .before .before .before .pre in
+    let loop = c .before .before .before .before .before .before .before .loop in
+    let is-mark = c .before .before .before .before .before .is-mark in
+    let if1 = c .before .before .before .before .if1 in
+    let read-mode = c .before .before .before .read-mode in
+    moding-bad _ _ (pre .1) _ (loop .inv) (mine-at Modes {m = Mo} refl (args .s .now) (loop .at) (sym (is-mark .ensures) ∙ if1 .taken)) (read-mode .ensures) (c .enum-told .given .1)
 
--- src/lib.rt:171:25
 enum-known-g : tie.Need-enum-known-g Inv-loop μ-loop
 enum-known-g c = search needs
 
--- src/lib.rt:172:17
 put-mode-requires : tie.Need-put-mode-requires Inv-loop μ-loop
-put-mode-requires c κs = moding-below _ (c .before .before .before .before .before .before .before .before .before .before .before .before .args .s .now) (c .before .before .before .before .before .before .before .before .before .before .before .before .pre .1) _ (c .before .before .before .before .before .before .before .before .before .loop .inv) (mine-at Modes {m = Mo} refl (c .before .before .before .before .before .before .before .before .before .before .before .before .args .s .now) (c .before .before .before .before .before .before .before .before .before .loop .at) (sym (c .before .before .before .before .before .before .before .is-mark .ensures) ∙ c .before .before .before .before .before .before .if1 .taken)) (c .before .before .before .before .before .read-mode .ensures) (c .before .before .g .given .1)
+put-mode-requires c κs =
+    let args = c .before .before .before .before .before .before .before .before .before .before .before .before .args in
+    let pre = c .before .before .before .before .before .before .before .before .before .before .before .before .pre in
+    let loop = c .before .before .before .before .before .before .before .before .before .loop in
+    let is-mark = c .before .before .before .before .before .before .before .is-mark in
+    let if1 = c .before .before .before .before .before .before .if1 in
+    let read-mode = c .before .before .before .before .before .read-mode in
+    let g = c .before .before .g in
+    moding-below _ (args .s .now) (pre .1) _ (loop .inv) (mine-at Modes {m = Mo} refl (args .s .now) (loop .at) (sym (is-mark .ensures) ∙ if1 .taken)) (read-mode .ensures) (g .given .1)
 
--- src/lib.rt:173:23
 add-low : tie.Need-add-low Inv-loop μ-loop
-add-low c = let h = moding-below _ (c .before .before .before .before .before .before .before .before .before .before .before .before .before .args .s .now) (c .before .before .before .before .before .before .before .before .before .before .before .before .before .pre .1) _ (c .before .before .before .before .before .before .before .before .before .before .loop .inv) (mine-at Modes {m = Mo} refl (c .before .before .before .before .before .before .before .before .before .before .before .before .before .args .s .now) (c .before .before .before .before .before .before .before .before .before .before .loop .at) (sym (c .before .before .before .before .before .before .before .before .is-mark .ensures) ∙ c .before .before .before .before .before .before .before .if1 .taken)) (c .before .before .before .before .before .before .read-mode .ensures) (c .before .before .before .g .given .1) in omega arith
+add-low c =
+    let args = c .before .before .before .before .before .before .before .before .before .before .before .before .before .args in
+    let pre = c .before .before .before .before .before .before .before .before .before .before .before .before .before .pre in
+    let loop = c .before .before .before .before .before .before .before .before .before .before .loop in
+    let is-mark = c .before .before .before .before .before .before .before .before .is-mark in
+    let if1 = c .before .before .before .before .before .before .before .if1 in
+    let read-mode = c .before .before .before .before .before .before .read-mode in
+    let g = c .before .before .before .g in
+    let h = moding-below _ (args .s .now) (pre .1) _ (loop .inv) (mine-at Modes {m = Mo} refl (args .s .now) (loop .at) (sym (is-mark .ensures) ∙ if1 .taken)) (read-mode .ensures) (g .given .1) in omega arith
 
--- src/lib.rt:163:5
 loop-less : tie.Need-loop-less Inv-loop μ-loop
-loop-less c = let h = moding-below _ (c .before .before .before .before .before .before .before .before .before .before .before .before .before .args .s .now) (c .before .before .before .before .before .before .before .before .before .before .before .before .before .pre .1) _ (c .before .before .before .before .before .before .before .before .before .before .loop .inv) (mine-at Modes {m = Mo} refl (c .before .before .before .before .before .before .before .before .before .before .before .before .before .args .s .now) (c .before .before .before .before .before .before .before .before .before .before .loop .at) (sym (c .before .before .before .before .before .before .before .before .is-mark .ensures) ∙ c .before .before .before .before .before .before .before .if1 .taken)) (c .before .before .before .before .before .before .read-mode .ensures) (c .before .before .before .g .given .1) in let r = moding-rises _ (c .before .before .before .before .before .before .before .before .before .before .before .before .before .args .s .now) (c .before .before .before .before .before .before .before .before .before .before .before .before .before .pre .1) _ (c .before .before .before .before .before .before .before .before .before .before .loop .inv) (mine-at Modes {m = Mo} refl (c .before .before .before .before .before .before .before .before .before .before .before .before .before .args .s .now) (c .before .before .before .before .before .before .before .before .before .before .loop .at) (sym (c .before .before .before .before .before .before .before .before .is-mark .ensures) ∙ c .before .before .before .before .before .before .before .if1 .taken)) (c .before .before .before .before .before .before .read-mode .ensures) (c .before .before .before .g .given .1) in omega arith
+loop-less c =
+    let args = c .before .before .before .before .before .before .before .before .before .before .before .before .before .args in
+    let pre = c .before .before .before .before .before .before .before .before .before .before .before .before .before .pre in
+    let loop = c .before .before .before .before .before .before .before .before .before .before .loop in
+    let is-mark = c .before .before .before .before .before .before .before .before .is-mark in
+    let if1 = c .before .before .before .before .before .before .before .if1 in
+    let read-mode = c .before .before .before .before .before .before .read-mode in
+    let g = c .before .before .before .g in
+    let h = moding-below _ (args .s .now) (pre .1) _ (loop .inv) (mine-at Modes {m = Mo} refl (args .s .now) (loop .at) (sym (is-mark .ensures) ∙ if1 .taken)) (read-mode .ensures) (g .given .1) in let r = moding-rises _ (args .s .now) (pre .1) _ (loop .inv) (mine-at Modes {m = Mo} refl (args .s .now) (loop .at) (sym (is-mark .ensures) ∙ if1 .taken)) (read-mode .ensures) (g .given .1) in omega arith
 
--- src/lib.rt:163:5
 loop-again : tie.Need-loop-again Inv-loop μ-loop
-loop-again c = moding-next _ _ (c .before .before .before .before .before .before .before .before .before .before .before .before .before .pre .1) _ (c .before .before .before .before .before .before .before .before .before .before .loop .inv) (mine-at Modes {m = Mo} refl (c .before .before .before .before .before .before .before .before .before .before .before .before .before .args .s .now) (c .before .before .before .before .before .before .before .before .before .before .loop .at) (sym (c .before .before .before .before .before .before .before .before .is-mark .ensures) ∙ c .before .before .before .before .before .before .before .if1 .taken)) (c .before .before .before .before .before .before .read-mode .ensures) (c .before .before .before .g .given .1) (c .put-mode .ensures)
+loop-again c =
+    let args = c .before .before .before .before .before .before .before .before .before .before .before .before .before .args in
+    let pre = c .before .before .before .before .before .before .before .before .before .before .before .before .before .pre in
+    let loop = c .before .before .before .before .before .before .before .before .before .before .loop in
+    let is-mark = c .before .before .before .before .before .before .before .before .is-mark in
+    let if1 = c .before .before .before .before .before .before .before .if1 in
+    let read-mode = c .before .before .before .before .before .before .read-mode in
+    let g = c .before .before .before .g in
+    moding-next _ _ (pre .1) _ (loop .inv) (mine-at Modes {m = Mo} refl (args .s .now) (loop .at) (sym (is-mark .ensures) ∙ if1 .taken)) (read-mode .ensures) (g .given .1) (c .put-mode .ensures)
 
--- src/lib.rt:178:5
 run-end-requires : tie.Need-run-end-requires Inv-loop μ-loop
 run-end-requires c κs = c .before .before .before .loop .inv .going .inside
 
--- src/lib.rt:157:1
 returns-2 : tie.Need-returns-2 Inv-loop μ-loop
-returns-2 c = moding-end _ _ (c .before .before .before .before .before .before .before .pre .1) _ (c .before .before .before .before .loop .inv) (not-mine-at Modes {m = Mo} refl (c .before .before .before .before .before .before .before .args .s .now) (c .before .before .before .before .loop .at) (sym (c .before .before .is-mark .ensures) ∙ c .before .if1 .left)) 0 (c .run-end .ensures)
+returns-2 c =
+    let args = c .before .before .before .before .before .before .before .args in
+    let pre = c .before .before .before .before .before .before .before .pre in
+    let loop = c .before .before .before .before .loop in
+    let is-mark = c .before .before .is-mark in
+    moding-end _ _ (pre .1) _ (loop .inv) (not-mine-at Modes {m = Mo} refl (args .s .now) (loop .at) (sym (is-mark .ensures) ∙ c .before .if1 .left)) 0 (c .run-end .ensures)
 
 pub read-modes-spec : {M : Type 1} → statement M
 read-modes-spec =

@@ -1,90 +1,106 @@
+-- `reading::read_rules` meets its contract. Modes, clauses and query, one after the other; the query is stored where no clause stands. Assumes nothing.
+use mathlib.Core.Path.{refl, sym}
+use native.Mathlib.Omega.{arith}
+use lib.Seq.{length-take-le}
+use borrow.Author.Needs.{needs}
 use Rattle.reading.proofs.Laws.Whole.{rules-modes, rules-clauses, rules-asked, rules-query, rules-next, held-is}
 use Rattle.reading.proofs.Laws.Runs.{count-next}
 use Rattle.reading.proofs.Laws.Reads.{next-inside}
-use lib.Seq.{length-take-le}
-use borrow.Author.Needs.{needs}
-use native.Mathlib.Omega.{arith}
-use Prim.Native.Nat.{ℕ, _+_, _-_, _*_, _≤_, _<_}
-use mathlib.Core.Path.{_≡_, refl, sym, ap, _∙_}
-use lib.ListN.{length, getD, take, drop}
-use mathlib.Core.Logic.{⊎-elim}
 use Rattle.reading.proofs.read_rules.Statement.{statement}
 use Rattle.reading.proofs.read_rules.Tie as tie
-use Rattle.reading.proofs.read_rules.Reads as reads
-use Rattle.reading.proofs.read_rules.Lts as lts
-use Rattle.book.proofs.clause.no_call.Reads as no-call-reads
-use Rattle.book.proofs.clause.put_clause.Reads as put-clause-reads
-use Rattle.reading.proofs.read_body.Reads as read-body-reads
-use Rattle.reading.proofs.read_clauses.Reads as read-clauses-reads
-use Rattle.reading.proofs.read_modes.Reads as read-modes-reads
 
--- src/lib.rt:117:9
 slice-aggregate-ar : tie.Need-slice-aggregate-ar
-slice-aggregate-ar c = let e = c .before .bytes .given .0 in sym (length-take-le _ _ (let h = c .before .before .before .pre .1 in omega arith))
+slice-aggregate-ar c =
+    let pre = c .before .before .before .pre in
+    let e = c .before .bytes .given .0 in sym (length-take-le _ _ (let h = pre .1 in omega arith))
 
--- src/lib.rt:118:9
 read-modes-requires : tie.Need-read-modes-requires
-read-modes-requires c κs = (c .before .before .before .before .pre .0, c .before .before .before .before .pre .2, c .before .before .before .before .pre .3)
+read-modes-requires c κs =
+    let pre = c .before .before .before .before .pre in
+    (pre .0, pre .2, pre .3)
 
--- src/lib.rt:119:21
 enum-known-m : tie.Need-enum-known-m
 enum-known-m c = search needs
 
--- src/lib.rt:120:9
 enum-told : tie.Need-enum-told
 enum-told c = search needs
 
--- src/lib.rt:120:9
 returns : tie.Need-returns
-returns c = rules-modes _ _ (c .before .before .before .before .before .before .before .args .from) (c .before .before .read-modes .ensures) (c .enum-told .given .1)
+returns c =
+    let args = c .before .before .before .before .before .before .before .args in
+    let read-modes = c .before .before .read-modes in
+    rules-modes _ _ (args .from) (read-modes .ensures) (c .enum-told .given .1)
 
--- src/lib.rt:122:9
 read-clauses-requires : tie.Need-read-clauses-requires
-read-clauses-requires c κs = (next-inside (c .before .before .before .before .before .read-modes .ensures) (c .before .before .before .m .given .1), c .before .before .before .before .before .before .before .before .before .before .pre .2)
+read-clauses-requires c κs =
+    let pre = c .before .before .before .before .before .before .before .before .before .before .pre in
+    let read-modes = c .before .before .before .before .before .read-modes in
+    let m = c .before .before .before .m in
+    (next-inside (read-modes .ensures) (m .given .1), pre .2)
 
--- src/lib.rt:123:21
 enum-known-c : tie.Need-enum-known-c
 enum-known-c c = search needs
 
--- src/lib.rt:124:9
 enum-told-2 : tie.Need-enum-told-2
 enum-told-2 c = search needs
 
--- src/lib.rt:124:9
 returns-2 : tie.Need-returns-2
-returns-2 c = rules-clauses _ _ (c .before .before .before .before .before .before .before .before .before .before .before .before .before .args .from) (c .before .before .before .before .before .before .before .before .read-modes .ensures) (c .before .before .before .before .before .before .m .given .1) (c .before .before .read-clauses .ensures .0) (c .enum-told2 .given .1)
+returns-2 c =
+    let args = c .before .before .before .before .before .before .before .before .before .before .before .before .before .args in
+    let read-modes = c .before .before .before .before .before .before .before .before .read-modes in
+    let m = c .before .before .before .before .before .before .m in
+    let read-clauses = c .before .before .read-clauses in
+    rules-clauses _ _ (args .from) (read-modes .ensures) (m .given .1) (read-clauses .ensures .0) (c .enum-told2 .given .1)
 
--- src/lib.rt:126:30
 add-read-body : tie.Need-add-read-body
-add-read-body c = let h = rules-asked _ (c .before .before .before .before .before .before .before .before .before .before .before .before .before .before .args .s .now) (c .before .before .before .before .before .before .before .before .before .before .before .before .before .before .args .from) (c .before .before .before .before .before .before .before .before .before .read-modes .ensures) (c .before .before .before .before .before .before .before .m .given .1) (c .before .before .before .read-clauses .ensures .0) (c .before .c .given .1) in omega arith
+add-read-body c =
+    let read-modes = c .before .before .before .before .before .before .before .before .before .read-modes in
+    let m = c .before .before .before .before .before .before .before .m in
+    let read-clauses = c .before .before .before .read-clauses in
+    let h = rules-asked _ (c .before .before .before .before .before .before .before .before .before .before .before .before .before .before .args .s .now) (c .before .before .before .before .before .before .before .before .before .before .before .before .before .before .args .from) (read-modes .ensures) (m .given .1) (read-clauses .ensures .0) (c .before .c .given .1) in omega arith
 
--- src/lib.rt:126:53
 no-call-requires : tie.Need-no-call-requires
 no-call-requires c κs = search needs
 
--- src/lib.rt:126:9
 read-body-requires : tie.Need-read-body-requires
-read-body-requires c κs = (rules-asked _ (c .before .before .before .before .before .before .before .before .before .before .before .before .before .before .before .args .s .now) (c .before .before .before .before .before .before .before .before .before .before .before .before .before .before .before .args .from) (c .before .before .before .before .before .before .before .before .before .before .read-modes .ensures) (c .before .before .before .before .before .before .before .before .m .given .1) (c .before .before .before .before .read-clauses .ensures .0) (c .before .before .c .given .1), c .before .before .before .before .before .before .before .before .before .before .before .before .before .before .before .pre .2, refl)
+read-body-requires c κs =
+    let args = c .before .before .before .before .before .before .before .before .before .before .before .before .before .before .before .args in
+    let pre = c .before .before .before .before .before .before .before .before .before .before .before .before .before .before .before .pre in
+    let read-modes = c .before .before .before .before .before .before .before .before .before .before .read-modes in
+    let m = c .before .before .before .before .before .before .before .before .m in
+    let read-clauses = c .before .before .before .before .read-clauses in
+    let c· = c .before .before .c in
+    (rules-asked _ (args .s .now) (args .from) (read-modes .ensures) (m .given .1) (read-clauses .ensures .0) (c· .given .1), pre .2, refl)
 
--- src/lib.rt:128:5
 put-clause-requires : tie.Need-put-clause-requires
 put-clause-requires c κs = search needs
 
--- src/lib.rt:131:29
 enum-told-3 : tie.Need-enum-told-3
 enum-told-3 c = search needs
 
--- src/lib.rt:132:21
 enum-known-g : tie.Need-enum-known-g
 enum-known-g c = search needs
 
--- src/lib.rt:111:1
 returns-3 : tie.Need-returns-3
-returns-3 c = rules-query _ _ (c .before .before .before .before .before .before .before .before .before .before .before .before .before .before .before .before .before .before .before .before .before .args .from) (c .before .before .before .before .before .before .before .before .before .before .before .before .before .before .before .before .read-modes .ensures) (c .before .before .before .before .before .before .before .before .before .before .before .before .before .before .m .given .1) (c .before .before .before .before .before .before .before .before .before .before .read-clauses .ensures .0) (c .before .before .before .before .before .before .before .before .c .given .1) (c .before .before .before .before .before .read-body .ensures .0) (c .enum-told3 .given .1)
+returns-3 c =
+    let args = c .before .before .before .before .before .before .before .before .before .before .before .before .before .before .before .before .before .before .before .before .before .args in
+    let read-modes = c .before .before .before .before .before .before .before .before .before .before .before .before .before .before .before .before .read-modes in
+    let m = c .before .before .before .before .before .before .before .before .before .before .before .before .before .before .m in
+    let read-clauses = c .before .before .before .before .before .before .before .before .before .before .read-clauses in
+    let c· = c .before .before .before .before .before .before .before .before .c in
+    let read-body = c .before .before .before .before .before .read-body in
+    rules-query _ _ (args .from) (read-modes .ensures) (m .given .1) (read-clauses .ensures .0) (c· .given .1) (read-body .ensures .0) (c .enum-told3 .given .1)
 
--- src/lib.rt:111:1
 returns-4 : tie.Need-returns-4
-returns-4 c = rules-next _ _ (c .before .before .before .before .before .before .before .before .before .before .before .before .before .before .before .before .before .before .before .before .before .before .args .from) (c .before .before .before .before .before .before .before .before .before .before .before .before .before .before .before .before .before .read-modes .ensures) (c .before .before .before .before .before .before .before .before .before .before .before .before .before .before .before .m .given .1) (c .before .before .before .before .before .before .before .before .before .before .before .read-clauses .ensures .0) (c .before .before .before .before .before .before .before .before .before .c .given .1) (c .before .before .before .before .before .before .read-body .ensures .0) (c .before .g .given .1) (held-is _ _ _ _ (count-next 64 (c .before .before .before .before .before .before .before .before .before .c .given .1) (c .before .before .before .before .before .before .before .before .before .before .before .read-clauses .ensures .1)) (c .before .before .before .put-clause .ensures))
+returns-4 c =
+    let args = c .before .before .before .before .before .before .before .before .before .before .before .before .before .before .before .before .before .before .before .before .before .before .args in
+    let read-modes = c .before .before .before .before .before .before .before .before .before .before .before .before .before .before .before .before .before .read-modes in
+    let m = c .before .before .before .before .before .before .before .before .before .before .before .before .before .before .before .m in
+    let read-clauses = c .before .before .before .before .before .before .before .before .before .before .before .read-clauses in
+    let c· = c .before .before .before .before .before .before .before .before .before .c in
+    let read-body = c .before .before .before .before .before .before .read-body in
+    let put-clause = c .before .before .before .put-clause in
+    rules-next _ _ (args .from) (read-modes .ensures) (m .given .1) (read-clauses .ensures .0) (c· .given .1) (read-body .ensures .0) (c .before .g .given .1) (held-is _ _ _ _ (count-next 64 (c· .given .1) (read-clauses .ensures .1)) (put-clause .ensures))
 
 pub read-rules-spec : {M : Type 1} → statement M
 read-rules-spec =

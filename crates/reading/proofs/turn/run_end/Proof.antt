@@ -1,49 +1,49 @@
-use Rattle.reading.proofs.Laws.Turns.{stops-no, stops-over, stops-mine}
-use Rattle.book.specs.Format.{turn}
+-- `reading::turn::run_end` meets its contract. By what the table says of the mark. Assumes nothing.
+use mathlib.Core.Path.{sym, ap, _∙_}
 use borrow.Author.Needs.{needs}
-use native.Mathlib.Omega.{arith}
-use Prim.Native.Nat.{ℕ, _+_, _-_, _*_, _≤_, _<_}
-use mathlib.Core.Path.{_≡_, refl, sym, ap, _∙_}
-use lib.ListN.{length, getD, take, drop}
-use mathlib.Core.Logic.{⊎-elim}
+use Rattle.book.specs.Format.{turn}
+use Rattle.reading.proofs.Laws.Turns.{stops-no, stops-over, stops-mine}
 use Rattle.reading.proofs.turn.run_end.Statement.{statement}
 use Rattle.reading.proofs.turn.run_end.Tie as tie
-use Rattle.reading.proofs.turn.run_end.Reads as reads
-use Rattle.reading.proofs.turn.run_end.Lts as lts
-use Rattle.reading.proofs.turn.mark_at.Reads as mark-at-reads
-use Rattle.reading.proofs.turn.turn.Reads as turn-reads
 
--- src/turn.rt:32:9
 mark-at-requires : tie.Need-mark-at-requires
 mark-at-requires c κs = search needs
 
--- src/turn.rt:33:9
 turn-requires : tie.Need-turn-requires
 turn-requires c κs = search needs
 
--- src/turn.rt:35:18
 enum-known-t : tie.Need-enum-known-t
 enum-known-t c = search needs
 
--- src/turn.rt:36:23
 enum-told : tie.Need-enum-told
 enum-told c = search needs
 
--- src/turn.rt:37:23
 enum-told-2 : tie.Need-enum-told-2
 enum-told-2 c = search needs
 
--- src/turn.rt:28:1
 returns : tie.Need-returns
-returns c = stops-no (c .before .before .before .before .before .before .args .p) (c .before .before .before .before .before .before .args .s .now) (c .before .before .before .before .before .before .args .at) (c .before .before .before .before .before .before .pre) _ (c .before .before .before .before .before .before .args .n) (sym (c .before .before .before .turn .ensures ∙ ap (turn (c .before .before .before .before .before .before .args .p)) (c .before .before .before .before .mark-at .ensures)) ∙ c .before .t .given .1)
+returns c =
+    let args = c .before .before .before .before .before .before .args in
+    let pre = c .before .before .before .before .before .before .pre in
+    let mark-at = c .before .before .before .before .mark-at in
+    let turned = c .before .before .before .turn in
+    stops-no (args .p) (args .s .now) (args .at) pre _ (args .n) (sym (turned .ensures ∙ ap (turn (args .p)) (mark-at .ensures)) ∙ c .before .t .given .1)
 
--- src/turn.rt:28:1
 returns-2 : tie.Need-returns-2
-returns-2 c = stops-over (c .before .before .before .before .before .args .p) (c .before .before .before .before .before .args .s .now) (c .before .before .before .before .before .args .at) (c .before .before .before .before .before .pre) _ (c .before .before .before .before .before .args .n) (sym (c .before .before .turn .ensures ∙ ap (turn (c .before .before .before .before .before .args .p)) (c .before .before .before .mark-at .ensures)) ∙ c .enum-told .given .1)
+returns-2 c =
+    let args = c .before .before .before .before .before .args in
+    let pre = c .before .before .before .before .before .pre in
+    let mark-at = c .before .before .before .mark-at in
+    let turned = c .before .before .turn in
+    stops-over (args .p) (args .s .now) (args .at) pre _ (args .n) (sym (turned .ensures ∙ ap (turn (args .p)) (mark-at .ensures)) ∙ c .enum-told .given .1)
 
--- src/turn.rt:28:1
 returns-3 : tie.Need-returns-3
-returns-3 c = stops-mine (c .before .before .before .before .before .args .p) (c .before .before .before .before .before .args .s .now) (c .before .before .before .before .before .args .at) (c .before .before .before .before .before .pre) _ (c .before .before .before .before .before .args .n) (sym (c .before .before .turn .ensures ∙ ap (turn (c .before .before .before .before .before .args .p)) (c .before .before .before .mark-at .ensures)) ∙ c .enum-told2 .given .1)
+returns-3 c =
+    let args = c .before .before .before .before .before .args in
+    let pre = c .before .before .before .before .before .pre in
+    let mark-at = c .before .before .before .mark-at in
+    let turned = c .before .before .turn in
+    stops-mine (args .p) (args .s .now) (args .at) pre _ (args .n) (sym (turned .ensures ∙ ap (turn (args .p)) (mark-at .ensures)) ∙ c .enum-told2 .given .1)
 
 pub run-end-spec : {M : Type 1} → statement M
 run-end-spec =

@@ -1,72 +1,50 @@
+-- `reading::turn::turn` meets its contract. Row by row. Assumes nothing.
 use borrow.Author.Needs.{needs}
-use native.Mathlib.Omega.{arith}
-use Prim.Native.Nat.{ℕ, _+_, _-_, _*_, _≤_, _<_}
-use mathlib.Core.Path.{_≡_, refl, sym, ap, _∙_}
-use lib.ListN.{length, getD, take, drop}
-use mathlib.Core.Logic.{⊎-elim}
 use Rattle.reading.proofs.turn.turn.Statement.{statement}
 use Rattle.reading.proofs.turn.turn.Tie as tie
-use Rattle.reading.proofs.turn.turn.Reads as reads
-use Rattle.reading.proofs.turn.turn.Lts as lts
-use Rattle.reading.proofs.turn.column.Reads as column-reads
 
--- src/turn.rt:49:30
 enum-told : tie.Need-enum-told
 enum-told c = search needs
 
--- src/turn.rt:49:30
 column-requires : tie.Need-column-requires
 column-requires c κs = search needs
 
--- src/turn.rt:50:25
 enum-told-2 : tie.Need-enum-told-2
 enum-told-2 c = search needs
 
--- src/turn.rt:50:25
 column-requires-2 : tie.Need-column-requires-2
 column-requires-2 c κs = search needs
 
--- src/turn.rt:51:27
 enum-told-3 : tie.Need-enum-told-3
 enum-told-3 c = search needs
 
--- src/turn.rt:51:27
 column-requires-3 : tie.Need-column-requires-3
 column-requires-3 c κs = search needs
 
--- src/turn.rt:52:24
 enum-told-4 : tie.Need-enum-told-4
 enum-told-4 c = search needs
 
--- src/turn.rt:52:24
 column-requires-4 : tie.Need-column-requires-4
 column-requires-4 c κs = search needs
 
--- src/turn.rt:53:25
 enum-told-5 : tie.Need-enum-told-5
 enum-told-5 c = search needs
 
--- src/turn.rt:53:25
 column-requires-5 : tie.Need-column-requires-5
 column-requires-5 c κs = search needs
 
--- src/turn.rt:42:1
 returns : tie.Need-returns
 returns c = rw (c .before .enum-told .given .1) (c .column .ensures)
 
--- src/turn.rt:42:1
 returns-2 : tie.Need-returns-2
 returns-2 c = rw (c .before .enum-told2 .given .1) (c .column2 .ensures)
 
--- src/turn.rt:42:1
 returns-3 : tie.Need-returns-3
 returns-3 c = rw (c .before .enum-told3 .given .1) (c .column3 .ensures)
 
--- src/turn.rt:42:1
 returns-4 : tie.Need-returns-4
 returns-4 c = rw (c .before .enum-told4 .given .1) (c .column4 .ensures)
 
--- src/turn.rt:42:1
 returns-5 : tie.Need-returns-5
 returns-5 c = rw (c .before .enum-told5 .given .1) (c .column5 .ensures)
 
