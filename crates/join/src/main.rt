@@ -5,8 +5,7 @@
 // Masks are decimal, with commas between them; `-` is no mask. For each line it prints NAME, the number and the value of the reply, and the
 // masks written, or `-`; of a line that names neither way, NAME and `?`. It reads at most 65,536 bytes. A reply that altered a byte it had to
 // leave would add the word `spoiled`.
-ghost use mathlib.Core.Path.{_≡_};
-ghost use Prim.Native.Nat.{_+_, _≤_, min};
+ghost use Prim.Native.Nat.{_≤_};
 ghost use lib.ListN.{length};
 ghost use Rattle.io.specs.Counts.{Counts};
 use libc::STDIN_FILENO;
@@ -19,39 +18,27 @@ const OLD: u8 = 238;
 fn main() {
     let mut text = [0u8; 65536];
     let n = io::read_full(STDIN_FILENO, &mut text);
-    let lines = &text[..n];
+    let input = &text[..n];
     let mut at: usize = 0;
-    while at < lines.len() {
-        let end = until(lines, at, b'\n');
-        answer(&lines[at..end]);
+    while at < input.len() {
+        let end = lines::until(input, at, b'\n');
+        answer(&input[at..end]);
         at = end + 1;
     }
 }
 
 // One line: its fields are parted by single spaces.
 fn answer(line: &[u8]) {
-    io::write_all(STDOUT_FILENO, field(line, 0));
-    if check::same(field(line, 1), b"joint") {
+    io::write_all(STDOUT_FILENO, lines::field(line, 0));
+    if check::same(lines::field(line, 1), b"joint") {
         show(try_one(true, line));
     } else {
-        if check::same(field(line, 1), b"choice") {
+        if check::same(lines::field(line, 1), b"choice") {
             show(try_one(false, line));
         } else {
             io::write_all(STDOUT_FILENO, b" ?\n");
         }
     }
-}
-
-// Field k of a line, counted from 0; past the last it is empty.
-fn field(line: &[u8], k: usize) -> &[u8] {
-    let mut at: usize = 0;
-    let mut i: usize = 0;
-    while i < k {
-        at = after(line, until(line, at, b' '));
-        i += 1;
-    }
-    let end = until(line, at, b' ');
-    &line[at..end]
 }
 
 // A reply, and what the room held after it.
@@ -62,13 +49,13 @@ struct Tried {
 
 // One call, with room for at most 64 bytes.
 fn try_one(joint: bool, line: &[u8]) -> Tried {
-    let arity = number(field(line, 2));
+    let arity = number(lines::field(line, 2));
     let mut xs = [0u8; 32];
-    let nx = numbers(field(line, 3), &mut xs);
+    let nx = numbers(lines::field(line, 3), &mut xs);
     let mut ys = [0u8; 32];
-    let ny = numbers(field(line, 4), &mut ys);
+    let ny = numbers(lines::field(line, 4), &mut ys);
     let mut out = [OLD; 64];
-    let k = clipped(number(field(line, 5)), &out);
+    let k = clipped(number(lines::field(line, 5)), &out);
     if joint {
         let reply = masks::joint(arity, &xs[..nx], &ys[..ny], &mut out[..k]);
         return Tried { reply, out };
@@ -140,7 +127,7 @@ fn numbers(word: &[u8], to: &mut [u8]) -> usize
         let x = decimal(word, at);
         to[n] = x.value;
         n += 1;
-        at = after(word, x.end);
+        at = lines::after(word, x.end);
     }
     n
 }
@@ -190,26 +177,4 @@ fn decimal(word: &[u8], at: usize) -> Read
 fn with_digit(value: u8, digit: u8) -> u8 {
     let wide = value as u64 * 10 + digit as u64;
     if wide < 256 { (wide % 256) as u8 } else { 255 }
-}
-
-// The first place from `at` on that has the byte, or the end.
-fn until(s: &[u8], at: usize, stop: u8) -> usize
-    requires { ⌜ at ≤ length (now s) ⌝ }
-    ensures { λ r. ⌜ (at ≤ r) × Counts r (now (s .entry)) ⌝ }
-{
-    let mut i = at;
-    while i < s.len() {
-        if s[i] == stop {
-            return i;
-        }
-        i += 1;
-    }
-    i
-}
-
-// The place after the byte at `at`, or the end.
-fn after(s: &[u8], at: usize) -> usize
-    ensures { λ r. ⌜ r ≡ min (at + 1) (length (now (s .entry))) ⌝ }
-{
-    if at < s.len() { at + 1 } else { s.len() }
 }

@@ -6,10 +6,10 @@ use Rattle.join.proofs.main.Statement.{statement}
 use Rattle.join.proofs.main.Tie as tie
 
 abbrev Inv-loop : tie.InvT-loop
-Inv-loop n lines at₀ at = Unit {0}
+Inv-loop n input at₀ at = Unit {0}
 
 abbrev μ-loop : tie.MeasureT-loop
-μ-loop n lines at₀ at = length lines - at
+μ-loop n input at₀ at = length input - at
 
 slice-aggregate-read-full : tie.Need-slice-aggregate-read-full Inv-loop μ-loop
 slice-aggregate-read-full c = search needs
@@ -20,8 +20,8 @@ read-full-requires c κs = search needs
 array-share-prefix-text : tie.Need-array-share-prefix-text Inv-loop μ-loop
 array-share-prefix-text c = search needs
 
-slice-aggregate-lines : tie.Need-slice-aggregate-lines Inv-loop μ-loop
-slice-aggregate-lines c = search needs
+slice-aggregate-input : tie.Need-slice-aggregate-input Inv-loop μ-loop
+slice-aggregate-input c = search needs
 
 loop-holds : tie.Need-loop-holds Inv-loop μ-loop
 loop-holds c = search needs
@@ -62,7 +62,7 @@ main-spec =
     slice-aggregate-read-full
     read-full-requires
     array-share-prefix-text
-    slice-aggregate-lines
+    slice-aggregate-input
     loop-holds
     until-requires
     sub-answer

@@ -1,12 +1,12 @@
--- `join::until` meets its contract. The loop's invariant: i is between the start and the end. Assumes nothing.
+-- `lines::until` meets its contract. The loop's invariant: i is between the start and the end. Assumes nothing.
 use mathlib.Core.Path.{sym}
 use Prim.Native.Nat.{_-_, _≤_}
 use native.Mathlib.Omega.{arith}
 use lib.Seq.{length-take-le}
 use lib.ListN.{length}
 use borrow.Author.Needs.{needs}
-use Rattle.join.proofs.until.Statement.{statement}
-use Rattle.join.proofs.until.Tie as tie
+use Rattle.lines.proofs.until.Statement.{statement}
+use Rattle.lines.proofs.until.Tie as tie
 
 abbrev Inv-loop : tie.InvT-loop
 Inv-loop s at stop i₀ i = (at ≤ i) × (i ≤ length s)

@@ -1,9 +1,9 @@
--- `join::field` meets its contract. The loop's invariant: the place is within the line. Assumes nothing.
+-- `lines::field` meets its contract. The loop's invariant: the place is within the line. Assumes nothing.
 use Prim.Native.Nat.{_-_, _≤_}
 use lib.ListN.{length}
 use borrow.Author.Needs.{needs}
-use Rattle.join.proofs.field.Statement.{statement}
-use Rattle.join.proofs.field.Tie as tie
+use Rattle.lines.proofs.field.Statement.{statement}
+use Rattle.lines.proofs.field.Tie as tie
 
 abbrev Inv-loop : tie.InvT-loop
 Inv-loop line k at₀ i₀ at i = at ≤ length line

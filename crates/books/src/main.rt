@@ -1,0 +1,141 @@
+// The check of a book, for each line of standard input:
+//
+//     NAME BYTES
+//
+// Bytes are hexadecimal digits, two a byte; `-` is the empty string. For each line it prints NAME and the number and value of the check's reply. A
+// valid book it writes again: `written` and the number of bytes, where they are the book's own and no byte after them changed; then `short` with
+// the number and value of the reply where the room is one byte less, and no byte of it changed. Else it prints `differs`. It reads at most
+// 262,144 bytes, and of a book at most 8,192.
+ghost use Prim.Native.Nat.{_≤_};
+ghost use lib.ListN.{length};
+ghost use Rattle.io.specs.Counts.{Counts};
+use book::Book;
+use libc::STDIN_FILENO;
+use libc::STDOUT_FILENO;
+use masks::reply::Reply;
+
+// What the room holds before a call.
+const OLD: u8 = 238;
+
+const ROOM: usize = 8192;
+
+fn main() {
+    let mut text = [0u8; 262144];
+    let n = io::read_full(STDIN_FILENO, &mut text);
+    let input = &text[..n];
+    let mut at: usize = 0;
+    while at < input.len() {
+        let end = lines::until(input, at, b'\n');
+        answer(&input[at..end]);
+        at = end + 1;
+    }
+}
+
+// One line.
+fn answer(line: &[u8]) {
+    io::write_all(STDOUT_FILENO, lines::field(line, 0));
+    let mut raw = [0u8; ROOM];
+    let n = unhex(lines::field(line, 1), &mut raw);
+    let bytes = &raw[..n];
+    let r = reading::check(bytes);
+    show(r);
+    if r.number == 0 {
+        show_again(bytes);
+    }
+    io::write_all(STDOUT_FILENO, b"\n");
+}
+
+// A reply's number and value.
+fn show(r: Reply) {
+    io::write_all(STDOUT_FILENO, b" ");
+    io::print_decimal(STDOUT_FILENO, r.number as u64);
+    io::write_all(STDOUT_FILENO, b" ");
+    io::print_decimal(STDOUT_FILENO, r.value);
+}
+
+// A valid book, written again: into more room than it needs, and into one byte less than it needs.
+fn show_again(bytes: &[u8]) {
+    let r = reading::read_book(bytes);
+    let b = r.book;
+    let mut out = [OLD; ROOM];
+    let all = write(b, &mut out);
+    if all.number != 0 || !written(bytes, &out) {
+        io::write_all(STDOUT_FILENO, b" differs");
+        return;
+    }
+    io::write_all(STDOUT_FILENO, b" written ");
+    io::print_decimal(STDOUT_FILENO, all.value);
+    let mut less = [OLD; ROOM];
+    let n = one_less(bytes, &less);
+    let short = write(b, &mut less[..n]);
+    if !written(b"", &less) {
+        io::write_all(STDOUT_FILENO, b" differs");
+        return;
+    }
+    io::write_all(STDOUT_FILENO, b" short");
+    show(short);
+}
+
+// A book, written into the room.
+fn write(b: Book, out: &mut [u8]) -> Reply {
+    writing::write_book(b.preds, &b.arities, &b.modes, b.clauses, &b.rules, out)
+}
+
+// The room holds these bytes, and behind them what it held before.
+fn written(bytes: &[u8], out: &[u8; ROOM]) -> bool {
+    let mut i: usize = 0;
+    while i < ROOM {
+        if i < bytes.len() {
+            if out[i] != bytes[i] {
+                return false;
+            }
+        } else {
+            if out[i] != OLD {
+                return false;
+            }
+        }
+        i += 1;
+    }
+    true
+}
+
+// One less than the number of bytes, as far as there is room.
+fn one_less(bytes: &[u8], out: &[u8]) -> usize
+    ensures { λ r. ⌜ Counts r (now (out .entry)) ⌝ }
+{
+    if bytes.len() == 0 {
+        return 0;
+    }
+    let n = bytes.len() - 1;
+    if n < out.len() { n } else { out.len() }
+}
+
+// The bytes of a word of hexadecimal digits, as many as there is room for.
+fn unhex(word: &[u8], to: &mut [u8]) -> usize
+    ensures { λ r. ⌜ Counts r (now (to .exit)) ⌝ }
+{
+    let mut n: usize = 0;
+    let mut at: usize = 0;
+    while n < to.len() {
+        if word.len() - at < 2 {
+            return n;
+        }
+        to[n] = digit(word[at]) * 16 + digit(word[at + 1]);
+        n += 1;
+        at += 2;
+    }
+    n
+}
+
+// The value of a hexadecimal digit; any other byte counts as 0.
+fn digit(x: u8) -> u8
+    ensures { λ r. ⌜ r ≤ 15 ⌝ }
+{
+    if b'0' <= x && x <= b'9' {
+        return x - b'0';
+    }
+    if b'a' <= x && x <= b'f' {
+        return x - b'a' + 10;
+    }
+    0
+}

@@ -1,0 +1,39 @@
+// Lines and their fields, for the programs: fields are parted by single spaces, and lines end in a newline.
+ghost use mathlib.Core.Path.{_≡_};
+ghost use Prim.Native.Nat.{_+_, _≤_, min};
+ghost use lib.ListN.{length};
+ghost use Rattle.io.specs.Counts.{Counts};
+
+// Field k of a line, counted from 0; past the last it is empty.
+pub fn field(line: &[u8], k: usize) -> &[u8] {
+    let mut at: usize = 0;
+    let mut i: usize = 0;
+    while i < k {
+        at = after(line, until(line, at, b' '));
+        i += 1;
+    }
+    let end = until(line, at, b' ');
+    &line[at..end]
+}
+
+// The first place from `at` on that has the byte, or the end.
+pub fn until(s: &[u8], at: usize, stop: u8) -> usize
+    requires { ⌜ at ≤ length (now s) ⌝ }
+    ensures { λ r. ⌜ (at ≤ r) × Counts r (now (s .entry)) ⌝ }
+{
+    let mut i = at;
+    while i < s.len() {
+        if s[i] == stop {
+            return i;
+        }
+        i += 1;
+    }
+    i
+}
+
+// The place after the byte at `at`, or the end.
+pub fn after(s: &[u8], at: usize) -> usize
+    ensures { λ r. ⌜ r ≡ min (at + 1) (length (now (s .entry))) ⌝ }
+{
+    if at < s.len() { at + 1 } else { s.len() }
+}

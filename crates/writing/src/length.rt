@@ -1,0 +1,91 @@
+// How many bytes a book has, and its parts. Each part also says how many it has at most, so that the sums fit. A lent array is gone over as a
+// slice, since only then is its length known to the proof.
+use crate::put::least;
+use book::clause::Call;
+use book::clause::Clause;
+use book::clause::clause_at;
+use book::limits::MAX_CLAUSES;
+use book::limits::MAX_PREDICATES;
+use book::limits::MAX_SUBGOALS;
+use book::limits::MODES_SIZE;
+use book::limits::RULES_SIZE;
+use book::mode::has_mode;
+use book::mode::mode_at;
+use masks::constraint::count;
+ghost use mathlib.Core.Path.{_≡_};
+ghost use Prim.Native.Nat.{min, _≤_};
+ghost use lib.ListN.{length};
+ghost use Rattle.masks.specs.Limits.{maxArity};
+ghost use Rattle.book.specs.Limits.{maxClauses, maxPredicates};
+ghost use Rattle.book.specs.Encode.{run, encMode, encSubgoal, encClause, encode};
+ghost use Rattle.book.specs.Held.{callOf, clauseOf, modesOf, clausesOf, bookIn};
+
+pub fn book_length<'a>(
+    preds: u8,
+    arities: &'a [u8; MAX_PREDICATES],
+    modes: &'a [u8; MODES_SIZE],
+    clauses: u8,
+    rules: &'a [u8; RULES_SIZE],
+) -> usize
+    ensures { λ r. ⌜ r ≡ length (encode (bookIn preds (now (arities .entry)) (now (modes .entry)) clauses (now (rules .entry)))) ⌝ }
+{
+    let bytes: &[u8] = arities;
+    let n = least(preds as usize, bytes.len());
+    let query = clause_at(rules, MAX_CLAUSES);
+    3 * n + modes_length(modes) + clauses_length(clauses, rules) + 2 + body_length(query)
+}
+
+fn modes_length(modes: &[u8; MODES_SIZE]) -> usize
+    ensures { λ r. ⌜ r ≡ length (run encMode (modesOf (now (modes .entry)) maxPredicates)) ⌝ }
+    ensures { λ r. ⌜ r ≤ 1536 ⌝ }
+{
+    let mut total: usize = 0;
+    let mut p: u8 = 0;
+    while p < 64 {
+        if has_mode(modes, p) {
+            let c = mode_at(modes, p);
+            total += 4 + count(c);
+        }
+        p += 1;
+    }
+    total
+}
+
+fn clauses_length(clauses: u8, rules: &[u8; RULES_SIZE]) -> usize
+    ensures { λ r. ⌜ r ≡ length (run encClause (clausesOf (now (rules .entry)) (min clauses maxClauses))) ⌝ }
+    ensures { λ r. ⌜ r ≤ 5184 ⌝ }
+{
+    let n = least(clauses as usize, MAX_CLAUSES);
+    let mut total: usize = 0;
+    let mut k: usize = 0;
+    while k < n {
+        let c = clause_at(rules, k);
+        let head = c.head;
+        total += 3 + arguments(head) + body_length(c);
+        k += 1;
+    }
+    total
+}
+
+fn body_length(c: Clause) -> usize
+    ensures { λ r. ⌜ r ≡ length (run encSubgoal (clauseOf c .body)) ⌝ }
+    ensures { λ r. ⌜ r ≤ 72 ⌝ }
+{
+    let n = least(c.n as usize, MAX_SUBGOALS);
+    let mut total: usize = 0;
+    let mut j: usize = 0;
+    while j < n {
+        let call = c.body[j];
+        total += 3 + arguments(call);
+        j += 1;
+    }
+    total
+}
+
+// How many arguments a call has. A count above the array's length means all of it.
+pub fn arguments(c: Call) -> usize
+    ensures { λ r. ⌜ r ≡ length (callOf c .args) ⌝ }
+    ensures { λ r. ⌜ r ≤ maxArity ⌝ }
+{
+    least(c.n as usize, 6)
+}

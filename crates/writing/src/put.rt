@@ -1,0 +1,43 @@
+// Bytes and marks, stored from a place on; each answers the place after it. A lent array is gone over as a slice, since only then is its
+// length known to the proof.
+ghost use mathlib.Core.Path.{_≡_};
+ghost use mathlib.Core.List.{[], _∷_};
+ghost use Prim.Native.Nat.{min};
+ghost use Rattle.writing.specs.Wrote.{Room, Wrote};
+
+pub fn put_mark(out: &mut [u8], at: usize, m: &[u8; 2]) -> usize
+    requires { ⌜ Room (now out) at (now m) ⌝ }
+    ensures { λ r. ⌜ Wrote (now (out .entry)) (now (out .exit)) at r (now (m .entry)) ⌝ }
+{
+    let bytes: &[u8] = m;
+    let p = put_byte(out, at, bytes[0]);
+    put_byte(out, p, bytes[1])
+}
+
+pub fn put_bytes(out: &mut [u8], at: usize, b: &[u8]) -> usize
+    requires { ⌜ Room (now out) at (now b) ⌝ }
+    ensures { λ r. ⌜ Wrote (now (out .entry)) (now (out .exit)) at r (now (b .entry)) ⌝ }
+{
+    let mut p = at;
+    let mut i: usize = 0;
+    while i < b.len() {
+        p = put_byte(out, p, b[i]);
+        i += 1;
+    }
+    p
+}
+
+pub fn put_byte(out: &mut [u8], at: usize, x: u8) -> usize
+    requires { ⌜ Room (now out) at (x ∷ []) ⌝ }
+    ensures { λ r. ⌜ Wrote (now (out .entry)) (now (out .exit)) at r (x ∷ []) ⌝ }
+{
+    out[at] = x;
+    at + 1
+}
+
+// The lesser of two numbers.
+pub fn least(n: usize, k: usize) -> usize
+    ensures { λ r. ⌜ r ≡ min n k ⌝ }
+{
+    if n < k { n } else { k }
+}
