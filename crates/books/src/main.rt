@@ -131,10 +131,16 @@ fn unhex(word: &[u8], to: &mut [u8]) -> usize
 fn digit(x: u8) -> u8
     ensures { λ r. ⌜ r ≤ 15 ⌝ }
 {
-    if b'0' <= x && x <= b'9' {
+    if x < b'0' {
+        return 0;
+    }
+    if x <= b'9' {
         return x - b'0';
     }
-    if b'a' <= x && x <= b'f' {
+    if x < b'a' {
+        return 0;
+    }
+    if x <= b'f' {
         return x - b'a' + 10;
     }
     0
