@@ -2,6 +2,7 @@
 // proof.
 use crate::limits::CALL_SIZE;
 use crate::limits::CLAUSE_SIZE;
+use crate::limits::MAX_ARGUMENTS;
 use crate::limits::MAX_SUBGOALS;
 use crate::limits::RULES_SIZE;
 ghost use mathlib.Core.Path.{_≡_};
@@ -13,7 +14,7 @@ ghost use Rattle.book.specs.Held.{callOf, clauseOf, callSize, callIn, wi
 pub struct Call {
     pub pred: u8,
     pub n: u8,
-    pub args: [u8; 6],
+    pub args: [u8; MAX_ARGUMENTS],
 }
 
 // The head of a clause, and its subgoals: the first n of the array.
@@ -68,7 +69,7 @@ pub fn no_call() -> Call {
     Call {
         pred: 0,
         n: 0,
-        args: [0u8; 6],
+        args: [0u8; MAX_ARGUMENTS],
     }
 }
 
@@ -78,9 +79,9 @@ fn call_at(rules: &[u8; RULES_SIZE], at: usize) -> Call
     ensures { λ r. ⌜ callOf r ≡ callIn (window at callSize (now (rules .entry))) ⌝ }
 {
     let bytes: &[u8] = rules;
-    let mut args = [0u8; 6];
+    let mut args = [0u8; MAX_ARGUMENTS];
     let mut i: usize = 0;
-    while i < 6 {
+    while i < MAX_ARGUMENTS {
         args[i] = bytes[at + 2 + i];
         i += 1;
     }
@@ -100,7 +101,7 @@ fn put_call(rules: &mut [u8; RULES_SIZE], at: usize, c: Call)
     bytes[at] = c.pred;
     bytes[at + 1] = c.n;
     let mut i: usize = 0;
-    while i < 6 {
+    while i < MAX_ARGUMENTS {
         bytes[at + 2 + i] = c.args[i];
         i += 1;
     }

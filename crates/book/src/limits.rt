@@ -2,10 +2,16 @@
 // alternatives' limits are in `masks::limits`.
 pub const MAX_PREDICATES: usize = 64;
 
+// The same as a byte: the number of a predicate is below it.
+pub const PREDICATES: u8 = 64;
+
 pub const MAX_CLAUSES: usize = 64;
 
 // In a body or query.
 pub const MAX_SUBGOALS: usize = 8;
+
+// Of a call: as many as the greatest arity.
+pub const MAX_ARGUMENTS: usize = 6;
 
 // What a predicate takes among the modes: whether it has `MO`, the number of its masks, and 20 masks.
 pub const MODE_SIZE: usize = 22;

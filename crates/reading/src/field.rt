@@ -1,6 +1,7 @@
 // The fields of records, byte by byte from the left, and the records that are not runs of others: a predicate, a mode, a subgoal, a head.
 use book::clause::Call;
 use book::fault::Fault;
+use book::limits::MAX_ARGUMENTS;
 use book::limits::MODES_SIZE;
 use book::mode::has_mode;
 use book::range::Range;
@@ -136,7 +137,7 @@ fn read_call(s: &[u8], ar: &[u8], at: usize, range: Range) -> FoundCall
     requires { ⌜ (at ≤ length (now s)) × Arities (now ar) ⌝ }
     ensures { λ r. ⌜ Reads (now (s .entry)) (r .found) (λ _. callOf (r .call)) (call range (now (ar .entry)) (drop at (now (s .entry)))) ⌝ }
 {
-    let mut args = [0u8; 6];
+    let mut args = [0u8; MAX_ARGUMENTS];
     let g = read_byte(s, at, Range::Below(ar.len() as u8));
     match g {
         Found::Bad(_, _) => FoundCall {
@@ -252,7 +253,8 @@ fn read_masks(s: &[u8], at: usize, patterns: u8) -> FoundMasks
     ensures { λ r. ⌜ Reads (now (s .entry)) (r .found) (λ _. masksOf (r .masks)) (masks patterns (drop at (now (s .entry)))) ⌝ }
 {
     let mut masks = [0u8; MAX_MASKS];
-    let g = read_byte(s, at, Range::AtMost(20));
+    let most = MAX_MASKS as u8;
+    let g = read_byte(s, at, Range::AtMost(most));
     match g {
         Found::Bad(_, _) => FoundMasks {
             found: g,

@@ -4,10 +4,12 @@ use crate::put::least;
 use book::clause::Call;
 use book::clause::Clause;
 use book::clause::clause_at;
+use book::limits::MAX_ARGUMENTS;
 use book::limits::MAX_CLAUSES;
 use book::limits::MAX_PREDICATES;
 use book::limits::MAX_SUBGOALS;
 use book::limits::MODES_SIZE;
+use book::limits::PREDICATES;
 use book::limits::RULES_SIZE;
 use book::mode::has_mode;
 use book::mode::mode_at;
@@ -41,7 +43,7 @@ fn modes_length(modes: &[u8; MODES_SIZE]) -> usize
 {
     let mut total: usize = 0;
     let mut p: u8 = 0;
-    while p < 64 {
+    while p < PREDICATES {
         if has_mode(modes, p) {
             let c = mode_at(modes, p);
             total += 4 + count(c);
@@ -87,5 +89,5 @@ pub fn arguments(c: Call) -> usize
     ensures { λ r. ⌜ r ≡ length (callOf c .args) ⌝ }
     ensures { λ r. ⌜ r ≤ maxArity ⌝ }
 {
-    least(c.n as usize, 6)
+    least(c.n as usize, MAX_ARGUMENTS)
 }

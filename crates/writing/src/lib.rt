@@ -16,6 +16,7 @@ use book::limits::MAX_CLAUSES;
 use book::limits::MAX_PREDICATES;
 use book::limits::MAX_SUBGOALS;
 use book::limits::MODES_SIZE;
+use book::limits::PREDICATES;
 use book::limits::RULES_SIZE;
 use book::mode::has_mode;
 use book::mode::mode_at;
@@ -96,7 +97,7 @@ fn put_modes(out: &mut [u8], at: usize, modes: &[u8; MODES_SIZE]) -> usize
 {
     let mut q = at;
     let mut p: u8 = 0;
-    while p < 64 {
+    while p < PREDICATES {
         if has_mode(modes, p) {
             let c = mode_at(modes, p);
             q = put_mode(out, q, p, c);

@@ -4,6 +4,9 @@ use Rattle.reading.proofs.Laws.Reads.{masks-bad, masks-next, masks-few,
 use Rattle.reading.proofs.field.read_masks.Statement.{statement}
 use Rattle.reading.proofs.field.read_masks.Tie as tie
 
+cast-most : tie.Need-cast-most
+cast-most c = search needs
+
 read-byte-requires : tie.Need-read-byte-requires
 read-byte-requires c κs = search needs
 
@@ -40,6 +43,7 @@ pub read-masks-spec : {M : Type 1} → statement M
 read-masks-spec =
     tie.close
     (tie.spec
+    cast-most
     read-byte-requires
     enum-told
     enum-known-g

@@ -2,7 +2,6 @@
 use mathlib.Core.Path.{sym, _∙_}
 use native.Mathlib.Omega.{arith}
 use borrow.Author.Needs.{needs}
-use Rattle.book.specs.declared.range.Range.the-variants.{HeadArgument}
 use Rattle.reading.proofs.Laws.Reads.{call-below, head-bad, head-has, head-free}
 use Rattle.book.proofs.Laws.Held.{hasMode-modesOf}
 use Rattle.reading.proofs.field.read_owner.Statement.{statement}
@@ -22,7 +21,7 @@ has-mode-requires c κs =
     let args = c .before .before .before .before .before .before .args in
     let pre = c .before .before .before .before .before .before .pre in
     let read-call = c .before .before .before .read-call in
-    let h = call-below HeadArgument (args .ar .now) (args .s .now) (args .at) (read-call .ensures) (c .enum-told2 .given .1) in let f = pre .1 .few in omega arith
+    let h = call-below _ (args .ar .now) (args .s .now) (args .at) (read-call .ensures) (c .enum-told2 .given .1) in let f = pre .1 .few in omega arith
 
 returns : tie.Need-returns
 returns c =
@@ -30,7 +29,7 @@ returns c =
     let pre = c .before .before .before .before .before .before .before .before .pre in
     let read-call = c .before .before .before .before .before .read-call in
     let enum-told2 = c .before .before .enum-told2 in
-    head-has _ _ _ (args .at) (read-call .ensures) (enum-told2 .given .1) (pre .0) (hasMode-modesOf _ _ _ (let h = call-below HeadArgument (args .ar .now) (args .s .now) (args .at) (read-call .ensures) (enum-told2 .given .1) in let f = pre .1 .few in omega arith) ∙ sym (c .before .has-mode .ensures) ∙ c .if1 .taken)
+    head-has _ _ _ (args .at) (read-call .ensures) (enum-told2 .given .1) (pre .0) (hasMode-modesOf _ _ _ (let h = call-below _ (args .ar .now) (args .s .now) (args .at) (read-call .ensures) (enum-told2 .given .1) in let f = pre .1 .few in omega arith) ∙ sym (c .before .has-mode .ensures) ∙ c .if1 .taken)
 
 returns-2 : tie.Need-returns-2
 returns-2 c =
@@ -44,7 +43,7 @@ returns-3 c =
     let pre = c .before .before .before .before .before .before .before .before .pre in
     let read-call = c .before .before .before .before .before .read-call in
     let enum-told2 = c .before .before .enum-told2 in
-    head-free _ _ _ (args .at) (read-call .ensures) (enum-told2 .given .1) (hasMode-modesOf _ _ _ (let h = call-below HeadArgument (args .ar .now) (args .s .now) (args .at) (read-call .ensures) (enum-told2 .given .1) in let f = pre .1 .few in omega arith) ∙ sym (c .before .has-mode .ensures) ∙ c .if1 .left)
+    head-free _ _ _ (args .at) (read-call .ensures) (enum-told2 .given .1) (hasMode-modesOf _ _ _ (let h = call-below _ (args .ar .now) (args .s .now) (args .at) (read-call .ensures) (enum-told2 .given .1) in let f = pre .1 .few in omega arith) ∙ sym (c .before .has-mode .ensures) ∙ c .if1 .left)
 
 pub read-owner-spec : {M : Type 1} → statement M
 read-owner-spec =
