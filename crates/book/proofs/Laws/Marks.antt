@@ -82,17 +82,22 @@ module _ (P : Mark → Type 0) (m : Mark) {pr mo cl sg qu end t : Turn} where
       go Other e a b c d f g h i = h e
       go Half e a b c d f g h i = i e
 
-over-mine : {P : Type 0} → Over ≡ Mine → P
-over-mine e = let z : _≡_ {A = ℕ} 0 1 = cc in absurd (omega arith)
+-- an entry of another kind
+abbrev mine : Turn → Bool
+mine Mine = true
+mine Over = false
+mine (No f) = false
 
-mine-over : {P : Type 0} → Mine ≡ Over → P
-mine-over e = over-mine (sym e)
+abbrev over : Turn → Bool
+over Mine = false
+over Over = true
+over (No f) = false
 
-no-mine : {P : Type 0} {f : Fault} → No f ≡ Mine → P
-no-mine {P} {f} e = let z : _≡_ {A = ℕ} 0 1 = cc in absurd (omega arith)
+not-mine : {P : Type 0} (t : Turn) → mine t ≡ false → t ≡ Mine → P
+not-mine t n e = clash (ap mine e) n
 
-no-over : {P : Type 0} {f : Fault} → No f ≡ Over → P
-no-over {P} {f} e = let z : _≡_ {A = ℕ} 0 1 = cc in absurd (omega arith)
+not-over : {P : Type 0} (t : Turn) → over t ≡ false → t ≡ Over → P
+not-over t n e = clash (ap over e) n
 
 -- the mark of a run
 abbrev pub mineOf : Phase → Mark
@@ -103,18 +108,18 @@ mineOf Body = Sg
 mineOf Query = Sg
 
 pub mine-mark : (p : Phase) (m : Mark) → turn p m ≡ Mine → m ≡ mineOf p
-mine-mark Predicates m e = byColumn (λ (k : Mark). k ≡ Pr) m e (λ q. refl) over-mine over-mine no-mine over-mine no-mine no-mine no-mine
-mine-mark Modes m e = byColumn (λ (k : Mark). k ≡ Mo) m e no-mine (λ q. refl) over-mine no-mine over-mine no-mine no-mine no-mine
-mine-mark Clauses m e = byColumn (λ (k : Mark). k ≡ Cl) m e no-mine no-mine (λ q. refl) no-mine over-mine no-mine no-mine no-mine
-mine-mark Body m e = byColumn (λ (k : Mark). k ≡ Sg) m e no-mine no-mine over-mine (λ q. refl) over-mine no-mine no-mine no-mine
-mine-mark Query m e = byColumn (λ (k : Mark). k ≡ Sg) m e no-mine no-mine no-mine (λ q. refl) no-mine over-mine no-mine no-mine
+mine-mark Predicates m e = byColumn (λ (k : Mark). k ≡ Pr) m e (λ q. refl) (not-mine _ refl) (not-mine _ refl) (not-mine _ refl) (not-mine _ refl) (not-mine _ refl) (not-mine _ refl) (not-mine _ refl)
+mine-mark Modes m e = byColumn (λ (k : Mark). k ≡ Mo) m e (not-mine _ refl) (λ q. refl) (not-mine _ refl) (not-mine _ refl) (not-mine _ refl) (not-mine _ refl) (not-mine _ refl) (not-mine _ refl)
+mine-mark Clauses m e = byColumn (λ (k : Mark). k ≡ Cl) m e (not-mine _ refl) (not-mine _ refl) (λ q. refl) (not-mine _ refl) (not-mine _ refl) (not-mine _ refl) (not-mine _ refl) (not-mine _ refl)
+mine-mark Body m e = byColumn (λ (k : Mark). k ≡ Sg) m e (not-mine _ refl) (not-mine _ refl) (not-mine _ refl) (λ q. refl) (not-mine _ refl) (not-mine _ refl) (not-mine _ refl) (not-mine _ refl)
+mine-mark Query m e = byColumn (λ (k : Mark). k ≡ Sg) m e (not-mine _ refl) (not-mine _ refl) (not-mine _ refl) (λ q. refl) (not-mine _ refl) (not-mine _ refl) (not-mine _ refl) (not-mine _ refl)
 
 -- the clauses end at QU, and the query at the end of the bytes
 clauses-over : (m : Mark) → turn Clauses m ≡ Over → m ≡ Qu
-clauses-over m e = byColumn (λ (k : Mark). k ≡ Qu) m e no-over no-over mine-over no-over (λ q. refl) no-over no-over no-over
+clauses-over m e = byColumn (λ (k : Mark). k ≡ Qu) m e (not-over _ refl) (not-over _ refl) (not-over _ refl) (not-over _ refl) (λ q. refl) (not-over _ refl) (not-over _ refl) (not-over _ refl)
 
 query-over : (m : Mark) → turn Query m ≡ Over → m ≡ End
-query-over m e = byColumn (λ (k : Mark). k ≡ End) m e no-over no-over no-over mine-over no-over (λ q. refl) no-over no-over
+query-over m e = byColumn (λ (k : Mark). k ≡ End) m e (not-over _ refl) (not-over _ refl) (not-over _ refl) (not-over _ refl) (not-over _ refl) (λ q. refl) (not-over _ refl) (not-over _ refl)
 
 -- what may follow a clause ends its body
 pub clause-ends : (m : Mark) → turn Clauses m ≡ Mine → turn Body m ≡ Over
