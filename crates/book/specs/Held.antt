@@ -5,7 +5,6 @@ use mathlib.Core.List.{List, [], _∷_, _++_, map}
 use Prim.Native.Nat.{ℕ, zero, suc, _+_, _*_, min}
 use lib.Dec.{eqb}
 use lib.ListN.{getD, take, drop}
-use Rattle.masks.specs.Limits.{maxArity, maxMasks}
 use Rattle.book.specs.Limits.{maxPredicates, maxClauses, maxSubgoals}
 use Rattle.book.specs.Book.{Call, Mode, Clause, Book}
 use Rattle.book.specs.declared.clause.Call as call

@@ -1,2 +1,2 @@
--- What a reader has to believe of this crate: how its answers stand for what the crate `book` defines.
-pub mod Found
+-- What a reader has to believe of this crate: what reading a book comes to, and what the check answers.
+pub mod Judged

@@ -1,16 +1,6 @@
 // Reading a book: every string of bytes is a book or has a first fault. Here are the public operation `check`, `read_book` for the crates above,
-// and the runs of records; single records and their bytes are in `field`, marks and whose turn it is in `turn`. One pass from the left: each
+// and the runs of records; single records, their bytes and their marks are in the crate `records`. One pass from the left: each
 // byte is looked at once, and the bytes of a mark where a run ends once more for each run that could go on there.
-pub mod field;
-pub mod turn;
-
-use crate::field::Found;
-use crate::field::read_head;
-use crate::field::read_mode;
-use crate::field::read_predicate;
-use crate::field::read_subgoal;
-use crate::turn::is_mark;
-use crate::turn::run_end;
 use book::Book;
 use book::clause::Call;
 use book::clause::Clause;
@@ -26,6 +16,13 @@ use book::limits::RULES_SIZE;
 use book::mark::Phase;
 use book::mode::put_mode;
 use masks::reply::Reply;
+use records::field::Found;
+use records::field::read_head;
+use records::field::read_mode;
+use records::field::read_predicate;
+use records::field::read_subgoal;
+use records::turn::is_mark;
+use records::turn::run_end;
 ghost use mathlib.Core.Path.{_≡_};
 ghost use mathlib.Core.List.{[]};
 ghost use Prim.Native.Nat.{suc, _+_, _≤_};
@@ -33,7 +30,8 @@ ghost use lib.ListN.{length, take, drop};
 ghost use Rattle.book.specs.Limits.{maxPredicates, maxClauses, maxSubgoals};
 ghost use Rattle.book.specs.Format as format;
 ghost use Rattle.book.specs.Held.{callOf, clauseOf, clausesOf, modesOf, bookIn};
-ghost use Rattle.reading.specs.Found.{Reads, Arities, NoModes, Bodied, counted, found, checked};
+ghost use Rattle.records.specs.Found.{Reads, Arities, counted};
+ghost use Rattle.reading.specs.Judged.{NoModes, Bodied, found, checked};
 
 // What reading a book comes to: a book, where none of its records has a fault.
 pub struct Reading {

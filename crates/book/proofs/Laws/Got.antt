@@ -8,10 +8,10 @@ use native.Mathlib.Omega.{arith}
 use lib.ListN.{length}
 use Rattle.masks.specs.Lists.{all}
 use Rattle.masks.proofs.Laws.Logic.{and-intro, and-left, and-right}
-use Rattle.book.specs.Format.{Got, bad, got, andThen, byte, bytes, inRecord, onTurn, many, turn, markAt, within, placed}
+use Rattle.book.specs.Format.{Got, bad, got, andThen, byte, bytes, inRecord, onTurn, many, turn, markAt, within}
 use Rattle.book.specs.Encode.{run}
 use Rattle.book.specs.declared.fault.Fault.{Fault}
-use Rattle.book.specs.declared.fault.Fault.the-variants.{OutOfRange, TooMany}
+use Rattle.book.specs.declared.fault.Fault.the-variants.{OutOfRange}
 use Rattle.book.specs.declared.mark.Phase.{Phase}
 use Rattle.book.specs.declared.mark.Turn.{Turn}
 use Rattle.book.specs.declared.mark.Turn.the-variants.{Mine, Over, No}

@@ -1,6 +1,6 @@
 -- ROUND TRIP. The bytes of a well-formed book are judged to be that book, and bytes that are judged to be a book are its bytes, and it is well
 -- formed: record by record, both ways, by the laws of reading. Assumes nothing.
-use mathlib.Core.Path.{_≡_, refl, sym, ap, _∙_, subst}
+use mathlib.Core.Path.{_≡_, refl, sym, ap, _∙_}
 use mathlib.Core.Logic.{⊎-elim}
 use mathlib.Core.Bool.{Bool, true, false, not, cond, _&&_}
 use mathlib.Core.List.{List, [], _∷_, _++_, append-assoc, append-nil}
@@ -14,7 +14,7 @@ use Rattle.masks.specs.Lists.{all}
 use Rattle.masks.proofs.Laws.Logic.{byBool, and-intro, and-left, and-right, not-elim}
 use Rattle.book.specs.Limits.{maxPredicates, maxClauses, maxSubgoals}
 use Rattle.book.specs.Book.{Call, Mode, Clause, Book}
-use Rattle.book.specs.Format.{Got, bad, got, andThen, inRecord, byte, bytes, many, turn, markAt, within, lowFrom, low, hasMode, spelling, call, predicate, masks, modeFields, mode, subgoal, headFields, clause, rules, readBook, fault, book, judged, judge}
+use Rattle.book.specs.Format.{Got, bad, got, andThen, inRecord, byte, bytes, many, turn, markAt, within, lowFrom, low, hasMode, spelling, call, predicate, masks, modeFields, mode, subgoal, headFields, clause, rules, readBook, book, judged, judge}
 use Rattle.book.specs.Encode.{run, encPredicate, encMode, encCall, encSubgoal, encClause, encode, callFits, modeFits, rises, clauseFits, WellFormed}
 use Rattle.book.specs.declared.fault.Fault.the-variants.{Conflict}
 use Rattle.book.specs.declared.mark.Mark.the-variants.{Pr, Mo, Cl, Sg, Qu}

@@ -1,24 +1,24 @@
 -- The loop over MO records: the modes of the predicates below low are those read so far, and no predicate from low on has any. Assumes nothing.
 use mathlib.Core.Path.{_≡_, refl, sym, ap, _∙_, subst}
-use mathlib.Core.Bool.{true, cond}
 use mathlib.Core.List.{List, [], _∷_, _++_}
-use Prim.Native.Nat.{ℕ, zero, suc, _+_, _-_, _≤_, _<_}
+use Prim.Native.Nat.{ℕ, suc, _+_, _≤_, _<_}
 use native.Mathlib.Omega.{arith}
 use native.Mathlib.Numerals.{add-one}
 use lib.ListN.{length, drop}
 use borrow.Author.Tests.{ltb-true, leb-true}
 use Rattle.book.specs.Limits.{maxPredicates}
 use Rattle.book.specs.Book.{Mode}
-use Rattle.book.specs.Format.{within, low, lowFrom, markAt, turn, Got, inRecord, many, mode, modeFields}
+use Rattle.book.specs.Format.{within, low, lowFrom, markAt, turn, inRecord, many, mode, modeFields}
 use Rattle.book.specs.Held.{modeAt, modesOf, StoredMode}
 use Rattle.book.specs.declared.fault.Fault.{Fault}
 use Rattle.book.specs.declared.mark.Phase.the-variants.{Modes}
 use Rattle.book.specs.declared.mark.Turn.the-variants.{Mine}
 use Rattle.book.proofs.Laws.Trip.{mode-inv, mode-known, low-last}
 use Rattle.book.proofs.Laws.Held.{modesOf-stored, modesOf-rest}
-use Rattle.reading.specs.declared.field.Found.{Found}
-use Rattle.reading.specs.declared.field.Found.the-variants.{Next, Bad}
-use Rattle.reading.specs.Found.{Reads, Arities, NoModes, stops}
+use Rattle.records.specs.declared.field.Found.{Found}
+use Rattle.records.specs.declared.field.Found.the-variants.{Next, Bad}
+use Rattle.records.specs.Found.{Reads, Arities, stops}
+use Rattle.reading.specs.Judged.{NoModes}
 use Rattle.reading.proofs.Laws.Runs.{Going, going-start, going-bad, going-next, going-end}
 
 pub record Moding (ar s : List ℕ) (from at b : ℕ) (modes : List ℕ) : Type 0 where

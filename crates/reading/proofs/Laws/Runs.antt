@@ -7,7 +7,7 @@ use native.Mathlib.Omega.{arith}
 use native.Mathlib.Numerals.{add-one}
 use lib.ListN.{length, take, drop, set, length-drop, length-append}
 use lib.Seq.{take-suc-set}
-use Rattle.book.specs.Format.{spelling, leads, markAt, turn, Got, bad, got, andThen, onTurn, many}
+use Rattle.book.specs.Format.{spelling, leads, markAt, turn, Got, got, andThen, onTurn, many}
 use Rattle.book.specs.declared.fault.Fault.{Fault}
 use Rattle.book.specs.declared.fault.Fault.the-variants.{TooMany}
 use Rattle.book.specs.declared.mark.Mark.{Mark}
@@ -17,10 +17,10 @@ use Rattle.book.specs.declared.mark.Turn.{Turn}
 use Rattle.book.specs.declared.mark.Turn.the-variants.{Mine, Over, No}
 use Rattle.book.proofs.Laws.Got.{bad-got, got-value}
 use Rattle.book.proofs.Laws.Marks.{mineOf, leads-mine, unled, mine-starts}
-use Rattle.reading.specs.declared.field.Found.{Found}
-use Rattle.reading.specs.declared.field.Found.the-variants.{Next, Bad}
-use Rattle.reading.specs.Found.{counted, means, Reads, onStop, stops}
-use Rattle.reading.proofs.Laws.Reads.{then-bad, reads-map}
+use Rattle.records.specs.declared.field.Found.{Found}
+use Rattle.records.specs.declared.field.Found.the-variants.{Next, Bad}
+use Rattle.records.specs.Found.{counted, means, Reads, onStop, stops}
+use Rattle.records.proofs.Laws.Reads.{then-bad, reads-map}
 
 -- so far the n records acc were read, up to a place
 pub record Going {A : Type 0} (p : Phase) (item : List A → List ℕ → Got A) (s : List ℕ) (room from at n : ℕ) (acc : List A) : Type 0 where

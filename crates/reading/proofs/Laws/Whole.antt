@@ -1,13 +1,13 @@
 -- A book is its four runs, one after the other: a fault of one is the book's, and the four values make the book. Assumes nothing.
 use mathlib.Core.Path.{_≡_, refl, sym, ap, _∙_, subst}
-use mathlib.Core.List.{List, [], _∷_, _++_}
+use mathlib.Core.List.{List, []}
 use Prim.Native.Nat.{ℕ, suc, _+_, _-_, min, _≤_}
 use native.Mathlib.Omega.{arith}
 use lib.ListN.{length, take, drop, length-drop}
 use Rattle.masks.specs.Limits.{maxArity}
 use Rattle.book.specs.Limits.{maxPredicates, maxClauses, maxSubgoals}
 use Rattle.book.specs.Book.{Call, Mode, Clause, Book}
-use Rattle.book.specs.Format.{within, Got, bad, got, andThen, many, predicate, mode, clause, subgoal, rules, readBook, Judged, fault, judged, judge}
+use Rattle.book.specs.Format.{within, got, many, predicate, mode, clause, subgoal, rules, readBook, fault, judged, judge}
 use Rattle.book.specs.Encode.{encPredicate, encClause}
 use Rattle.book.specs.Held.{modesOf, clausesOf, clauseAt, StoredClause, bookIn}
 use Rattle.book.specs.declared.fault.Fault.{Fault}
@@ -17,10 +17,11 @@ use Rattle.book.proofs.Laws.Marks.{clauses-over-starts}
 use Rattle.book.proofs.Laws.Got.{each-all, many-inv}
 use Rattle.book.proofs.Laws.Trip.{PredicateFits, predicate-inv, ClauseFits, clause-inv}
 use Rattle.book.proofs.Laws.Held.{clausesOf-before}
-use Rattle.reading.specs.declared.field.Found.{Found}
-use Rattle.reading.specs.declared.field.Found.the-variants.{Next, Bad}
-use Rattle.reading.specs.Found.{placeOf, counted, means, Reads, Arities, judgement}
-use Rattle.reading.proofs.Laws.Reads.{then-bad, then-next, next-inside, after-mark}
+use Rattle.records.specs.declared.field.Found.{Found}
+use Rattle.records.specs.declared.field.Found.the-variants.{Next, Bad}
+use Rattle.records.specs.Found.{placeOf, counted, means, Reads, Arities}
+use Rattle.reading.specs.Judged.{judgement}
+use Rattle.records.proofs.Laws.Reads.{then-bad, then-next, next-inside, after-mark}
 
 -- an answer about the whole is the judgement of the bytes
 pub judged-is : (s : List ℕ) {q : Found} {f : ℕ → Book} → Reads s q f (readBook s) → judgement q (f (counted q)) ≡ judge s

@@ -2,7 +2,7 @@
 use borrow.Author.Needs.{needs}
 use Rattle.reading.proofs.Laws.Whole.{whole-bad, whole-arities, whole-next}
 use Rattle.reading.proofs.Laws.Runs.{count-next}
-use Rattle.reading.proofs.Laws.Reads.{next-inside}
+use Rattle.records.proofs.Laws.Reads.{next-inside}
 use Rattle.book.proofs.Laws.Held.{modeAt-zeros}
 use Rattle.reading.proofs.read_book.Statement.{statement}
 use Rattle.reading.proofs.read_book.Tie as tie

@@ -1,7 +1,7 @@
 -- `reading::read_clause` meets its contract. A fault of the head is the clause's; else the body decides. Assumes nothing.
 use mathlib.Core.Path.{refl}
 use borrow.Author.Needs.{needs}
-use Rattle.reading.proofs.Laws.Reads.{clause-bad, clause-next, next-inside}
+use Rattle.records.proofs.Laws.Reads.{clause-bad, clause-next, next-inside}
 use Rattle.reading.proofs.read_clause.Statement.{statement}
 use Rattle.reading.proofs.read_clause.Tie as tie
 

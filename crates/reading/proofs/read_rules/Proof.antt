@@ -5,7 +5,7 @@ use lib.Seq.{length-take-le}
 use borrow.Author.Needs.{needs}
 use Rattle.reading.proofs.Laws.Whole.{rules-modes, rules-clauses, rules-asked, rules-query, rules-next, held-is}
 use Rattle.reading.proofs.Laws.Runs.{count-next}
-use Rattle.reading.proofs.Laws.Reads.{next-inside}
+use Rattle.records.proofs.Laws.Reads.{next-inside}
 use Rattle.reading.proofs.read_rules.Statement.{statement}
 use Rattle.reading.proofs.read_rules.Tie as tie
 

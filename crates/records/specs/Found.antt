@@ -1,0 +1,54 @@
+-- What the reader's answers stand for. Assumes nothing.
+use mathlib.Core.Path.{_≡_}
+use mathlib.Core.Bool.{true}
+use mathlib.Core.List.{List}
+use Prim.Native.Nat.{ℕ, _-_, _≤_}
+use lib.ListN.{length, drop}
+use Rattle.masks.specs.Limits.{maxArity}
+use Rattle.masks.specs.Lists.{all}
+use Rattle.book.specs.Limits.{maxPredicates}
+use Rattle.book.specs.Format.{placed, within, Got, bad, got, turn, markAt}
+use Rattle.book.specs.declared.mark.Phase.{Phase}
+use Rattle.book.specs.declared.mark.Turn.{Turn}
+use Rattle.book.specs.declared.mark.Turn.the-variants.{Mine, Over, No}
+use Rattle.book.specs.declared.range.Range.the-variants.{AtMost}
+use Rattle.records.specs.declared.field.Found.{Found}
+use Rattle.records.specs.declared.field.Found.the-variants.{Next, Bad}
+
+-- the place after what was read, or the place of a fault
+abbrev pub placeOf : Found → ℕ
+placeOf (Next at n) = at
+placeOf (Bad f at) = at
+
+-- the number answered
+abbrev pub counted : Found → ℕ
+counted (Next at n) = n
+counted (Bad f at) = 0
+
+-- an answer about the bytes s, where the value is what f makes of the number answered
+abbrev pub means : {A : Type 0} → List ℕ → Found → (ℕ → A) → Got A
+means s (Next at n) f = got (f n) (drop at s)
+means s (Bad w at) f = bad w (length s - at)
+
+pub record Reads {A : Type 0} (s : List ℕ) (r : Found) (f : ℕ → A) (g : Got A) : Type 0 where
+  pub inside : placeOf r ≤ length s
+  pub is : means s r f ≡ g
+
+-- a run that no further record of its own follows: its end, with the value a, or a fault
+abbrev pub onStop : {A : Type 0} → Turn → A → List ℕ → Got A
+onStop Mine a s = got a s
+onStop Over a s = got a s
+onStop (No f) a s = bad f (placed f (length s) (length s))
+
+abbrev pub stops : {A : Type 0} → Phase → A → List ℕ → Got A
+stops p a s = onStop (turn p (markAt s)) a s
+
+-- the fault of a record's field is the record's: `placed`
+abbrev pub recorded : ℕ → Found → Found
+recorded record· (Next at n) = Next at n
+recorded record· (Bad f at) = Bad f record·
+
+-- the arities of a book
+pub record Arities (ar : List ℕ) : Type 0 where
+  pub few : length ar ≤ maxPredicates
+  pub fit : all (within (AtMost maxArity)) ar ≡ true
