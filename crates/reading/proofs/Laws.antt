@@ -2,3 +2,4 @@
 pub mod Runs
 pub mod Moding
 pub mod Whole
+pub mod Judged

@@ -345,3 +345,7 @@ judge-inv s b e = go (readBook s) refl e
     go : (g : Got Book) → readBook s ≡ g → judged s g ≡ book b → (encode b ≡ s) × WellFormed b
     go (bad f k) d c = let z : _≡_ {A = ℕ} 0 1 = cc in absurd (omega arith)
     go (got x r) d c = let z : x ≡ b = cc in read-inv s b r (d ∙ ap (λ (y : Book). got y r) z)
+
+-- so well-formed books with the same bytes are the same book
+pub encode-injective : (b c : Book) → WellFormed b → WellFormed c → encode b ≡ encode c → b ≡ c
+encode-injective b c v w e = let z : book b ≡ book c = sym (judge-encode b v) ∙ ap judge e ∙ judge-encode c w in cc

@@ -1,0 +1,30 @@
+-- What the check's reply means: 0 exactly for the bytes of a well-formed book. Assumes nothing.
+use mathlib.Core.Path.{_≡_, refl, ap}
+use mathlib.Core.List.{List}
+use Prim.Native.Nat.{ℕ}
+use native.Mathlib.Omega.{arith}
+use Rattle.book.specs.Book.{Book}
+use Rattle.book.specs.Format.{number, Judged, fault, book, judge}
+use Rattle.book.specs.Encode.{encode, WellFormed}
+use Rattle.book.specs.declared.fault.Fault.{Fault}
+use Rattle.book.specs.declared.fault.Fault.the-variants.{PastEnd, NoMark, OutOfTurn, OutOfRange, TooMany, Conflict}
+use Rattle.book.proofs.Laws.Trip.{judge-encode, judge-inv}
+use Rattle.reading.specs.Judged.{checked}
+
+number-some : (f : Fault) → number f ≡ 0 → ⊥
+number-some PastEnd e = omega arith
+number-some NoMark e = omega arith
+number-some OutOfTurn e = omega arith
+number-some OutOfRange e = omega arith
+number-some TooMany e = omega arith
+number-some Conflict e = omega arith
+
+pub check-zero : (s : List ℕ) → checked (judge s) .number ≡ 0 → (b : Book) × (encode b ≡ s) × WellFormed b
+check-zero s e = go (judge s) refl e
+  where
+    go : (j : Judged) → judge s ≡ j → checked j .number ≡ 0 → (b : Book) × (encode b ≡ s) × WellFormed b
+    go (fault f at) d n = absurd (number-some f n)
+    go (book b) d n = let w = judge-inv s b d in (b, w .0, w .1)
+
+pub zero-check : (b : Book) → WellFormed b → checked (judge (encode b)) ≡ record { number = 0; value = 0; rounds = 0 }
+zero-check b w = ap checked (judge-encode b w)
