@@ -6,6 +6,7 @@ use crate::limits::MAX_ARGUMENTS;
 use crate::limits::MAX_SUBGOALS;
 use crate::limits::RULES_SIZE;
 ghost use mathlib.Core.Path.{_≡_};
+ghost use mathlib.Core.List.{[]};
 ghost use Prim.Native.Nat.{_+_, _≤_};
 ghost use Rattle.book.specs.Limits.{maxClauses};
 ghost use Rattle.book.specs.Held.{callOf, clauseOf, callSize, callIn, window, StoredCall, rulesSize, clauseAt, StoredClause};
@@ -65,7 +66,9 @@ pub fn put_clause(rules: &mut [u8; RULES_SIZE], k: usize, c: Clause)
 }
 
 // A call that says nothing.
-pub fn no_call() -> Call {
+pub fn no_call() -> Call
+    ensures { λ r. ⌜ callOf r ≡ record { pred = 0; args = [] } ⌝ }
+{
     Call {
         pred: 0,
         n: 0,

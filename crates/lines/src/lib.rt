@@ -5,7 +5,9 @@ ghost use lib.ListN.{length};
 ghost use Rattle.io.specs.Counts.{Counts};
 
 // Field k of a line, counted from 0; past the last it is empty.
-pub fn field(line: &[u8], k: usize) -> &[u8] {
+pub fn field(line: &[u8], k: usize) -> &[u8]
+    ensures { λ r. ⌜ length (now r) ≤ length (now (line .entry)) ⌝ }
+{
     let mut at: usize = 0;
     let mut i: usize = 0;
     while i < k {

@@ -232,14 +232,7 @@ fn read_clause(s: &[u8], ar: &[u8], modes: &[u8; MODES_SIZE], at: usize) -> Foun
     let g = h.found;
     let head = h.call;
     match g {
-        Found::Bad(_, _) => FoundClause {
-            found: g,
-            clause: Clause {
-                n: 0,
-                head,
-                body: [head; MAX_SUBGOALS],
-            },
-        },
+        Found::Bad(_, _) => no_clause(g, head),
         Found::Next(next, _) => read_body(s, ar, next, Phase::Body, head),
     }
 }
@@ -255,20 +248,14 @@ fn read_body(s: &[u8], ar: &[u8], from: usize, phase: Phase, head: Call) -> Foun
     let mut n: usize = 0;
     while is_mark(s, at, b"SG") {
         if MAX_SUBGOALS <= n {
-            return FoundClause {
-                found: Found::Bad(Fault::TooMany, at),
-                clause: Clause { n: 0, head, body },
-            };
+            return no_clause(Found::Bad(Fault::TooMany, at), head);
         }
         let r = read_subgoal(s, ar, at);
         let g = r.found;
         let call = r.call;
         match g {
             Found::Bad(_, _) => {
-                return FoundClause {
-                    found: g,
-                    clause: Clause { n: 0, head, body },
-                };
+                return no_clause(g, head);
             }
             Found::Next(next, _) => {
                 body[n] = call;
@@ -284,6 +271,20 @@ fn read_body(s: &[u8], ar: &[u8], from: usize, phase: Phase, head: Call) -> Foun
             n: count,
             head,
             body,
+        },
+    }
+}
+
+// What was found where a clause with this head has a fault; the clause has no subgoals.
+fn no_clause(g: Found, head: Call) -> FoundClause
+    ensures { λ r. ⌜ (r .found ≡ g) × (callOf (r .clause .head) ≡ callOf head) ⌝ }
+{
+    FoundClause {
+        found: g,
+        clause: Clause {
+            n: 0,
+            head,
+            body: [head; MAX_SUBGOALS],
         },
     }
 }

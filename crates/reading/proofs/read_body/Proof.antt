@@ -28,13 +28,17 @@ loop-holds c = (refl, going-start _ _ _ _ _ (c .before .before .before .pre .0))
 is-mark-requires : tie.Need-is-mark-requires Inv-loop μ-loop
 is-mark-requires c κs = c .before .loop .inv .1 .inside
 
+no-clause-requires : tie.Need-no-clause-requires Inv-loop μ-loop
+no-clause-requires c κs = search needs
+
 returns : tie.Need-returns Inv-loop μ-loop
 returns c =
-    let args = c .before .before .before .before .before .before .before .before .args in
-    let pre = c .before .before .before .before .before .before .before .before .pre in
-    let loop = c .before .before .before .before .loop in
-    let is-mark = c .before .before .is-mark in
-    (going-full _ _ _ _ _ (loop .inv .1) (mine-at (args .phase) (mine-mark (args .phase) Sg (pre .2)) (args .s .now) (loop .at) (sym (is-mark .ensures) ∙ c .before .if1 .taken)) (omega arith), refl)
+    let args = c .before .before .before .before .before .before .before .before .before .args in
+    let pre = c .before .before .before .before .before .before .before .before .before .pre in
+    let loop = c .before .before .before .before .before .loop in
+    let is-mark = c .before .before .before .is-mark in
+    let if1 = c .before .before .if1 in
+    (rw (c .no-clause .ensures .0) (going-full _ _ _ _ _ (loop .inv .1) (mine-at (args .phase) (mine-mark (args .phase) Sg (pre .2)) (args .s .now) (loop .at) (sym (is-mark .ensures) ∙ if1 .taken)) (omega arith)), c .no-clause .ensures .1)
 
 read-subgoal-requires : tie.Need-read-subgoal-requires Inv-loop μ-loop
 read-subgoal-requires c κs =
@@ -47,16 +51,19 @@ read-subgoal-requires c κs =
 enum-told : tie.Need-enum-told Inv-loop μ-loop
 enum-told c = search needs
 
+no-clause-requires-2 : tie.Need-no-clause-requires-2 Inv-loop μ-loop
+no-clause-requires-2 c κs = search needs
+
 returns-2 : tie.Need-returns-2 Inv-loop μ-loop
 unfolding subgoal
 returns-2 c =
-    let args = c .before .before .before .before .before .before .before .before .before .before .before .before .args in
-    let pre = c .before .before .before .before .before .before .before .before .before .before .before .before .pre in
-    let loop = c .before .before .before .before .before .before .before .before .loop in
-    let is-mark = c .before .before .before .before .before .before .is-mark in
-    let if1 = c .before .before .before .before .before .if1 in
-    let read-subgoal = c .before .before .before .read-subgoal in
-    (going-bad _ _ _ _ _ (loop .inv .1) (mine-at (args .phase) (mine-mark (args .phase) Sg (pre .2)) (args .s .now) (loop .at) (sym (is-mark .ensures) ∙ if1 .taken)) (omega arith) (read-subgoal .ensures) (c .enum-told .given .1), refl)
+    let args = c .before .before .before .before .before .before .before .before .before .before .before .before .before .args in
+    let pre = c .before .before .before .before .before .before .before .before .before .before .before .before .before .pre in
+    let loop = c .before .before .before .before .before .before .before .before .before .loop in
+    let is-mark = c .before .before .before .before .before .before .before .is-mark in
+    let if1 = c .before .before .before .before .before .before .if1 in
+    let read-subgoal = c .before .before .before .before .read-subgoal in
+    (rw (c .no-clause2 .ensures .0) (going-bad _ _ _ _ _ (loop .inv .1) (mine-at (args .phase) (mine-mark (args .phase) Sg (pre .2)) (args .s .now) (loop .at) (sym (is-mark .ensures) ∙ if1 .taken)) (omega arith) (read-subgoal .ensures) (c .before .enum-told .given .1)), c .no-clause2 .ensures .1)
 
 enum-known-g : tie.Need-enum-known-g Inv-loop μ-loop
 enum-known-g c = search needs
@@ -107,9 +114,11 @@ read-body-spec =
     no-call-requires
     loop-holds
     is-mark-requires
+    no-clause-requires
     returns
     read-subgoal-requires
     enum-told
+    no-clause-requires-2
     returns-2
     enum-known-g
     mul-body

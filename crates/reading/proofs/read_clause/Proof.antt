@@ -11,6 +11,9 @@ read-head-requires c κs = search needs
 enum-told : tie.Need-enum-told
 enum-told c = search needs
 
+no-clause-requires : tie.Need-no-clause-requires
+no-clause-requires c κs = search needs
+
 enum-known-g : tie.Need-enum-known-g
 enum-known-g c = search needs
 
@@ -22,9 +25,9 @@ read-body-requires c κs =
 
 returns : tie.Need-returns
 returns c =
-    let args = c .before .before .before .before .before .before .args in
-    let read-head = c .before .before .before .read-head in
-    clause-bad _ _ _ (args .at) (read-head .ensures) (c .enum-told .given .1)
+    let args = c .before .before .before .before .before .before .before .args in
+    let read-head = c .before .before .before .before .read-head in
+    rw (c .no-clause .ensures .0) (clause-bad _ _ _ (args .at) (read-head .ensures) (c .before .enum-told .given .1))
 
 returns-2 : tie.Need-returns-2
 returns-2 c =
@@ -36,4 +39,11 @@ returns-2 c =
 pub read-clause-spec : {M : Type 1} → statement M
 read-clause-spec =
     tie.close
-    (tie.spec read-head-requires enum-told enum-known-g read-body-requires returns returns-2)
+    (tie.spec
+    read-head-requires
+    enum-told
+    no-clause-requires
+    enum-known-g
+    read-body-requires
+    returns
+    returns-2)
