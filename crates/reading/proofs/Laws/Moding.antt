@@ -1,19 +1,20 @@
 -- The loop over MO records: the modes of the predicates below low are those read so far, and no predicate from low on has any. Assumes nothing.
 use mathlib.Core.Path.{_≡_, refl, sym, ap, _∙_, subst}
 use mathlib.Core.List.{List, [], _∷_, _++_}
-use Prim.Native.Nat.{ℕ, suc, _+_, _≤_, _<_}
+use Prim.Native.Nat.{ℕ, suc, _+_, _-_, _≤_, _<_}
 use native.Mathlib.Omega.{arith}
 use native.Mathlib.Numerals.{add-one}
-use lib.ListN.{length, drop}
+use lib.ListN.{length, drop, length-append, length-drop}
 use borrow.Author.Tests.{ltb-true, leb-true}
 use Rattle.book.specs.Limits.{maxPredicates}
 use Rattle.book.specs.Book.{Mode}
 use Rattle.book.specs.Format.{within, low, lowFrom, markAt, turn, inRecord, many, mode, modeFields}
+use Rattle.book.specs.Encode.{encMode}
 use Rattle.book.specs.Held.{modeAt, modesOf, StoredMode}
 use Rattle.book.specs.declared.fault.Fault.{Fault}
 use Rattle.book.specs.declared.mark.Phase.the-variants.{Modes}
 use Rattle.book.specs.declared.mark.Turn.the-variants.{Mine}
-use Rattle.book.proofs.Laws.Trip.{mode-inv, mode-known, low-last}
+use Rattle.book.proofs.Laws.Trip.{ModeFits, mode-inv, mode-known, low-last}
 use Rattle.book.proofs.Laws.Held.{modesOf-stored, modesOf-rest}
 use Rattle.records.specs.declared.field.Found.{Found}
 use Rattle.records.specs.declared.field.Found.the-variants.{Next, Bad}
@@ -49,23 +50,32 @@ module _ (ar s : List ℕ) (arities : Arities ar) (from : ℕ) where
       moding-bad e = going-bad Modes (mode ar) s (suc maxPredicates) from (l .going) t room reads e
 
       module _ {next p : ℕ} (e : g ≡ Next next p) where
+        read : (drop at s ≡ encMode (record { pred = p; masks = ms }) ++ drop next s) × ModeFits ar (modesOf modes b) (record { pred = p; masks = ms })
+        read =
+            let u : Reads s (Next next p) (λ k. record { pred = k; masks = ms }) (mode ar (modesOf modes b) (drop at s)) =
+            subst (λ (q : Found). Reads s q (λ k. record { pred = k; masks = ms }) (mode ar (modesOf modes b) (drop at s))) e reads in
+            mode-inv ar (modesOf modes b) (drop at s) (record { pred = p; masks = ms }) (drop next s) t (sym (u .is))
+
         fits : (p < length ar) × (b ≤ p)
         unfolding within
         fits =
-            let u : Reads s (Next next p) (λ k. record { pred = k; masks = ms }) (mode ar (modesOf modes b) (drop at s)) =
-            subst (λ (q : Found). Reads s q (λ k. record { pred = k; masks = ms }) (mode ar (modesOf modes b) (drop at s))) e reads in
-            let m : Mode = record { pred = p; masks = ms } in
-            let f = mode-inv ar (modesOf modes b) (drop at s) m (drop next s) t (sym (u .is)) .1 in
-            let k : p < length ar = ltb-true p (length ar) (mode-known ar m (f .0)) in
-            let r : low (modesOf modes b) ≤ p = leb-true _ _ (f .1) in
+            let k : p < length ar = ltb-true p (length ar) (mode-known ar (record { pred = p; masks = ms }) (read .1 .0)) in
+            let r : low (modesOf modes b) ≤ p = leb-true _ _ (read .1 .1) in
             let z = l .least in
             (k, omega arith)
 
+        -- the record has some bytes
+        pub moding-on : at < next
+        moding-on =
+            let d = ap length (read .0) in
+            let f = length-append (encMode (record { pred = p; masks = ms })) (drop next s) in
+            let x : length (drop at s) ≡ length s - at = length-drop at s in
+            let y : length (drop next s) ≡ length s - next = length-drop next s in
+            let i = l .going .inside in
+            omega arith
+
         pub moding-below : p < maxPredicates
         moding-below = let k = fits .0 in let d = arities .few in omega arith
-
-        pub moding-rises : b ≤ p
-        moding-rises = fits .1
 
         pub moding-next : {after : List ℕ} → StoredMode modes after p ms → Moding ar s from next (p + 1) after
         moding-next {after} stored =

@@ -1,12 +1,14 @@
--- `reading::read_modes` meets its contract. Each turn stores the modes of a predicate above those before it, so the predicates left fall. Assumes nothing.
+-- `reading::read_modes` meets its contract. Each turn stores the modes of a predicate above those before it; the bytes left fall. Assumes nothing.
 use mathlib.Core.Path.{refl, sym, _∙_}
 use Prim.Native.Nat.{_-_}
 use native.Mathlib.Omega.{arith}
+use lib.ListN.{length}
 use borrow.Author.Needs.{needs}
 use Rattle.book.specs.declared.mark.Phase.the-variants.{Modes}
 use Rattle.book.specs.declared.mark.Mark.the-variants.{Mo}
-use Rattle.reading.proofs.Laws.Moding.{Moding, moding-start, moding-bad, moding-below, moding-rises, moding-next, moding-end}
+use Rattle.reading.proofs.Laws.Moding.{Moding, moding-start, moding-bad, moding-below, moding-on, moding-next, moding-end}
 use Rattle.reading.proofs.Laws.Runs.{mine-at, not-mine-at, mark-there}
+use Rattle.records.proofs.Laws.Reads.{next-inside}
 use Rattle.reading.proofs.read_modes.Statement.{statement}
 use Rattle.reading.proofs.read_modes.Tie as tie
 
@@ -14,7 +16,7 @@ abbrev Inv-loop : tie.InvT-loop
 Inv-loop s ar from modes₀ at₀ low₀ t12 modes at low = Moding ar s from at low modes
 
 abbrev μ-loop : tie.MeasureT-loop
-μ-loop s ar from modes₀ at₀ low₀ t12 modes at low = 64 - low
+μ-loop s ar from modes₀ at₀ low₀ t12 modes at low = length s - at
 
 loop-holds : tie.Need-loop-holds Inv-loop μ-loop
 loop-holds c =
@@ -78,7 +80,7 @@ loop-less c =
     let if1 = c .before .before .before .before .before .before .before .if1 in
     let read-mode = c .before .before .before .before .before .before .read-mode in
     let g = c .before .before .before .g in
-    let h = moding-below _ (args .s .now) (pre .1) _ (loop .inv) (mine-at Modes {m = Mo} refl (args .s .now) (loop .at) (sym (is-mark .ensures) ∙ if1 .taken)) (read-mode .ensures) (g .given .1) in let r = moding-rises _ (args .s .now) (pre .1) _ (loop .inv) (mine-at Modes {m = Mo} refl (args .s .now) (loop .at) (sym (is-mark .ensures) ∙ if1 .taken)) (read-mode .ensures) (g .given .1) in omega arith
+    let h = moding-on _ (args .s .now) (pre .1) _ (loop .inv) (mine-at Modes {m = Mo} refl (args .s .now) (loop .at) (sym (is-mark .ensures) ∙ if1 .taken)) (read-mode .ensures) (g .given .1) in let i = next-inside (read-mode .ensures) (g .given .1) in omega arith
 
 loop-again : tie.Need-loop-again Inv-loop μ-loop
 loop-again c =
