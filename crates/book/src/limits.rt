@@ -13,6 +13,13 @@ pub const MAX_SUBGOALS: usize = 8;
 // Of a call: as many as the greatest arity.
 pub const MAX_ARGUMENTS: usize = 6;
 
+// Arguments: variables are 0 to 15.
+pub const LAST_VARIABLE: u8 = 15;
+
+pub const WILDCARD: u8 = 254;
+
+pub const LITERAL: u8 = 255;
+
 // What a predicate takes among the modes: whether it has `MO`, the number of its masks, and 20 masks.
 pub const MODE_SIZE: usize = 22;
 

@@ -1,8 +1,11 @@
 // The fields of records, byte by byte from the left, and the records that are not runs of others: a predicate, a mode, a subgoal, a head.
 use book::clause::Call;
 use book::fault::Fault;
+use book::limits::LAST_VARIABLE;
+use book::limits::LITERAL;
 use book::limits::MAX_ARGUMENTS;
 use book::limits::MODES_SIZE;
+use book::limits::WILDCARD;
 use book::mode::has_mode;
 use book::range::Range;
 use masks::constraint::Constraint;
@@ -12,7 +15,7 @@ use masks::limits::MAX_MASKS;
 ghost use mathlib.Core.Path.{_≡_};
 ghost use mathlib.Core.Bool.{_||_};
 ghost use mathlib.Core.List.{[]};
-ghost use Prim.Native.Nat.{_+_, _≤_, _^_};
+ghost use Prim.Native.Nat.{_+_, _≤_};
 ghost use lib.Dec.{leb};
 ghost use lib.ListN.{length, take, drop};
 ghost use Rattle.masks.specs.Held.{masksOf};
@@ -47,115 +50,17 @@ pub fn read_predicate(s: &[u8], at: usize) -> Found
     in_record(read_byte(s, at + 2, Range::AtMost(MAX_ARITY)), at)
 }
 
-// The subgoal whose record is at a place.
-pub fn read_subgoal(s: &[u8], ar: &[u8], at: usize) -> FoundCall
+// The mode whose record is at a place, for a predicate not below low: its predicate and its masks.
+pub fn read_mode(s: &[u8], ar: &[u8], low: u8, at: usize) -> FoundMasks
     requires { ⌜ (at + 2 ≤ length (now s)) × Arities (now ar) ⌝ }
-    ensures { λ r. ⌜ Reads (now (s .entry)) (r .found) (λ _. callOf (r .call)) (subgoal (now (ar .entry)) [] (drop at (now (s .entry)))) ⌝ }
+    ensures { λ r. ⌜ Reads (now (s .entry)) (r .found) (λ p. record { pred = p; masks = masksOf (r .masks) }) (inRecord (drop at (now (s .entry))) (modeFields (now (ar .entry)) low (drop 2 (drop at (now (s .entry)))))) ⌝ }
 {
-    let r = read_call(s, ar, at + 2, Range::Argument);
+    let r = read_alternatives(s, ar, low, at + 2);
     let g = r.found;
-    let call = r.call;
-    FoundCall {
+    let masks = r.masks;
+    FoundMasks {
         found: in_record(g, at),
-        call,
-    }
-}
-
-// A byte: "present (1) before in range (4)".
-fn read_byte(s: &[u8], at: usize, range: Range) -> Found
-    requires { ⌜ at ≤ length (now s) ⌝ }
-    ensures { λ r. ⌜ Reads (now (s .entry)) r (λ x. x) (byte range (drop at (now (s .entry)))) ⌝ }
-{
-    if s.len() <= at {
-        return Found::Bad(Fault::PastEnd, at);
-    }
-    let x = s[at];
-    if in_range(range, x) {
-        return Found::Next(at + 1, x);
-    }
-    Found::Bad(Fault::OutOfRange, at)
-}
-
-// k bytes, stored from the start of the output.
-fn read_bytes(s: &[u8], from: usize, k: u8, range: Range, out: &mut [u8]) -> Found
-    requires { ⌜ (from ≤ length (now s)) × (k ≤ length (now out)) ⌝ }
-    ensures { λ r. ⌜ Reads (now (s .entry)) r (λ _. take k (now (out .exit))) (bytes range k [] (drop from (now (s .entry)))) ⌝ }
-{
-    let n = k as usize;
-    let mut at = from;
-    let mut i: usize = 0;
-    while i < n {
-        let g = read_byte(s, at, range);
-        match g {
-            Found::Bad(_, _) => {
-                return g;
-            }
-            Found::Next(next, x) => {
-                out[i] = x;
-                i += 1;
-                at = next;
-            }
-        }
-    }
-    Found::Next(at, 0)
-}
-
-// "a byte is out of its range: arity, predicate, n, mask, argument".
-fn in_range(range: Range, x: u8) -> bool
-    ensures { λ r. ⌜ r ≡ within range x ⌝ }
-{
-    match range {
-        Range::Below(n) => x < n,
-        Range::AtMost(n) => x <= n,
-        Range::Argument => is_argument(x, 254),
-        Range::HeadArgument => is_argument(x, 255),
-    }
-}
-
-// A variable, or a byte from the given one on.
-fn is_argument(x: u8, from: u8) -> bool
-    ensures { λ r. ⌜ r ≡ (leb x 15 || leb from x) ⌝ }
-{
-    if x <= 15 {
-        return true;
-    }
-    from <= x
-}
-
-// "offset of the record": the place of a fault in the record at a place.
-fn in_record(g: Found, at: usize) -> Found
-    ensures { λ r. ⌜ r ≡ recorded at g ⌝ }
-{
-    match g {
-        Found::Bad(f, _) => Found::Bad(f, at),
-        Found::Next(_, _) => g,
-    }
-}
-
-// A predicate and as many arguments as its arity.
-fn read_call(s: &[u8], ar: &[u8], at: usize, range: Range) -> FoundCall
-    requires { ⌜ (at ≤ length (now s)) × Arities (now ar) ⌝ }
-    ensures { λ r. ⌜ Reads (now (s .entry)) (r .found) (λ _. callOf (r .call)) (call range (now (ar .entry)) (drop at (now (s .entry)))) ⌝ }
-{
-    let mut args = [0u8; MAX_ARGUMENTS];
-    let g = read_byte(s, at, Range::Below(ar.len() as u8));
-    match g {
-        Found::Bad(_, _) => FoundCall {
-            found: g,
-            call: Call {
-                pred: 0,
-                n: 0,
-                args,
-            },
-        },
-        Found::Next(next, pred) => {
-            let n = ar[pred as usize];
-            let found = read_bytes(s, next, n, range, &mut args);
-            FoundCall {
-                found,
-                call: Call { pred, n, args },
-            }
-        }
+        masks,
     }
 }
 
@@ -173,39 +78,17 @@ pub fn read_head(s: &[u8], ar: &[u8], modes: &[u8; MODES_SIZE], at: usize) -> Fo
     }
 }
 
-// The predicate of a clause and its arguments: "6: `CL` for a predicate that has `MO`", tried last.
-fn read_owner(s: &[u8], ar: &[u8], modes: &[u8; MODES_SIZE], at: usize) -> FoundCall
-    requires { ⌜ (at ≤ length (now s)) × Arities (now ar) ⌝ }
-    ensures { λ r. ⌜ Reads (now (s .entry)) (r .found) (λ _. callOf (r .call)) (headFields (now (ar .entry)) (modesOf (now (modes .entry)) maxPredicates) (drop at (now (s .entry)))) ⌝ }
+// The subgoal whose record is at a place.
+pub fn read_subgoal(s: &[u8], ar: &[u8], at: usize) -> FoundCall
+    requires { ⌜ (at + 2 ≤ length (now s)) × Arities (now ar) ⌝ }
+    ensures { λ r. ⌜ Reads (now (s .entry)) (r .found) (λ _. callOf (r .call)) (subgoal (now (ar .entry)) [] (drop at (now (s .entry)))) ⌝ }
 {
-    let r = read_call(s, ar, at, Range::HeadArgument);
+    let r = read_call(s, ar, at + 2, Range::Argument);
     let g = r.found;
     let call = r.call;
-    match g {
-        Found::Bad(_, _) => r,
-        Found::Next(_, _) => {
-            if has_mode(modes, call.pred) {
-                return FoundCall {
-                    found: Found::Bad(Fault::Conflict, at),
-                    call,
-                };
-            }
-            r
-        }
-    }
-}
-
-// The mode whose record is at a place, for a predicate not below low: its predicate and its masks.
-pub fn read_mode(s: &[u8], ar: &[u8], low: u8, at: usize) -> FoundMasks
-    requires { ⌜ (at + 2 ≤ length (now s)) × Arities (now ar) ⌝ }
-    ensures { λ r. ⌜ Reads (now (s .entry)) (r .found) (λ p. record { pred = p; masks = masksOf (r .masks) }) (inRecord (drop at (now (s .entry))) (modeFields (now (ar .entry)) low (drop 2 (drop at (now (s .entry)))))) ⌝ }
-{
-    let r = read_alternatives(s, ar, low, at + 2);
-    let g = r.found;
-    let masks = r.masks;
-    FoundMasks {
+    FoundCall {
         found: in_record(g, at),
-        masks,
+        call,
     }
 }
 
@@ -268,4 +151,124 @@ fn read_masks(s: &[u8], at: usize, patterns: u8) -> FoundMasks
             }
         }
     }
+}
+
+// The predicate of a clause and its arguments: "6: `CL` for a predicate that has `MO`", tried last.
+fn read_owner(s: &[u8], ar: &[u8], modes: &[u8; MODES_SIZE], at: usize) -> FoundCall
+    requires { ⌜ (at ≤ length (now s)) × Arities (now ar) ⌝ }
+    ensures { λ r. ⌜ Reads (now (s .entry)) (r .found) (λ _. callOf (r .call)) (headFields (now (ar .entry)) (modesOf (now (modes .entry)) maxPredicates) (drop at (now (s .entry)))) ⌝ }
+{
+    let r = read_call(s, ar, at, Range::HeadArgument);
+    let g = r.found;
+    let call = r.call;
+    match g {
+        Found::Bad(_, _) => r,
+        Found::Next(_, _) => {
+            if has_mode(modes, call.pred) {
+                return FoundCall {
+                    found: Found::Bad(Fault::Conflict, at),
+                    call,
+                };
+            }
+            r
+        }
+    }
+}
+
+// A predicate and as many arguments as its arity.
+fn read_call(s: &[u8], ar: &[u8], at: usize, range: Range) -> FoundCall
+    requires { ⌜ (at ≤ length (now s)) × Arities (now ar) ⌝ }
+    ensures { λ r. ⌜ Reads (now (s .entry)) (r .found) (λ _. callOf (r .call)) (call range (now (ar .entry)) (drop at (now (s .entry)))) ⌝ }
+{
+    let mut args = [0u8; MAX_ARGUMENTS];
+    let g = read_byte(s, at, Range::Below(ar.len() as u8));
+    match g {
+        Found::Bad(_, _) => FoundCall {
+            found: g,
+            call: Call {
+                pred: 0,
+                n: 0,
+                args,
+            },
+        },
+        Found::Next(next, pred) => {
+            let n = ar[pred as usize];
+            let found = read_bytes(s, next, n, range, &mut args);
+            FoundCall {
+                found,
+                call: Call { pred, n, args },
+            }
+        }
+    }
+}
+
+// "offset of the record": the place of a fault in the record at a place.
+fn in_record(g: Found, at: usize) -> Found
+    ensures { λ r. ⌜ r ≡ recorded at g ⌝ }
+{
+    match g {
+        Found::Bad(f, _) => Found::Bad(f, at),
+        Found::Next(_, _) => g,
+    }
+}
+
+// k bytes, stored from the start of the output.
+fn read_bytes(s: &[u8], from: usize, k: u8, range: Range, out: &mut [u8]) -> Found
+    requires { ⌜ (from ≤ length (now s)) × (k ≤ length (now out)) ⌝ }
+    ensures { λ r. ⌜ Reads (now (s .entry)) r (λ _. take k (now (out .exit))) (bytes range k [] (drop from (now (s .entry)))) ⌝ }
+{
+    let n = k as usize;
+    let mut at = from;
+    let mut i: usize = 0;
+    while i < n {
+        let g = read_byte(s, at, range);
+        match g {
+            Found::Bad(_, _) => {
+                return g;
+            }
+            Found::Next(next, x) => {
+                out[i] = x;
+                i += 1;
+                at = next;
+            }
+        }
+    }
+    Found::Next(at, 0)
+}
+
+// A byte: "present (1) before in range (4)".
+fn read_byte(s: &[u8], at: usize, range: Range) -> Found
+    requires { ⌜ at ≤ length (now s) ⌝ }
+    ensures { λ r. ⌜ Reads (now (s .entry)) r (λ x. x) (byte range (drop at (now (s .entry)))) ⌝ }
+{
+    if s.len() <= at {
+        return Found::Bad(Fault::PastEnd, at);
+    }
+    let x = s[at];
+    if in_range(range, x) {
+        return Found::Next(at + 1, x);
+    }
+    Found::Bad(Fault::OutOfRange, at)
+}
+
+// "a byte is out of its range: arity, predicate, n, mask, argument".
+fn in_range(range: Range, x: u8) -> bool
+    ensures { λ r. ⌜ r ≡ within range x ⌝ }
+{
+    match range {
+        Range::Below(n) => x < n,
+        Range::AtMost(n) => x <= n,
+        Range::Argument => is_argument(x, WILDCARD),
+        Range::HeadArgument => is_argument(x, LITERAL),
+    }
+}
+
+// A variable, or a byte from the given one on.
+fn is_argument(x: u8, from: u8) -> bool
+    ensures { λ r. ⌜ r ≡ (leb x 15 || leb from x) ⌝ }
+{
+    if x <= LAST_VARIABLE {
+        return true;
+    }
+    from <= x
 }
