@@ -32,9 +32,9 @@ number OutOfRange = 4
 number TooMany = 5
 number Conflict = 6
 
--- "offset of the record": of a fault, the bytes left from the record on and those left from the byte at fault on, the place's
+-- "offset of the record": the place of a fault, of how many bytes are left from its record on and from the byte at fault on
 abbrev pub placed : Fault → ℕ → ℕ → ℕ
-placed f record· byte· = record·
+placed f fromRecord fromByte = fromRecord
 
 -- ---- "each led by a two-byte mark in ASCII"
 

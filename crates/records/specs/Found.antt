@@ -43,10 +43,10 @@ onStop (No f) a s = bad f (placed f (length s) (length s))
 abbrev pub stops : {A : Type 0} → Phase → A → List ℕ → Got A
 stops p a s = onStop (turn p (markAt s)) a s
 
--- the fault of a record's field is the record's: `placed`
+-- what was found in the fields of the record at a place: a fault of theirs stands where `placed` says
 abbrev pub recorded : ℕ → Found → Found
-recorded record· (Next at n) = Next at n
-recorded record· (Bad f at) = Bad f record·
+recorded place (Next at n) = Next at n
+recorded place (Bad f at) = Bad f place
 
 -- the arities of a book
 pub record Arities (ar : List ℕ) : Type 0 where

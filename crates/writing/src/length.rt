@@ -22,6 +22,7 @@ ghost use Rattle.book.specs.Limits.{maxClauses, maxPredicates};
 ghost use Rattle.book.specs.Encode.{run, encMode, encSubgoal, encClause, encode};
 ghost use Rattle.book.specs.Held.{callOf, clauseOf, modesOf, clausesOf, bookIn};
 
+// How many bytes the book of these fields has: three a predicate, its modes and clauses, two for `QU`, and its query.
 pub fn book_length<'a>(
     preds: u8,
     arities: &'a [u8; MAX_PREDICATES],
@@ -37,6 +38,7 @@ pub fn book_length<'a>(
     3 * n + modes_length(modes) + clauses_length(clauses, rules) + 2 + body_length(query)
 }
 
+// Of each `MO`: its mark, its predicate, the number of its masks, and the masks.
 fn modes_length(modes: &[u8; MODES_SIZE]) -> usize
     ensures { λ r. ⌜ r ≡ length (run encMode (modesOf (now (modes .entry)) maxPredicates)) ⌝ }
     ensures { λ r. ⌜ r ≤ 1536 ⌝ }
@@ -53,6 +55,7 @@ fn modes_length(modes: &[u8; MODES_SIZE]) -> usize
     total
 }
 
+// Of each clause: its mark, its predicate, its arguments, and its subgoals.
 fn clauses_length(clauses: u8, rules: &[u8; RULES_SIZE]) -> usize
     ensures { λ r. ⌜ r ≡ length (run encClause (clausesOf (now (rules .entry)) (min clauses maxClauses))) ⌝ }
     ensures { λ r. ⌜ r ≤ 5184 ⌝ }
@@ -69,6 +72,7 @@ fn clauses_length(clauses: u8, rules: &[u8; RULES_SIZE]) -> usize
     total
 }
 
+// Of each subgoal: its mark, its predicate, and its arguments.
 fn body_length(c: Clause) -> usize
     ensures { λ r. ⌜ r ≡ length (run encSubgoal (clauseOf c .body)) ⌝ }
     ensures { λ r. ⌜ r ≤ 72 ⌝ }

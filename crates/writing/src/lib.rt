@@ -75,6 +75,7 @@ fn put_book<'a>(
     put_body(out, d, query)
 }
 
+// "`PR`: arity", for each predicate.
 fn put_predicates(out: &mut [u8], at: usize, preds: u8, arities: &[u8; MAX_PREDICATES]) -> usize
     requires { ⌜ Room (now out) at (run encPredicate (take preds (now arities))) ⌝ }
     ensures { λ r. ⌜ Wrote (now (out .entry)) (now (out .exit)) at r (run encPredicate (take preds (now (arities .entry)))) ⌝ }
@@ -91,6 +92,7 @@ fn put_predicates(out: &mut [u8], at: usize, preds: u8, arities: &[u8; MAX_PREDI
     p
 }
 
+// The `MO` of each predicate that has one, rising.
 fn put_modes(out: &mut [u8], at: usize, modes: &[u8; MODES_SIZE]) -> usize
     requires { ⌜ Room (now out) at (run encMode (modesOf (now modes) maxPredicates)) ⌝ }
     ensures { λ r. ⌜ Wrote (now (out .entry)) (now (out .exit)) at r (run encMode (modesOf (now (modes .entry)) maxPredicates)) ⌝ }
@@ -107,6 +109,7 @@ fn put_modes(out: &mut [u8], at: usize, modes: &[u8; MODES_SIZE]) -> usize
     q
 }
 
+// "`MO`: predicate, n, n masks".
 fn put_mode(out: &mut [u8], at: usize, p: u8, c: Constraint) -> usize
     requires { ⌜ Room (now out) at (encMode (record { pred = p; masks = masksOf c })) ⌝ }
     ensures { λ r. ⌜ Wrote (now (out .entry)) (now (out .exit)) at r (encMode (record { pred = p; masks = masksOf c })) ⌝ }
@@ -119,6 +122,7 @@ fn put_mode(out: &mut [u8], at: usize, p: u8, c: Constraint) -> usize
     put_bytes(out, s, &masks[..n])
 }
 
+// Each clause with its subgoals.
 fn put_clauses(out: &mut [u8], at: usize, clauses: u8, rules: &[u8; RULES_SIZE]) -> usize
     requires { ⌜ Room (now out) at (run encClause (clausesOf (now rules) (min clauses maxClauses))) ⌝ }
     ensures { λ r. ⌜ Wrote (now (out .entry)) (now (out .exit)) at r (run encClause (clausesOf (now (rules .entry)) (min clauses maxClauses))) ⌝ }
@@ -134,6 +138,7 @@ fn put_clauses(out: &mut [u8], at: usize, clauses: u8, rules: &[u8; RULES_SIZE])
     p
 }
 
+// "`CL`: predicate, one argument per position", then its subgoals.
 fn put_clause(out: &mut [u8], at: usize, c: Clause) -> usize
     requires { ⌜ Room (now out) at (encClause (clauseOf c)) ⌝ }
     ensures { λ r. ⌜ Wrote (now (out .entry)) (now (out .exit)) at r (encClause (clauseOf c)) ⌝ }
