@@ -21,7 +21,7 @@ use Rattle.book.specs.declared.mark.Turn.the-variants.{Mine, Over, No}
 use Rattle.book.specs.declared.range.Range.{Range}
 use Rattle.book.specs.declared.range.Range.the-variants.{Below, AtMost, Argument, HeadArgument}
 
--- ---- "The value": what comes of a fault
+-- ---- "Replies": the number of a fault, and its place
 
 -- "No.": the number of the reply
 abbrev pub number : Fault → ℕ

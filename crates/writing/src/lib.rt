@@ -22,6 +22,7 @@ use book::mode::has_mode;
 use book::mode::mode_at;
 use masks::constraint::Constraint;
 use masks::constraint::count;
+use masks::constraint::put_masks;
 use masks::reply::Reply;
 ghost use Prim.Native.Nat.{min, _≤_};
 ghost use lib.ListN.{length, take};
@@ -118,8 +119,8 @@ fn put_mode(out: &mut [u8], at: usize, p: u8, c: Constraint) -> usize
     let r = put_byte(out, q, p);
     let n = count(c);
     let s = put_byte(out, r, n as u8);
-    let masks = c.masks;
-    put_bytes(out, s, &masks[..n])
+    put_masks(out, s, c);
+    s + n
 }
 
 // Each clause with its subgoals.
