@@ -241,12 +241,13 @@ fn read_byte(s: &[u8], at: usize, range: Range) -> Found
     requires { ⌜ at ≤ length (now s) ⌝ }
     ensures { λ r. ⌜ Reads (now (s .entry)) r (λ x. x) (byte range (drop at (now (s .entry)))) ⌝ }
 {
-    if s.len() <= at {
+    let next = at + 1;
+    if s.len() < next {
         return Found::Bad(Fault::PastEnd, at);
     }
     let x = s[at];
     if in_range(range, x) {
-        return Found::Next(at + 1, x);
+        return Found::Next(next, x);
     }
     Found::Bad(Fault::OutOfRange, at)
 }

@@ -6,6 +6,9 @@ use Rattle.records.proofs.Laws.Reads.{byte-past, byte-out, byte-in}
 use Rattle.records.proofs.field.read_byte.Statement.{statement}
 use Rattle.records.proofs.field.read_byte.Tie as tie
 
+add-next : tie.Need-add-next
+add-next c = search needs
+
 returns : tie.Need-returns
 returns c = byte-past _ _ _ (c .before .before .pre) (omega arith)
 
@@ -15,9 +18,6 @@ shared-slice-read-x c = search needs
 in-range-requires : tie.Need-in-range-requires
 in-range-requires c κs = search needs
 
-add-t11 : tie.Need-add-t11
-add-t11 c = search needs
-
 returns-2 : tie.Need-returns-2
 returns-2 c = byte-in _ _ _ (omega arith) (sym (c .before .in-range .ensures) ∙ c .if2 .taken)
 
@@ -26,4 +26,4 @@ returns-3 c = byte-out _ _ _ (omega arith) (sym (c .before .in-range .ensures) �
 
 pub read-byte-spec : {M : Type 1} → statement M
 read-byte-spec =
-    tie.close (tie.spec returns shared-slice-read-x in-range-requires add-t11 returns-2 returns-3)
+    tie.close (tie.spec add-next returns shared-slice-read-x in-range-requires returns-2 returns-3)
