@@ -15,6 +15,11 @@ module _ {A : Type 0} where
   all p [] = true
   all p (x ∷ xs) = p x && all p xs
 
+-- f 0, f 1, .. : the first n values of a function
+abbrev pub values : {A : Type 0} → (ℕ → A) → ℕ → List A
+values f zero = []
+values f (suc n) = values f n ++ (f n ∷ [])
+
 -- p holds of some number below n
 abbrev pub anyBelow : (ℕ → Bool) → ℕ → Bool
 anyBelow p zero = false

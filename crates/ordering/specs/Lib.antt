@@ -1,0 +1,7 @@
+-- What a reader has to believe of this crate: adornment, the orders of so many places, a good order and a good clause, and how the code holds a
+-- table and an order.
+pub mod Adorn
+pub mod Orders
+pub mod Turns
+pub mod Good
+pub mod Held
