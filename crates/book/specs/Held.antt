@@ -5,6 +5,7 @@ use mathlib.Core.List.{List, [], _∷_, _++_, map}
 use Prim.Native.Nat.{ℕ, zero, suc, _+_, _*_, min}
 use lib.Dec.{eqb}
 use lib.ListN.{getD, take, drop}
+use Rattle.masks.specs.Lists.{values}
 use Rattle.book.specs.Limits.{maxPredicates, maxClauses, maxSubgoals}
 use Rattle.book.specs.Book.{Call, Mode, Clause, Book}
 use Rattle.book.specs.declared.clause.Call as call
@@ -42,8 +43,7 @@ pub record StoredCall (rules after : List ℕ) (at : ℕ) (c : Call) : Type 0 wh
 
 -- n calls, from a place on
 unfoldable pub callsIn : List ℕ → ℕ → ℕ → List Call
-callsIn b at zero = []
-callsIn b at (suc n) = callsIn b at n ++ (callIn (window (at + n * callSize) callSize b) ∷ [])
+callsIn b at n = values (λ i. callIn (window (at + i * callSize) callSize b)) n
 
 -- the bytes of a clause: the number of its subgoals, its head, and eight subgoals
 abbrev pub clauseSize : ℕ
@@ -61,8 +61,7 @@ abbrev pub clauseAt : List ℕ → ℕ → Clause
 clauseAt rules k = clauseIn (window (k * clauseSize) clauseSize rules)
 
 unfoldable pub clausesOf : List ℕ → ℕ → List Clause
-clausesOf rules zero = []
-clausesOf rules (suc n) = clausesOf rules n ++ (clauseAt rules n ∷ [])
+clausesOf rules n = values (clauseAt rules) n
 
 -- clause k is now c, and the others are as they were
 pub record StoredClause (rules after : List ℕ) (k : ℕ) (c : Clause) : Type 0 where
@@ -93,7 +92,7 @@ modesOf modes (suc n) = modesOf modes n ++ modeAt modes n
 -- predicate p has now MO with these masks, and the others are as they were
 pub record StoredMode (modes after : List ℕ) (p : ℕ) (masks : List ℕ) : Type 0 where
   pub is : modeAt after p ≡ record { pred = p; masks = masks } ∷ []
-  pub others : (i : ℕ) → (i ≡ p → ⊥) → modeAt after i ≡ modeAt modes i
+  pub others : (i : ℕ) → (i ≡ p → ⊥) → modeBytes after i ≡ modeBytes modes i
 
 -- ---- a book: so many predicates with their arities, modes, and so many clauses; the query stands after the room of the clauses, as a clause
 -- whose head says nothing

@@ -7,7 +7,9 @@ use crate::limits::MAX_SUBGOALS;
 use crate::limits::RULES_SIZE;
 ghost use mathlib.Core.Path.{_≡_};
 ghost use mathlib.Core.List.{[]};
-ghost use Prim.Native.Nat.{_+_, _≤_};
+ghost use Prim.Native.Nat.{_+_, _<_, _≤_, min};
+ghost use lib.ListN.{length, getD};
+ghost use Rattle.masks.specs.Limits.{maxArity};
 ghost use Rattle.book.specs.Limits.{maxClauses};
 ghost use Rattle.book.specs.Held.{callOf, clauseOf, callSize, callIn, window, StoredCall, rulesSize, clauseAt, StoredClause};
 
@@ -45,6 +47,46 @@ pub fn clause_at(rules: &[u8; RULES_SIZE], k: usize) -> Clause
         head,
         body,
     }
+}
+
+// The head of clause k of an array.
+pub fn head_at(rules: &[u8; RULES_SIZE], k: usize) -> Call
+    requires { ⌜ k ≤ maxClauses ⌝ }
+    ensures { λ r. ⌜ callOf r ≡ clauseAt (now (rules .entry)) k .head ⌝ }
+{
+    call_at(rules, k * CLAUSE_SIZE + 1)
+}
+
+// How many subgoals clause k of an array has.
+pub fn subgoals_at(rules: &[u8; RULES_SIZE], k: usize) -> usize
+    requires { ⌜ k ≤ maxClauses ⌝ }
+    ensures { λ r. ⌜ r ≡ length (clauseAt (now (rules .entry)) k .body) ⌝ }
+{
+    held(rules[k * CLAUSE_SIZE], MAX_SUBGOALS)
+}
+
+// Subgoal j of clause k of an array.
+pub fn subgoal_at(rules: &[u8; RULES_SIZE], k: usize, j: usize) -> Call
+    requires { ⌜ (k ≤ maxClauses) × (j < length (clauseAt (now rules) k .body)) ⌝ }
+    ensures { λ r. ⌜ callOf r ≡ getD (clauseAt (now (rules .entry)) k .body) j (record { pred = 0; args = [] }) ⌝ }
+{
+    call_at(rules, k * CLAUSE_SIZE + 9 + j * CALL_SIZE)
+}
+
+// How many arguments a call has. A count above the array's length means all of it.
+pub fn arguments(c: Call) -> usize
+    ensures { λ r. ⌜ r ≡ length (callOf c .args) ⌝ }
+    ensures { λ r. ⌜ r ≤ maxArity ⌝ }
+{
+    held(c.n, MAX_ARGUMENTS)
+}
+
+// A number that is held as a byte, at most as many as there is room for.
+fn held(n: u8, room: usize) -> usize
+    ensures { λ r. ⌜ r ≡ min n room ⌝ }
+{
+    let k = n as usize;
+    if k < room { k } else { room }
 }
 
 // Makes clause k of an array this one.

@@ -12,3 +12,4 @@ pub mod Kept
 pub mod Outcome
 pub mod Joining
 pub mod Examples
+pub mod Members

@@ -1,7 +1,6 @@
 // Constraints by value, a pattern tried against one, and the written form of a list or a set of masks.
 //
 // A set of masks is held in a word: mask m is in it where bit m is set.
-use crate::limits::ALL_PATTERNS;
 use crate::limits::MAX_MASKS;
 ghost use mathlib.Core.Path.{_≡_};
 ghost use mathlib.Core.Bool.{true, _||_};
@@ -51,24 +50,20 @@ pub fn minimised(masks: &[u8]) -> Constraint
     requires { ⌜ inRange allPatterns (now masks) ≡ true ⌝ }
     ensures { λ r. ⌜ r ≡ packed (minimise (now (masks .entry))) ⌝ }
 {
-    written(with_unions(0, 0, masks), ALL_PATTERNS)
+    written(with_unions(0, 0, masks))
 }
 
-// The written form of the masks of a set that are below the limit: "a mask is dropped at the first other one contained in it". Where any
-// other is contained in it, so is one that is kept, and that one is smaller: so it is enough to look among those kept so far.
-pub fn written(set: u64, limit: u8) -> Constraint
-    requires { ⌜ limit ≤ allPatterns ⌝ }
-    ensures { λ r. ⌜ r ≡ packed (written (bitAt set) limit) ⌝ }
+// The written form of the masks of a set: "a mask is dropped at the first other one contained in it". They are taken from the lowest up. Where any
+// other is contained in a mask, so is one that is kept, and that one is smaller: so it is enough to look among those kept so far.
+pub fn written(set: u64) -> Constraint
+    ensures { λ r. ⌜ r ≡ packed (written (bitAt set) allPatterns) ⌝ }
 {
     let mut masks = [0u8; MAX_MASKS];
     let mut n: usize = 0;
     let mut rest = set;
-    'outer: for m in 0..limit {
-        let bit = rest % 2;
-        rest = rest / 2;
-        if bit == 0 {
-            continue 'outer;
-        }
+    'outer: while rest != 0 {
+        let m = u64::trailing_zeros(rest) as u8;
+        rest = rest & (rest - 1);
         'inner: for k in 0..n {
             let kept = masks[k];
             if kept & m == kept {

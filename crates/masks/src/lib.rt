@@ -5,7 +5,6 @@ pub mod limits;
 pub mod reply;
 
 use crate::constraint::Constraint;
-use crate::limits::ALL_PATTERNS;
 use crate::limits::MAX_ARITY;
 use crate::limits::MAX_MASKS;
 use crate::reply::Reply;
@@ -114,7 +113,7 @@ fn choice_of(first: &[u8], second: &[u8]) -> Constraint
     ensures { λ r. ⌜ r ≡ packed (choice (now (first .entry)) (now (second .entry))) ⌝ }
 {
     let set = constraint::with_unions(0, 0, first);
-    constraint::written(constraint::with_unions(set, 0, second), ALL_PATTERNS)
+    constraint::written(constraint::with_unions(set, 0, second))
 }
 
 // The joint: the union of each mask of one with each of the other.
@@ -128,5 +127,5 @@ fn joint_of(first: &[u8], second: &[u8]) -> Constraint
         set = constraint::with_unions(set, first[i], second);
         i += 1;
     }
-    constraint::written(set, ALL_PATTERNS)
+    constraint::written(set)
 }

@@ -1,10 +1,9 @@
 // How many bytes a book has, and its parts. Each part also says how many it has at most, so that the sums fit. A lent array is gone over as a
 // slice, since only then is its length known to the proof.
 use crate::put::least;
-use book::clause::Call;
 use book::clause::Clause;
+use book::clause::arguments;
 use book::clause::clause_at;
-use book::limits::MAX_ARGUMENTS;
 use book::limits::MAX_CLAUSES;
 use book::limits::MAX_PREDICATES;
 use book::limits::MAX_SUBGOALS;
@@ -17,10 +16,9 @@ use masks::constraint::count;
 ghost use mathlib.Core.Path.{_≡_};
 ghost use Prim.Native.Nat.{min, _≤_};
 ghost use lib.ListN.{length};
-ghost use Rattle.masks.specs.Limits.{maxArity};
 ghost use Rattle.book.specs.Limits.{maxClauses, maxPredicates};
 ghost use Rattle.book.specs.Encode.{run, encMode, encSubgoal, encClause, encode};
-ghost use Rattle.book.specs.Held.{callOf, clauseOf, modesOf, clausesOf, bookIn};
+ghost use Rattle.book.specs.Held.{clauseOf, modesOf, clausesOf, bookIn};
 
 // How many bytes the book of these fields has: three a predicate, its modes and clauses, two for `QU`, and its query.
 pub fn book_length<'a>(
@@ -86,12 +84,4 @@ fn body_length(c: Clause) -> usize
         j += 1;
     }
     total
-}
-
-// How many arguments a call has. A count above the array's length means all of it.
-pub fn arguments(c: Call) -> usize
-    ensures { λ r. ⌜ r ≡ length (callOf c .args) ⌝ }
-    ensures { λ r. ⌜ r ≤ maxArity ⌝ }
-{
-    least(c.n as usize, MAX_ARGUMENTS)
 }

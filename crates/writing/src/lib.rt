@@ -3,7 +3,6 @@
 pub mod length;
 pub mod put;
 
-use crate::length::arguments;
 use crate::length::book_length;
 use crate::put::least;
 use crate::put::put_byte;
@@ -11,6 +10,7 @@ use crate::put::put_bytes;
 use crate::put::put_mark;
 use book::clause::Call;
 use book::clause::Clause;
+use book::clause::arguments;
 use book::clause::clause_at;
 use book::limits::MAX_CLAUSES;
 use book::limits::MAX_PREDICATES;

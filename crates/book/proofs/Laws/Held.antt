@@ -1,5 +1,5 @@
--- What the arrays of a book hold: what is read from one, what a store makes of it, and lists of so many clauses or modes. First the lists made
--- of the first n values of a function, which calls and clauses are. Assumes nothing.
+-- What the arrays of a book hold: what is read from one, what a store makes of it, and lists of so many clauses or modes, which are the first n
+-- values of a function. Assumes nothing.
 use mathlib.Core.Path.{_≡_, refl, sym, ap, ap₂, _∙_}
 use mathlib.Core.Bool.{Bool, true, false, cond, _&&_, _||_, or-false, and-false, and-true}
 use mathlib.Core.List.{List, [], _∷_, _++_, append-nil, map, map-append}
@@ -7,12 +7,12 @@ use Prim.Native.Nat.{ℕ, zero, suc, _+_, _*_, min, _≤_, _<_}
 use native.Mathlib.Numerals.{add-one}
 use native.Mathlib.Omega.{arith}
 use lib.Dec.{eqb, leb}
-use lib.ListN.{length, getD, take, drop, set, replicate, length-set, length-append, length-map, List·getD-append}
-use lib.Seq.{take-nil, take-suc, take-all, take-append-le, take-set-le, take-suc-set, drop-set-lt, getD-set-same, getD-at}
+use lib.ListN.{length, getD, take, drop, set, replicate, length-set, length-take, length-map}
+use lib.Seq.{take-suc, take-all, take-set-le, take-suc-set, drop-set-lt, getD-set-same, getD-take}
 use borrow.Author.Tests.{leb-true, leb-false, eq-eqb, ne-eqb}
 use Rattle.masks.specs.Lists.{any}
 use Rattle.masks.proofs.Laws.Logic.{byBool}
-use Rattle.masks.proofs.Laws.Lists.{any-append}
+use Rattle.masks.proofs.Laws.Lists.{any-append, length-values, values-cong, take-values, getD-values}
 use Rattle.book.specs.Limits.{maxSubgoals}
 use Rattle.book.specs.Book.{Call, Mode, Clause}
 use Rattle.book.specs.Format.{hasMode}
@@ -21,46 +21,7 @@ use Rattle.book.specs.declared.clause.Call as call
 use Rattle.book.specs.declared.clause.Clause as clause
 use Rattle.book.proofs.Laws.Windows.{window-window, drop-window, getD-window, getD-window-first, take-shorter, getD-front, window-front, drop-longer, window-others, Stored}
 
--- ---- the first n values of a function
-
-module _ {A : Type 0} where
-  abbrev values : (ℕ → A) → ℕ → List A
-  values f zero = []
-  values f (suc n) = values f n ++ (f n ∷ [])
-
-  length-values : (f : ℕ → A) (n : ℕ) → length (values f n) ≡ n
-  length-values f zero = refl
-  length-values f (suc n) = length-append (values f n) (f n ∷ []) ∙ omega (arith, length-values f n)
-
-  values-cong : (f g : ℕ → A) (n : ℕ) → ((i : ℕ) → i < n → f i ≡ g i) → values f n ≡ values g n
-  values-cong f g zero h = refl
-  values-cong f g (suc n) h = ap₂ (λ (s : List A) (x : A). s ++ (x ∷ [])) (values-cong f g n (λ i l. h i (omega arith))) (h n (omega arith))
-
-  take-values : (f : ℕ → A) (m n : ℕ) → take m (values f n) ≡ values f (min m n)
-  take-values f m zero = let e : 0 ≡ min m 0 = omega arith in take-nil m ∙ ap (values f) e
-  take-values f m (suc n) =
-      let l = length-values f n in
-      let k = length-values f (suc n) in
-      byBool (leb m n)
-      (λ t.
-      let h = leb-true m n t in
-      let e : min m n ≡ min m (suc n) = omega arith in
-      take-append-le m (values f n) (f n ∷ []) (omega arith) ∙ take-values f m n ∙ ap (values f) e)
-      (λ t.
-      let h = leb-false m n t in
-      let e : suc n ≡ min m (suc n) = omega arith in
-      take-all m (values f (suc n)) (omega arith) ∙ ap (values f) e)
-
-  getD-values : (f : ℕ → A) (d : A) (n i : ℕ) → i < n → getD (values f n) i d ≡ f i
-  getD-values f d zero i h = absurd (omega arith)
-  getD-values f d (suc n) i h =
-      let l = length-values f n in
-      byBool (leb n i)
-      (λ t.
-      let k = leb-true n i t in
-      let e : n ≡ i = omega arith in
-      getD-at (values f n) (f n) [] d i (omega arith) ∙ ap f e)
-      (λ t. let k = leb-false n i t in List·getD-append (values f n) (f n ∷ []) d i (omega arith) ∙ getD-values f d n i k)
+-- ---- arrays
 
 take-map : {A B : Type 0} (f : A → B) (n : ℕ) (l : List A) → map f (take n l) ≡ take n (map f l)
 take-map f zero l = refl
@@ -89,20 +50,15 @@ stored-call s = record { is = ap callIn (s .is); before = s .before; behind = s 
 callAt : List ℕ → ℕ → ℕ → Call
 callAt l at i = callIn (window (at + i * callSize) callSize l)
 
-callsIn-values : (l : List ℕ) (at n : ℕ) → callsIn l at n ≡ values (callAt l at) n
-unfolding callsIn callAt
-callsIn-values l at zero = refl
-callsIn-values l at (suc n) = ap (λ (s : List Call). s ++ (callAt l at n ∷ [])) (callsIn-values l at n)
-
 take-callsIn : (l : List ℕ) (at m n : ℕ) → take m (callsIn l at n) ≡ callsIn l at (min m n)
-take-callsIn l at m n =
-    ap (take m) (callsIn-values l at n) ∙ take-values (callAt l at) m n ∙ sym (callsIn-values l at (min m n))
+unfolding callsIn callAt
+take-callsIn l at m n = take-values (callAt l at) m n
 
 -- ---- a clause
 
 clauseIn-window : (l : List ℕ) (at : ℕ)
     → clauseIn (window at clauseSize l) ≡ record { head = callIn (window (at + 1) callSize l); body = take (getD l at 0) (callsIn l (at + 9) maxSubgoals) }
-unfolding clauseIn callAt
+unfolding clauseIn callsIn callAt
 clauseIn-window l at =
     ap₂ (λ (h : Call) (b : List Call). record { head = h; body = b })
     (ap callIn (window-window at clauseSize 1 callSize l (omega arith)))
@@ -114,12 +70,31 @@ clauseIn-window l at =
 
     calls : callsIn w 9 maxSubgoals ≡ callsIn l (at + 9) maxSubgoals
     calls =
-        callsIn-values w 9 maxSubgoals
-        ∙ values-cong (callAt w 9) (callAt l (at + 9)) maxSubgoals
+        values-cong (callAt w 9) (callAt l (at + 9)) maxSubgoals
         (λ i h.
         let e : at + (9 + i * callSize) ≡ at + 9 + i * callSize = omega arith in
         ap callIn (window-window at clauseSize (9 + i * callSize) callSize l (omega arith) ∙ ap (λ (k : ℕ). window k callSize l) e))
-        ∙ sym (callsIn-values l (at + 9) maxSubgoals)
+
+-- its head, the number of its subgoals, and each of them, where they stand
+module _ (rules : List ℕ) (k : ℕ) where
+  pub clauseAt-head : clauseAt rules k .head ≡ callIn (window (k * clauseSize + 1) callSize rules)
+  clauseAt-head = ap (λ (c : Clause). c .head) (clauseIn-window rules (k * clauseSize))
+
+  pub clauseAt-count : length (clauseAt rules k .body) ≡ min (getD rules (k * clauseSize) 0) maxSubgoals
+  unfolding callsIn callAt
+  clauseAt-count =
+      ap (λ (c : Clause). length (c .body)) (clauseIn-window rules (k * clauseSize))
+      ∙ length-take (getD rules (k * clauseSize) 0) (callsIn rules (k * clauseSize + 9) maxSubgoals)
+      ∙ ap (min (getD rules (k * clauseSize) 0)) (length-values (callAt rules (k * clauseSize + 9)) maxSubgoals)
+
+  pub clauseAt-body : (d : Call) (j : ℕ) → j < length (clauseAt rules k .body)
+      → getD (clauseAt rules k .body) j d ≡ callIn (window (k * clauseSize + 9 + j * callSize) callSize rules)
+  unfolding callsIn callAt
+  clauseAt-body d j h =
+      let n = clauseAt-count in
+      ap (λ (c : Clause). getD (c .body) j d) (clauseIn-window rules (k * clauseSize))
+      ∙ getD-take (getD rules (k * clauseSize) 0) (callsIn rules (k * clauseSize + 9) maxSubgoals) j d (omega arith)
+      ∙ getD-values (callAt rules (k * clauseSize + 9)) d maxSubgoals j (omega arith)
 
 -- the loop that reads the subgoals: the first j are read
 pub record Reading (rules : List ℕ) (at j : ℕ) (body : List call.Call) : Type 0 where
@@ -201,10 +176,8 @@ module _ (at : ℕ) (c : clause.Clause) where
     where
       kept : callsIn after (at + 9) j ≡ callsIn now (at + 9) j
       kept =
-          callsIn-values after (at + 9) j
-          ∙ values-cong (callAt after (at + 9)) (callAt now (at + 9)) j
+          values-cong (callAt after (at + 9)) (callAt now (at + 9)) j
           (λ i l. ap callIn (window-front after now (at + 9 + i * callSize) callSize (at + 9 + j * callSize) (omega arith) (s .before)))
-          ∙ sym (callsIn-values now (at + 9) j)
 
 pub writing-end : (rules : List ℕ) (k : ℕ) (c : clause.Clause) {j : ℕ} {l now : List ℕ} → length (c .body) ≡ maxSubgoals → maxSubgoals ≤ j
     → StoredCall (set rules (k * clauseSize) (c .n)) l (k * clauseSize + 1) (callOf (c .head)) → Writing l (k * clauseSize) c j now
@@ -233,19 +206,17 @@ writing-end rules k c {j} {l} {now} e h s w =
 
 -- ---- the first n clauses
 
-clausesOf-values : (rules : List ℕ) (n : ℕ) → clausesOf rules n ≡ values (clauseAt rules) n
-unfolding clausesOf
-clausesOf-values rules zero = refl
-clausesOf-values rules (suc n) = ap (λ (s : List Clause). s ++ (clauseAt rules n ∷ [])) (clausesOf-values rules n)
-
 pub clausesOf-length : (rules : List ℕ) (n : ℕ) → length (clausesOf rules n) ≡ n
-clausesOf-length rules n = ap length (clausesOf-values rules n) ∙ length-values (clauseAt rules) n
+unfolding clausesOf
+clausesOf-length rules n = length-values (clauseAt rules) n
 
 pub clausesOf-at : (rules : List ℕ) (d : Clause) (n i : ℕ) → i < n → getD (clausesOf rules n) i d ≡ clauseAt rules i
-clausesOf-at rules d n i h = ap (λ (s : List Clause). getD s i d) (clausesOf-values rules n) ∙ getD-values (clauseAt rules) d n i h
+unfolding clausesOf
+clausesOf-at rules d n i h = getD-values (clauseAt rules) d n i h
 
 pub clausesOf-kept : (rules after : List ℕ) (n : ℕ) → ((i : ℕ) → i < n → clauseAt after i ≡ clauseAt rules i) → clausesOf after n ≡ clausesOf rules n
-clausesOf-kept rules after n h = clausesOf-values after n ∙ values-cong (clauseAt after) (clauseAt rules) n h ∙ sym (clausesOf-values rules n)
+unfolding clausesOf
+clausesOf-kept rules after n h = values-cong (clauseAt after) (clauseAt rules) n h
 
 module _ {rules after : List ℕ} {k : ℕ} {c : Clause} (s : StoredClause rules after k c) where
   pub clausesOf-before : (n : ℕ) → n ≤ k → clausesOf after n ≡ clausesOf rules n
@@ -261,10 +232,15 @@ pub stored-mode : {modes after : List ℕ} {p n : ℕ} {masks : List ℕ} → St
     → StoredMode modes after p (take n masks)
 unfolding modeAt
 stored-mode {modes} {after} {p} s =
-    record { is = ap (one p) (s .is); others = λ i ne. ap (one i) (window-others after modes modeSize p i ne (s .before) (s .behind)) }
+    record { is = ap (one p) (s .is); others = λ i ne. window-others after modes modeSize p i ne (s .before) (s .behind) }
   where
     one : ℕ → List ℕ → List Mode
     one i b = cond (hasIn b) (record { pred = i; masks = masksIn b } ∷ []) []
+
+-- the other predicates' modes are as they were
+pub modeAt-others : {modes after : List ℕ} {p : ℕ} {masks : List ℕ} → StoredMode modes after p masks → (i : ℕ) → (i ≡ p → ⊥) → modeAt after i ≡ modeAt modes i
+unfolding modeAt
+modeAt-others s i ne = ap (λ (b : List ℕ). cond (hasIn b) (record { pred = i; masks = masksIn b } ∷ []) []) (s .others i ne)
 
 getD-zeros : (n i : ℕ) → _≡_ {A = ℕ} (getD (replicate n 0) i 0) 0
 getD-zeros zero i = refl
@@ -299,7 +275,7 @@ pub modesOf-stored : {modes after : List ℕ} {p : ℕ} {masks : List ℕ} → S
 unfolding modesOf
 modesOf-stored {modes} {after} {p} s b h f =
     rw add-one
-    (ap₂ (λ (x y : List Mode). x ++ y) (modesOf-kept modes after p (λ i l. s .others i (λ e. omega arith)) ∙ modesOf-rest modes b p h f) (s .is))
+    (ap₂ (λ (x y : List Mode). x ++ y) (modesOf-kept modes after p (λ i l. modeAt-others s i (λ e. omega arith)) ∙ modesOf-rest modes b p h f) (s .is))
 
 -- predicate p has a mode where its bytes say so
 module _ (modes : List ℕ) (p : ℕ) where

@@ -3,14 +3,14 @@
 use mathlib.Core.Path.{_≡_, refl, sym, ap, ap₂, _∙_}
 use mathlib.Core.Bool.{Bool, true, false, cond, _&&_, _||_, or-assoc, and-assoc, or-false, and-true, false≢true}
 use mathlib.Core.List.{List, [], _∷_, _++_, map}
-use Prim.Native.Nat.{ℕ, zero, suc, _+_, _<_}
+use Prim.Native.Nat.{ℕ, zero, suc, _+_, min, _<_}
 use native.Mathlib.Omega.{arith}
 use native.Mathlib.Numerals.{add-one}
-use lib.Dec.{eqb, ltb}
-use lib.ListN.{length, getD, take, set, length-take}
-use lib.Seq.{take-suc, sets, length-take-le}
-use borrow.Author.Tests.{eqb-true, eqb-false, eq-eqb, ltb-true, lt-ltb}
-use Rattle.masks.specs.Lists.{any, all, anyBelow, below, has, pairwise, ascending}
+use lib.Dec.{eqb, ltb, leb}
+use lib.ListN.{length, getD, take, set, length-take, length-append, List·getD-append}
+use lib.Seq.{take-nil, take-suc, take-all, take-append-le, sets, length-take-le, getD-at}
+use borrow.Author.Tests.{eqb-true, eqb-false, eq-eqb, ltb-true, lt-ltb, leb-true, leb-false}
+use Rattle.masks.specs.Lists.{any, all, values, anyBelow, below, has, pairwise, ascending}
 use Rattle.masks.proofs.Laws.Logic.{byBool, and-intro, and-left, and-right, or-left, or-right, or-case}
 
 -- ---- the front of a list, and a run of stores
@@ -198,3 +198,40 @@ ascending-ext (x ∷ xs) (y ∷ ys) s t f g =
         or-case (eqb x y) (has ys x) (f x (has-here x xs)) (eqb-true x y)
         (λ h. or-case (eqb y x) (has xs y) (g y (has-here y ys)) (λ e. sym (eqb-true y x e))
         (λ m. let l = ascending-head y ys t x h in let k = ascending-head x xs s y m in absurd (omega arith)))
+
+-- ---- the first n values of a function
+
+module _ {A : Type 0} where
+  pub length-values : (f : ℕ → A) (n : ℕ) → length (values f n) ≡ n
+  length-values f zero = refl
+  length-values f (suc n) = length-append (values f n) (f n ∷ []) ∙ omega (arith, length-values f n)
+
+  pub values-cong : (f g : ℕ → A) (n : ℕ) → ((i : ℕ) → i < n → f i ≡ g i) → values f n ≡ values g n
+  values-cong f g zero h = refl
+  values-cong f g (suc n) h = ap₂ (λ (s : List A) (x : A). s ++ (x ∷ [])) (values-cong f g n (λ i l. h i (omega arith))) (h n (omega arith))
+
+  pub take-values : (f : ℕ → A) (m n : ℕ) → take m (values f n) ≡ values f (min m n)
+  take-values f m zero = let e : 0 ≡ min m 0 = omega arith in take-nil m ∙ ap (values f) e
+  take-values f m (suc n) =
+      let l = length-values f n in
+      let k = length-values f (suc n) in
+      byBool (leb m n)
+      (λ t.
+      let h = leb-true m n t in
+      let e : min m n ≡ min m (suc n) = omega arith in
+      take-append-le m (values f n) (f n ∷ []) (omega arith) ∙ take-values f m n ∙ ap (values f) e)
+      (λ t.
+      let h = leb-false m n t in
+      let e : suc n ≡ min m (suc n) = omega arith in
+      take-all m (values f (suc n)) (omega arith) ∙ ap (values f) e)
+
+  pub getD-values : (f : ℕ → A) (d : A) (n i : ℕ) → i < n → getD (values f n) i d ≡ f i
+  getD-values f d zero i h = absurd (omega arith)
+  getD-values f d (suc n) i h =
+      let l = length-values f n in
+      byBool (leb n i)
+      (λ t.
+      let k = leb-true n i t in
+      let e : n ≡ i = omega arith in
+      getD-at (values f n) (f n) [] d i (omega arith) ∙ ap f e)
+      (λ t. let k = leb-false n i t in List·getD-append (values f n) (f n ∷ []) d i (omega arith) ∙ getD-values f d n i k)

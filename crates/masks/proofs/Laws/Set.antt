@@ -58,20 +58,6 @@ bitAt-power (suc u) (suc k) =
     same-suc true e = e ∙ sym (eq-eqb (suc k) (suc u) (ap suc (eqb-true k u e)))
     same-suc false e = e ∙ sym (ne-eqb (suc k) (suc u) (λ q. eqb-false k u e (omega arith)))
 
--- the bits from k on
-unfoldable pub from : ℕ → ℕ → ℕ
-from word zero = word
-from word (suc k) = from word k / 2
-
-bitAt-from : (word k j : ℕ) → bitAt (from word k) j ≡ bitAt word (k + j)
-unfolding from bitAt
-bitAt-from word zero j = let e : j ≡ 0 + j = omega arith in ap (bitAt word) e
-bitAt-from word (suc k) j = let e : k + suc j ≡ suc k + j = omega arith in bitAt-from word k (suc j) ∙ ap (bitAt word) e
-
-pub bitAt-here : (word k : ℕ) → bitAt word k ≡ eqb (from word k % 2) 1
-unfolding bitAt
-bitAt-here word k = let e : k ≡ k + 0 = omega arith in ap (bitAt word) e ∙ sym (bitAt-from word k 0)
-
 -- ---- one mask more
 
 -- the unions of m with the first i masks of l are in

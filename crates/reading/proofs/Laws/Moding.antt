@@ -15,7 +15,7 @@ use Rattle.book.specs.declared.fault.Fault.{Fault}
 use Rattle.book.specs.declared.mark.Phase.the-variants.{Modes}
 use Rattle.book.specs.declared.mark.Turn.the-variants.{Mine}
 use Rattle.book.proofs.Laws.Trip.{ModeFits, mode-inv, mode-known, low-last}
-use Rattle.book.proofs.Laws.Held.{modesOf-stored, modesOf-rest}
+use Rattle.book.proofs.Laws.Held.{modeAt-others, modesOf-stored, modesOf-rest}
 use Rattle.records.specs.declared.field.Found.{Found}
 use Rattle.records.specs.declared.field.Found.the-variants.{Next, Bad}
 use Rattle.records.specs.Found.{Reads, Arities, stops}
@@ -89,7 +89,7 @@ module _ (ar s : List ℕ) (arities : Arities ar) (from : ℕ) where
               fewer = omega arith;
               going = going-next Modes (mode ar) s (suc maxPredicates) from (l .going) t room reads e more;
               least = ap low more ∙ (low-last 0 (modesOf modes b) (record { pred = p; masks = ms }) ∙ sym (add-one p));
-              above = λ i h. (stored .others i (λ q. absurd (omega arith)) ∙ l .above i (omega arith));
+              above = λ i h. (modeAt-others stored i (λ q. absurd (omega arith)) ∙ l .above i (omega arith));
             }
 
     pub moding-end : (turn Modes (markAt (drop at s)) ≡ Mine → ⊥) → (n : ℕ) {r : Found} → Reads s r (λ k. k) (stops Modes n (drop at s))

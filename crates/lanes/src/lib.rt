@@ -1,0 +1,163 @@
+// The head patterns under which a clause is good, all 64 at once: lane a of a word is its bit a, and stands for head pattern a.
+use book::clause::Call;
+use book::clause::arguments;
+use book::clause::head_at;
+use book::clause::subgoal_at;
+use book::clause::subgoals_at;
+use book::limits::LITERAL;
+use book::limits::MAX_ARGUMENTS;
+use book::limits::MODES_SIZE;
+use book::limits::RULES_SIZE;
+use book::mode::mode_at;
+use masks::constraint::Constraint;
+use masks::constraint::count;
+
+// All lanes.
+const ALL: u64 = 0xFFFF_FFFF_FFFF_FFFF;
+
+// Word i: the lanes whose pattern has bit i.
+const COLUMNS: [u64; 6] = [
+    0xAAAA_AAAA_AAAA_AAAA,
+    0xCCCC_CCCC_CCCC_CCCC,
+    0xF0F0_F0F0_F0F0_F0F0,
+    0xFF00_FF00_FF00_FF00,
+    0xFFFF_0000_FFFF_0000,
+    0xFFFF_FFFF_0000_0000,
+];
+
+// What a pass over the subgoals comes to: the lanes in which each was ready in its turn, and whether any variable became bound.
+pub struct Pass {
+    pub good: u64,
+    pub moved: bool,
+}
+
+// The head patterns under which clause k is good, bit a for pattern a. Passes go over the subgoals as they stand, each of which is placed in the
+// lanes in which it is ready; a pass that binds nothing is the last, and so is the one that has as many before it as there are other subgoals.
+pub fn good_lanes<'a>(rules: &'a [u8; RULES_SIZE], k: usize, table: &'a [u8; MODES_SIZE]) -> u64 {
+    let n = subgoals_at(rules, k);
+    let head = head_at(rules, k);
+    let mut vars = head_lanes(head);
+    let mut passes: usize = 1;
+    loop {
+        let p = pass(rules, k, table, &mut vars);
+        if !p.moved {
+            return p.good;
+        }
+        if n <= passes {
+            return p.good;
+        }
+        passes += 1;
+    }
+}
+
+// One pass over the subgoals of clause k.
+fn pass<'a>(
+    rules: &'a [u8; RULES_SIZE],
+    k: usize,
+    table: &'a [u8; MODES_SIZE],
+    vars: &mut [u64; 16],
+) -> Pass {
+    let n = subgoals_at(rules, k);
+    let mut good = ALL;
+    let mut moved = false;
+    let mut j: usize = 0;
+    while j < n {
+        let s = subgoal_at(rules, k, j);
+        let c = mode_at(table, s.pred);
+        let r = ready_lanes(s, c, vars);
+        good = good & r;
+        if bind_lanes(s, r, vars) {
+            moved = true;
+        }
+        j += 1;
+    }
+    Pass { good, moved }
+}
+
+// What is bound at the start: lane a is for head pattern a.
+fn head_lanes(head: Call) -> [u64; 16] {
+    let n = arguments(head);
+    let mut vars = [0u64; 16];
+    let mut i: usize = 0;
+    while i < n {
+        let v = head.args[i];
+        if v < 16 {
+            let w = v as usize;
+            vars[w] = vars[w] | COLUMNS[i];
+        }
+        i += 1;
+    }
+    vars
+}
+
+// The lanes in which the call can be made.
+fn ready_lanes(s: Call, c: Constraint, vars: &[u64; 16]) -> u64 {
+    let words = pattern_lanes(s, vars);
+    let n = count(c);
+    let mut r: u64 = 0;
+    let mut i: usize = 0;
+    while i < n {
+        let m = c.masks[i];
+        r = r | mask_lanes(m, &words);
+        i += 1;
+    }
+    r
+}
+
+// Word i: the lanes whose pattern has bit i.
+fn pattern_lanes(s: Call, vars: &[u64; 16]) -> [u64; MAX_ARGUMENTS] {
+    let n = arguments(s);
+    let mut words = [0u64; MAX_ARGUMENTS];
+    let mut i: usize = 0;
+    while i < n {
+        let v = s.args[i];
+        words[i] = arg_lanes(v, vars);
+        i += 1;
+    }
+    words
+}
+
+// The lanes in which an argument is bound.
+fn arg_lanes(v: u8, vars: &[u64; 16]) -> u64 {
+    if v == LITERAL {
+        return ALL;
+    }
+    if v < 16 {
+        let w = v as usize;
+        return vars[w];
+    }
+    0
+}
+
+// The lanes whose pattern has all the bits of the mask. Each turn takes the lowest bit that is left.
+fn mask_lanes(mask: u8, words: &[u64; MAX_ARGUMENTS]) -> u64 {
+    let mut w = ALL;
+    let mut m = mask;
+    while m != 0 {
+        let i = u8::trailing_zeros(m) as usize;
+        w = w & words[i];
+        m = m & (m - 1);
+    }
+    w
+}
+
+// The variables of the subgoal are bound in the lanes of r. Says whether that bound any.
+fn bind_lanes(s: Call, r: u64, vars: &mut [u64; 16]) -> bool {
+    let n = arguments(s);
+    let mut moved = false;
+    let mut i: usize = 0;
+    while i < n {
+        let v = s.args[i];
+        if v < 16 {
+            let w = v as usize;
+            let old = vars[w];
+            let new = old | r;
+            vars[w] = new;
+            if new != old {
+                moved = true;
+            }
+        }
+        i += 1;
+    }
+    moved
+}
