@@ -2,3 +2,4 @@
 pub mod Orders
 pub mod Greedy
 pub mod Adorn
+pub mod Good

@@ -71,18 +71,18 @@ module _ {B : Type 0} (ready : B → ℕ → Bool) (after : B → ℕ → B) whe
   }
 
   -- there is a first one exactly where there is one
-  pub first-good : (b : B) (n : ℕ) → isSome (firstGood ready after b n) ≡ true → (σ : List ℕ) × Good b n σ
+  pub first-good : (b : B) (n : ℕ) → isSome (firstGood ready after b n) ≡ true → (σ : List ℕ) × Rearranges n σ × (goodFrom ready after b σ ≡ true)
   first-good b n t = go (firstGood ready after b n) refl t
     where
-      go : (o : Option (List ℕ)) → firstGood ready after b n ≡ o → isSome o ≡ true → (σ : List ℕ) × Good b n σ
+      go : (o : Option (List ℕ)) → firstGood ready after b n ≡ o → isSome o ≡ true → (σ : List ℕ) × Rearranges n σ × (goodFrom ready after b σ ≡ true)
       go none e t = clash t refl
-      go (some σ) e t = (σ, first-least b n .has σ e)
+      go (some σ) e t = let g = first-least b n .has σ e in (σ, g .0, g .1)
 
-  pub good-first : (b : B) (n : ℕ) (σ : List ℕ) → Good b n σ → isSome (firstGood ready after b n) ≡ true
-  good-first b n σ g = go (firstGood ready after b n) refl
+  pub good-first : (b : B) (n : ℕ) (σ : List ℕ) → Rearranges n σ → goodFrom ready after b σ ≡ true → isSome (firstGood ready after b n) ≡ true
+  good-first b n σ r g = go (firstGood ready after b n) refl
     where
       go : (o : Option (List ℕ)) → firstGood ready after b n ≡ o → isSome o ≡ true
-      go none e = absurd (first-least b n .fails e σ g)
+      go none e = absurd (first-least b n .fails e σ (r, g))
       go (some τ) e = refl
 
 -- ---- two ways of taking, along a relation that taking keeps
@@ -104,7 +104,7 @@ module _ {B B′ : Type 0} (ready : B → ℕ → Bool) (after : B → ℕ → B
     pub first-mono : (b : B) (b′ : B′) → R b b′ → isSome (firstGood ready after b n) ≡ true → isSome (firstGood ready′ after′ b′ n) ≡ true
     first-mono b b′ r t =
         let h = first-good ready after b n t in
-        good-first ready′ after′ b′ n (h .0) (h .1 .0, good-mono b b′ (h .0) (h .1 .0 .below) r (h .1 .1))
+        good-first ready′ after′ b′ n (h .0) (h .1) (good-mono b b′ (h .0) (h .1 .below) r (h .2))
 
 -- where the same of the n places is ready, all is the same
 module _ {B B′ : Type 0} (ready : B → ℕ → Bool) (after : B → ℕ → B) (ready′ : B′ → ℕ → Bool) (after′ : B′ → ℕ → B′)
