@@ -130,11 +130,14 @@ bound-mono b b′ v h = go (eqb v literal) (ltb v variables)
     go false true t = le-get b b′ v h t
     go false false t = t
 
-bit-mono : (c d : Bool) → (c ≡ true → d ≡ true) → (bit c ≤ bit d) × (bit c < 2) × (bit d < 2)
+pub bit-small : (c : Bool) → bit c < 2
+bit-small true = omega arith
+bit-small false = omega arith
+
+bit-mono : (c d : Bool) → (c ≡ true → d ≡ true) → bit c ≤ bit d
 bit-mono true true h = omega arith
 bit-mono true false h = clash (h refl) refl
-bit-mono false true h = omega arith
-bit-mono false false h = omega arith
+bit-mono false d h = omega arith
 
 half : (n r : ℕ) → r < 2 → (n * 2 + r) / 2 ≡ n
 half n r h = omega arith
@@ -144,9 +147,10 @@ unfolding patternOf
 pattern-and b b′ [] h = refl
 pattern-and b b′ (v ∷ vs) h =
     let k = bit-mono (isBound b v) (isBound b′ v) (bound-mono b b′ v h) in
-    let r = pattern-and b b′ vs h in
+    let i = bit-small (isBound b v) in
+    let j = bit-small (isBound b′ v) in
     doubled (patternOf b vs * 2 + bit (isBound b v)) (patternOf b′ vs * 2 + bit (isBound b′ v))
-    (rw (half (patternOf b vs) (bit (isBound b v)) (k .1), half (patternOf b′ vs) (bit (isBound b′ v)) (k .2)) r) (omega arith)
+    (rw (half (patternOf b vs) (bit (isBound b v)) i, half (patternOf b′ vs) (bit (isBound b′ v)) j) (pattern-and b b′ vs h)) (omega arith)
 
 pub pattern-mono : (b b′ : Bound) (vs : List ℕ) → Le b b′ → within (patternOf b vs) (patternOf b′ vs) ≡ true
 pattern-mono b b′ vs h = and-within (patternOf b vs) (patternOf b′ vs) (pattern-and b b′ vs h)
