@@ -36,7 +36,7 @@ pub le-trans : (b c d : Bound) → Le b c → Le c d → Le b d
 le-trans [] [] [] h k = tt
 le-trans (x ∷ b) (y ∷ c) (z ∷ d) h k = (λ e. k .0 (h .0 e), le-trans b c d (h .1) (k .1))
 
-pub le-get : (b b′ : Bound) (v : ℕ) → Le b b′ → getD b v false ≡ true → getD b′ v false ≡ true
+le-get : (b b′ : Bound) (v : ℕ) → Le b b′ → getD b v false ≡ true → getD b′ v false ≡ true
 le-get [] [] v h t = t
 le-get (x ∷ b) (y ∷ b′) zero h t = h .0 t
 le-get (x ∷ b) (y ∷ b′) (suc v) h t = le-get b b′ v (h .1) t
@@ -56,7 +56,7 @@ set-swap b v w = ⊎-elim (λ e. rw e) (set-comm b v w true true) (same? v w)
 
 -- ---- a variable
 
-pub var-grows : (b : Bound) (v : ℕ) → Le b (bindVar b v)
+var-grows : (b : Bound) (v : ℕ) → Le b (bindVar b v)
 unfolding bindVar
 var-grows b v = go (ltb v variables)
   where
@@ -64,7 +64,7 @@ var-grows b v = go (ltb v variables)
     go true = set-grows b v
     go false = le-refl b
 
-pub var-mono : (b b′ : Bound) (v : ℕ) → Le b b′ → Le (bindVar b v) (bindVar b′ v)
+var-mono : (b b′ : Bound) (v : ℕ) → Le b b′ → Le (bindVar b v) (bindVar b′ v)
 unfolding bindVar
 var-mono b b′ v h = go (ltb v variables)
   where
@@ -72,7 +72,7 @@ var-mono b b′ v h = go (ltb v variables)
     go true = set-mono b b′ v h
     go false = h
 
-pub var-swap : (b : Bound) (v w : ℕ) → bindVar (bindVar b v) w ≡ bindVar (bindVar b w) v
+var-swap : (b : Bound) (v w : ℕ) → bindVar (bindVar b v) w ≡ bindVar (bindVar b w) v
 unfolding bindVar
 var-swap b v w = go (ltb v variables) (ltb w variables)
   where
@@ -83,7 +83,7 @@ var-swap b v w = go (ltb v variables) (ltb w variables)
     go false true = refl
     go false false = refl
 
-pub var-twice : (b : Bound) (v : ℕ) → bindVar (bindVar b v) v ≡ bindVar b v
+var-twice : (b : Bound) (v : ℕ) → bindVar (bindVar b v) v ≡ bindVar b v
 unfolding bindVar
 var-twice b v = go (ltb v variables)
   where
@@ -121,7 +121,7 @@ all-twice b (v ∷ vs) =
 
 -- ---- patterns
 
-pub bound-mono : (b b′ : Bound) (v : ℕ) → Le b b′ → isBound b v ≡ true → isBound b′ v ≡ true
+bound-mono : (b b′ : Bound) (v : ℕ) → Le b b′ → isBound b v ≡ true → isBound b′ v ≡ true
 unfolding isBound
 bound-mono b b′ v h = go (eqb v literal) (ltb v variables)
   where

@@ -4,7 +4,7 @@ use mathlib.Core.Path.{_≡_, refl, ap, _∙_}
 use mathlib.Core.Bool.{Bool, true, false}
 use mathlib.Core.List.{List, []}
 use mathlib.Core.Option.{Option}
-use Prim.Native.Nat.{ℕ, _<_}
+use Prim.Native.Nat.{ℕ}
 use lib.ListN.{length, getD}
 use Rattle.masks.specs.Lists.{any}
 use Rattle.masks.specs.Mask.{within}
@@ -92,7 +92,8 @@ module _ (T U : Table) (x : ℕ → Bool) (agree : (q : ℕ) → x q ≡ false �
   first-kept body b n =
       first-same (readyAt T body) (afterAt body) (readyAt U body) (afterAt body) (λ (u v : Bound). u ≡ v) (length body)
       (λ u v p l e. ap (λ (w : Bound). ready T w (at body p)) e
-      ∙ ready-same T U v (at body p) (agree (at body p .pred) (false-of (λ t. clash (any-at (λ s. x (s .pred)) (record { pred = 0; args = [] }) body p l t) n))))
+      ∙ ready-same T U v (at body p)
+      (agree (at body p .pred) (false-of (λ t. clash (any-at (λ s. x (s .pred)) (record { pred = 0; args = [] }) body p l t) n))))
       (λ u v p e. ap (λ (w : Bound). after w (at body p)) e) b b refl
 
 pub clause-same : (T U : Table) (x : ℕ → Bool) → ((q : ℕ) → x q ≡ false → getD T q [] ≡ getD U q []) → (c : Clause) (a : ℕ)

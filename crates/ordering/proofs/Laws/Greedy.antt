@@ -46,7 +46,8 @@ least-iff P Q o f g l = record {
 
 module _ {B : Type 0} (ready : B → ℕ → Bool) (after : B → ℕ → B) where
   -- the first is ready and the others are good then
-  pub good-parts : (b : B) (p : ℕ) (σ : List ℕ) → goodFrom ready after b (p ∷ σ) ≡ true → (ready b p ≡ true) × (goodFrom ready after (after b p) σ ≡ true)
+  pub good-parts : (b : B) (p : ℕ) (σ : List ℕ) → goodFrom ready after b (p ∷ σ) ≡ true
+      → (ready b p ≡ true) × (goodFrom ready after (after b p) σ ≡ true)
   unfolding goodFrom
   good-parts b p σ g = go (ready b p) g
     where
@@ -160,7 +161,8 @@ module _ {B : Type 0} (ready : B → ℕ → Bool) (after : B → ℕ → B) whe
 
 module _ {B : Type 0} {ready : B → ℕ → Bool} {after : B → ℕ → B} {Le : B → B → Type 0} (grow : Growing ready after Le) where
   -- a ready place may go first
-  pub good-front : (b : B) (x : ℕ) (σ : List ℕ) → ready b x ≡ true → goodFrom ready after b σ ≡ true → goodFrom ready after (after b x) (without x σ) ≡ true
+  pub good-front : (b : B) (x : ℕ) (σ : List ℕ) → ready b x ≡ true → goodFrom ready after b σ ≡ true
+      → goodFrom ready after (after b x) (without x σ) ≡ true
   good-front b x [] h g = unfold goodFrom without in refl
   good-front b x (y ∷ σ) h g = go (same? x y) (good-front (after b y) x σ)
     where

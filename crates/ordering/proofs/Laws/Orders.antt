@@ -133,7 +133,7 @@ abbrev pub Takes : List ℕ → List ℕ → Type 0
 Takes rem [] = length rem ≡ 0
 Takes rem (x ∷ σ) = In x rem × Takes (without x rem) σ
 
-pub takes-length : (rem σ : List ℕ) → Takes rem σ → length σ ≡ length rem
+takes-length : (rem σ : List ℕ) → Takes rem σ → length σ ≡ length rem
 takes-length rem [] t = sym t
 takes-length rem (x ∷ σ) t = ap suc (takes-length (without x rem) σ (t .1)) ∙ sym (without-length x rem (t .0))
 
@@ -183,7 +183,7 @@ takes-front x rem (y ∷ σ) m t = go (same? x y) (takes-front x (without y rem)
 abbrev pub Ascends : List ℕ → Type 0
 Ascends l = Sorted (λ (x y : ℕ). x < y) l
 
-pub ascends-distinct : (l : List ℕ) → Ascends l → Distinct l
+ascends-distinct : (l : List ℕ) → Ascends l → Distinct l
 ascends-distinct [] a = tt
 ascends-distinct (x ∷ l) a = (λ m. let h = a .0 x m in absurd (omega arith), ascends-distinct l (a .1))
 

@@ -245,9 +245,11 @@ module _ (T : Table) (body : List Call) (n k : ℕ) (b : Bound) where
       → isSome (firstGood (readyAt T body) (afterAt body) b n) ≡ true
   all-ready e = any-passes (bound-growing T body) n k b e
 
-  pub settled : visits (readyAt T body) (afterAt body) (passes (readyAt T body) (afterAt body) n k b) (count 0 n) ≡ passes (readyAt T body) (afterAt body) n k b
+  pub settled : visits (readyAt T body) (afterAt body) (passes (readyAt T body) (afterAt body) n k b) (count 0 n)
+      ≡ passes (readyAt T body) (afterAt body) n k b
       → clause.goodFrom T body (passes (readyAt T body) (afterAt body) n k b) (count 0 n) ≡ isSome (firstGood (readyAt T body) (afterAt body) b n)
   settled e = still-passes (bound-growing T body) n k b e
 
-  pub one-more : visits (readyAt T body) (afterAt body) (passes (readyAt T body) (afterAt body) n k b) (count 0 n) ≡ passes (readyAt T body) (afterAt body) n (suc k) b
+  pub one-more : visits (readyAt T body) (afterAt body) (passes (readyAt T body) (afterAt body) n k b) (count 0 n)
+      ≡ passes (readyAt T body) (afterAt body) n (suc k) b
   one-more = passes-suc (readyAt T body) (afterAt body) n k b

@@ -11,6 +11,7 @@ use lib.ListN.{length, getD, set, drop, drop-of-length-le, length-drop}
 use lib.Pow.{pow-pos}
 use lib.Seq.{drop-cons}
 use borrow.Author.Tests.{lt-ltb, le-ltb, eq-eqb, ne-eqb}
+use Rattle.masks.specs.Limits.{maxArity}
 use Rattle.ordering.specs.Adorn.{variables, Bound, literal, isBound, bit, patternOf, bindVar, bindAll}
 use Rattle.ordering.proofs.Laws.Adorn.{bit-small}
 
@@ -55,7 +56,8 @@ bitOf-small b v = bit-small (isBound b v)
 
 -- ---- the pattern, from the last argument down
 
-pub pattern-step : (l : List ℕ) (i : ℕ) → i < length l → (b : Bound) → patternOf b (drop i l) ≡ patternOf b (drop (i + 1) l) * 2 + bitOf b (getD l i 0)
+pub pattern-step : (l : List ℕ) (i : ℕ) → i < length l → (b : Bound)
+    → patternOf b (drop i l) ≡ patternOf b (drop (i + 1) l) * 2 + bitOf b (getD l i 0)
 unfolding patternOf bitOf
 pattern-step l i h b = rw (add-one i, drop-cons l i 0 h)
 
@@ -80,5 +82,5 @@ pattern-small b (suc k) (v ∷ l) h =
     rw (pow-suc 2 k) (omega arith)
 
 -- with an argument still to come there is room for its bit
-pub pattern-left : (b : Bound) (l : List ℕ) (i : ℕ) → 0 < i → length l ≤ 6 → patternOf b (drop i l) < 32
+pub pattern-left : (b : Bound) (l : List ℕ) (i : ℕ) → 0 < i → length l ≤ maxArity → patternOf b (drop i l) < 32
 pattern-left b l i h k = pattern-small b 5 (drop i l) (simp length-drop (omega arith))
