@@ -9,10 +9,10 @@ use Prim.Native.Nat.{ℕ, zero, suc, _<_}
 use native.Mathlib.Nat.{suc-inj}
 use native.Mathlib.Omega.{arith}
 use lib.ListN.{length}
-use Rattle.masks.proofs.Laws.Logic.{clash}
 use Rattle.ordering.specs.Orders.{In, Rearranges, LexLt, find, without, count, orders}
 use Rattle.ordering.specs.Turns.{goodFrom, firstGood}
 use Rattle.ordering.specs.Good.{isSome}
+use Rattle.masks.proofs.Laws.Logic.{clash}
 use Rattle.ordering.proofs.Laws.Orders.{find-some, find-none, find-least, same?, without-same, without-other, without-length, Takes, takes-has, takes-front, takes-right, right-takes, Ascends, ascends-without, count-length, count-ascends, orders-right, orders-all, orders-rising, lex-asym}
 
 -- ---- the least of the lists that have a property

@@ -11,8 +11,8 @@ use native.Mathlib.Omega.{arith}
 use lib.Dec.{eqb}
 use lib.ListN.{length}
 use borrow.Author.Tests.{eqb-true, eqb-false, eq-eqb, ne-eqb}
-use Rattle.masks.proofs.Laws.Logic.{byBool, clash}
 use Rattle.ordering.specs.Orders.{In, Distinct, Rearranges, LexLt, Sorted, find, without, each, ordersOf, count, orders}
+use Rattle.masks.proofs.Laws.Logic.{byBool, clash}
 
 -- ---- the first element that passes
 
