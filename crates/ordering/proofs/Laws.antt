@@ -1,1 +1,8 @@
--- The laws of this crate's definitions, for its own proofs and for those of the crates above.
+-- The laws of this crate's definitions, for its own proofs and for those of the crates above. A file that has the name of one in `specs/`
+-- has the laws of what is defined there; `Greedy` and `Passes` have those of `Turns`.
+pub mod Orders
+pub mod Greedy
+pub mod Adorn
+pub mod Good
+pub mod Passes
+pub mod Steps

@@ -20,10 +20,10 @@ and-within m a e = eq-eqb (bitAnd m a) m e
 
 -- ---- one digit
 
-halved : (a b : ℕ) → bitAnd a b ≡ a → (bitAnd (a / 2) (b / 2) ≡ a / 2) × (a % 2 ≤ b % 2)
+pub halved : (a b : ℕ) → bitAnd a b ≡ a → (bitAnd (a / 2) (b / 2) ≡ a / 2) × (a % 2 ≤ b % 2)
 halved a b e = let s = and-step a b in omega arith
 
-doubled : (a b : ℕ) → bitAnd (a / 2) (b / 2) ≡ a / 2 → a % 2 ≤ b % 2 → bitAnd a b ≡ a
+pub doubled : (a b : ℕ) → bitAnd (a / 2) (b / 2) ≡ a / 2 → a % 2 ≤ b % 2 → bitAnd a b ≡ a
 doubled a b e h = let s = and-step a b in omega arith
 
 or-half : (m k : ℕ) → (bitOr m k / 2 ≡ bitOr (m / 2) (k / 2)) × (bitOr m k % 2 ≡ max (m % 2) (k % 2))

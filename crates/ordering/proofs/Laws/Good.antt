@@ -1,0 +1,102 @@
+-- Good clauses. The subgoals of a clause are taken over a state that grows, what is bound, so the theory of the greedy order holds of them. MONOTONE:
+-- with more bound at the head, or a table that admits more, every good order is still good. Assumes nothing.
+use mathlib.Core.Path.{_≡_, refl, ap, _∙_}
+use mathlib.Core.Bool.{Bool, true, false}
+use mathlib.Core.List.{List, []}
+use mathlib.Core.Option.{Option}
+use Prim.Native.Nat.{ℕ}
+use lib.ListN.{length, getD}
+use Rattle.masks.specs.Lists.{any}
+use Rattle.masks.specs.Mask.{within}
+use Rattle.book.specs.Book.{Call, Clause}
+use Rattle.ordering.specs.Orders.{Rearranges, count}
+use Rattle.ordering.specs.Adorn.{Table, Bound, headBound, ready, after}
+use Rattle.ordering.specs.Good.{at, readyAt, afterAt, goodFrom, firstGood, isSome, goodClause}
+use Rattle.masks.proofs.Laws.Logic.{clash, false-of}
+use Rattle.masks.proofs.Laws.Lists.{any-at}
+use Rattle.masks.proofs.Laws.Mask.{within-refl}
+use Rattle.ordering.proofs.Laws.Orders.{right-takes}
+use Rattle.ordering.proofs.Laws.Greedy.{Least, Growing, first-least, first-good, good-first, first-mono, first-same, greedy-first, allAfter, all-same}
+use Rattle.ordering.proofs.Laws.Greedy as turns
+use Rattle.ordering.proofs.Laws.Adorn.{Le, le-refl, le-trans, More, more-refl, ready-mono, ready-same, after-grows, after-mono, after-swap, after-twice, headBound-mono}
+
+-- ---- the first good order
+
+-- what is bound grows
+pub bound-growing : (T : Table) (body : List Call) → Growing (readyAt T body) (afterAt body) Le
+bound-growing T body = record {
+  le-refl = le-refl;
+  le-trans = le-trans;
+  ready-mono = λ b c p h t. ready-mono T T b c (at body p) (more-refl T) h t;
+  after-grows = λ b p. after-grows b (at body p);
+  after-mono = λ b c p h. after-mono b c (at body p) h;
+  after-swap = λ b p q. after-swap b (at body p) (at body q);
+  after-twice = λ b p. after-twice b (at body p);
+}
+
+-- at each turn the first subgoal that is ready
+abbrev pub greedy : Table → List Call → Bound → Option (List ℕ)
+greedy T body b = turns.greedy (readyAt T body) (afterAt body) b (length body)
+
+-- it finds the first good order, and fails where there is none
+pub greedy-is-first : (T : Table) (body : List Call) (b : Bound) → greedy T body b ≡ firstGood T body b
+greedy-is-first T body b = greedy-first (bound-growing T body) b (length body)
+
+-- which is the smallest good rearrangement, compared from the left; none where no rearrangement is good
+pub first-is-least : (T : Table) (body : List Call) (b : Bound)
+    → Least (λ σ. Rearranges (length body) σ × (goodFrom T body b σ ≡ true)) (firstGood T body b)
+first-is-least T body b = first-least (readyAt T body) (afterAt body) b (length body)
+
+-- what is bound after all of them does not hang on their order
+pub bound-after : (body : List Call) (b : Bound) (σ τ : List ℕ) → Rearranges (length body) σ → Rearranges (length body) τ
+    → allAfter (afterAt body) b σ ≡ allAfter (afterAt body) b τ
+bound-after body b σ τ r s =
+    all-same (afterAt body) (λ c p q. after-swap c (at body p) (at body q)) b (count 0 (length body)) σ τ
+    (right-takes (length body) σ r) (right-takes (length body) τ s)
+
+-- ---- a clause is good exactly where some rearrangement is
+
+pub good-clause-order : (T : Table) (c : Clause) (a : ℕ) → goodClause T c a ≡ true
+    → (σ : List ℕ) × Rearranges (length (c .body)) σ × (goodFrom T (c .body) (headBound (c .head .args) a) σ ≡ true)
+unfolding goodClause
+good-clause-order T c a h = first-good (readyAt T (c .body)) (afterAt (c .body)) (headBound (c .head .args) a) (length (c .body)) h
+
+pub order-good-clause : (T : Table) (c : Clause) (a : ℕ) (σ : List ℕ) → Rearranges (length (c .body)) σ
+    → goodFrom T (c .body) (headBound (c .head .args) a) σ ≡ true → goodClause T c a ≡ true
+unfolding goodClause
+order-good-clause T c a σ r g = good-first (readyAt T (c .body)) (afterAt (c .body)) (headBound (c .head .args) a) (length (c .body)) σ r g
+
+-- ---- MONOTONE
+
+pub good-clause-mono : (T T′ : Table) (c : Clause) (a a′ : ℕ) → More T T′ → within a a′ ≡ true → goodClause T c a ≡ true → goodClause T′ c a′ ≡ true
+unfolding goodClause
+good-clause-mono T T′ c a a′ m w t =
+    first-mono (readyAt T (c .body)) (afterAt (c .body)) (readyAt T′ (c .body)) (afterAt (c .body)) Le (length (c .body))
+    (λ b b′ p l h r. ready-mono T T′ b b′ (at (c .body) p) m h r) (λ b b′ p h. after-mono b b′ (at (c .body) p) h)
+    (headBound (c .head .args) a) (headBound (c .head .args) a′) (headBound-mono (c .head .args) a a′ w) t
+
+-- more bound
+pub good-clause-pattern : (T : Table) (c : Clause) (a a′ : ℕ) → within a a′ ≡ true → goodClause T c a ≡ true → goodClause T c a′ ≡ true
+good-clause-pattern T c a a′ w t = good-clause-mono T T c a a′ (more-refl T) w t
+
+-- a table that admits more
+pub good-clause-table : (T T′ : Table) (c : Clause) (a : ℕ) → More T T′ → goodClause T c a ≡ true → goodClause T′ c a ≡ true
+good-clause-table T T′ c a m t = good-clause-mono T T′ c a a m (within-refl a) t
+
+-- ---- a clause hangs on the constraints of the predicates it calls only
+
+module _ (T U : Table) (x : ℕ → Bool) (agree : (q : ℕ) → x q ≡ false → getD T q [] ≡ getD U q []) where
+  -- no subgoal calls a predicate of x
+  pub first-kept : (body : List Call) (b : Bound) → any (λ s. x (s .pred)) body ≡ false → firstGood T body b ≡ firstGood U body b
+  unfolding at
+  first-kept body b n =
+      first-same (readyAt T body) (afterAt body) (readyAt U body) (afterAt body) (λ (u v : Bound). u ≡ v) (length body)
+      (λ u v p l e. ap (λ (w : Bound). ready T w (at body p)) e
+      ∙ ready-same T U v (at body p)
+      (agree (at body p .pred) (false-of (λ t. clash (any-at (λ s. x (s .pred)) (record { pred = 0; args = [] }) body p l t) n))))
+      (λ u v p e. ap (λ (w : Bound). after w (at body p)) e) b b refl
+
+pub clause-same : (T U : Table) (x : ℕ → Bool) → ((q : ℕ) → x q ≡ false → getD T q [] ≡ getD U q []) → (c : Clause) (a : ℕ)
+    → any (λ s. x (s .pred)) (c .body) ≡ false → goodClause T c a ≡ goodClause U c a
+unfolding goodClause
+clause-same T U x agree c a n = ap isSome (first-kept T U x agree (c .body) (headBound (c .head .args) a) n)

@@ -1,0 +1,255 @@
+-- Whether a good order exists is told by passes over the places, each taken where it is ready. The k-th place of a good order is ready after k - 1
+-- passes, so all are after n - 1; and the places taken on the way, followed by all that are ready then, hold a good order. Assumes nothing.
+use mathlib.Core.Path.{_≡_, refl, sym, ap, _∙_, subst}
+use mathlib.Core.Bool.{Bool, true, false, cond}
+use mathlib.Core.Logic.{_⊎_, inl, inr, ⊎-elim}
+use mathlib.Core.List.{List, [], _∷_}
+use Prim.Native.Nat.{ℕ, zero, suc, _+_, _≤_, _<_}
+use native.Mathlib.Nat.{zero-add, suc-add}
+use native.Mathlib.Omega.{arith}
+use lib.ListN.{length}
+use Rattle.book.specs.Book.{Call}
+use Rattle.ordering.specs.Orders.{In, Distinct, Rearranges, without, count}
+use Rattle.ordering.specs.Adorn.{Table, Bound}
+use Rattle.ordering.specs.Turns.{goodFrom, firstGood}
+use Rattle.ordering.specs.Good as clause
+use Rattle.ordering.specs.Good.{readyAt, afterAt, isSome}
+use Rattle.masks.proofs.Laws.Logic.{same}
+use Rattle.ordering.proofs.Laws.Orders.{same?, without-in, without-keeps, without-gone, without-distinct, Takes, takes-has, takes-right, right-takes, count-in, in-count, count-distinct}
+use Rattle.ordering.proofs.Laws.Greedy.{Growing, good-parts, good-cons, first-good, good-first}
+use Rattle.ordering.proofs.Laws.Good.{bound-growing}
+
+-- ---- passes
+
+module _ {B : Type 0} (ready : B → ℕ → Bool) (after : B → ℕ → B) where
+  -- p is taken where it is ready
+  unfoldable pub visit : B → ℕ → B
+  visit b p = cond (ready b p) (after b p) b
+
+  unfoldable pub visits : B → List ℕ → B
+  visits b [] = b
+  visits b (p ∷ σ) = visits (visit b p) σ
+
+  -- k passes over n places
+  unfoldable pub passes : ℕ → ℕ → B → B
+  passes n zero b = b
+  passes n (suc k) b = passes n k (visits b (count 0 n))
+
+  pub visit-ready : (b : B) (p : ℕ) → ready b p ≡ true → visit b p ≡ after b p
+  unfolding visit
+  visit-ready b p e = rw e
+
+  -- one pass more
+  pub passes-suc : (n k : ℕ) (b : B) → visits (passes n k b) (count 0 n) ≡ passes n (suc k) b
+  unfolding passes
+  passes-suc n zero b = refl
+  passes-suc n (suc k) b = passes-suc n k (visits b (count 0 n))
+
+  passes-add : (n j k : ℕ) (b : B) → passes n (j + k) b ≡ passes n k (passes n j b)
+  unfolding passes
+  passes-add n zero k b = rw (zero-add k)
+  passes-add n (suc j) k b = rw (suc-add j k) (passes-add n j k (visits b (count 0 n)))
+
+  -- after a pass that changed nothing none does
+  passes-still : (n k : ℕ) (b : B) → visits b (count 0 n) ≡ b → passes n k b ≡ b
+  unfolding passes
+  passes-still n zero b e = refl
+  passes-still n (suc k) b e = rw e (passes-still n k b e)
+
+-- x is in the list or it is not
+in? : (x : ℕ) (l : List ℕ) → In x l ⊎ (In x l → ⊥)
+in? x [] = inr (λ m. m)
+in? x (y ∷ l) = ⊎-elim (λ e. inl (inl e)) (λ d. ⊎-elim (λ m. inl (inr m)) (λ n. inr (λ m. ⊎-elim d n m)) (in? x l)) (same? x y)
+
+module _ {B : Type 0} {ready : B → ℕ → Bool} {after : B → ℕ → B} {Le : B → B → Type 0} (grow : Growing ready after Le) where
+  -- ---- the places of a good order are ready after so many passes
+
+  visit-grows : (b : B) (p : ℕ) → Le b (visit ready after b p)
+  unfolding visit
+  visit-grows b p = go (ready b p)
+    where
+      go : (c : Bool) → Le b (cond c (after b p) b)
+      go true = grow .after-grows b p
+      go false = grow .le-refl b
+
+  visits-grows : (b : B) (σ : List ℕ) → Le b (visits ready after b σ)
+  unfolding visits
+  visits-grows b [] = grow .le-refl b
+  visits-grows b (p ∷ σ) =
+      let c = visit ready after b p in
+      grow .le-trans b c (visits ready after c σ) (visit-grows b p) (visits-grows c σ)
+
+  passes-grows : (n k : ℕ) (b : B) → Le b (passes ready after n k b)
+  unfolding passes
+  passes-grows n zero b = grow .le-refl b
+  passes-grows n (suc k) b =
+      let c = visits ready after b (count 0 n) in
+      grow .le-trans b c (passes ready after n k c) (visits-grows b (count 0 n)) (passes-grows n k c)
+
+  -- what is ready is taken in any pass over it
+  visits-take : (σ : List ℕ) (b c : B) (p : ℕ) → Le b c → ready b p ≡ true → In p σ → Le (after b p) (visits ready after c σ)
+  unfolding visits
+  visits-take (q ∷ σ) b c p h r (inl e) =
+      let d = visit ready after c q in
+      grow .le-trans (after b p) d (visits ready after d σ)
+      (subst (λ (u : ℕ). Le (after b p) (visit ready after c u)) e
+      (rw (visit-ready ready after c p (grow .ready-mono b c p h r)) (grow .after-mono b c p h)))
+      (visits-grows d σ)
+  visits-take (q ∷ σ) b c p h r (inr m) =
+      let d = visit ready after c q in
+      visits-take σ b d p (grow .le-trans b c d h (visit-grows c q)) r m
+
+  -- one pass fewer than it has places
+  reach : (n p : ℕ) (σ : List ℕ) (b c : B) → goodFrom ready after b (p ∷ σ) ≡ true → Le b c → ((q : ℕ) → In q (p ∷ σ) → q < n)
+      → (q : ℕ) → In q (p ∷ σ) → ready (passes ready after n (length σ) c) q ≡ true
+  unfolding passes
+  reach n p [] b c g h l q m =
+      let r = good-parts ready after b p [] g .0 in
+      ⊎-elim (λ e. subst (λ (u : ℕ). ready c u ≡ true) (sym e) (grow .ready-mono b c p h r)) (λ i. absurd i) m
+  reach n p (x ∷ σ) b c g h l q m =
+      let r = good-parts ready after b p (x ∷ σ) g in
+      let d = visits ready after c (count 0 n) in
+      let k = l p (inl refl) in
+      let t = passes ready after n (length σ) d in
+      ⊎-elim
+      (λ e. subst (λ (u : ℕ). ready t u ≡ true) (sym e)
+      (grow .ready-mono b t p
+      (grow .le-trans b c t h (grow .le-trans c d t (visits-grows c (count 0 n)) (passes-grows n (length σ) d))) (r .0)))
+      (λ i. reach n x σ (after b p) d (r .1) (visits-take (count 0 n) b c p h (r .0) (in-count 0 n p (omega arith) (omega arith)))
+      (λ u j. l u (inr j)) q i) m
+
+  -- what is ready stays ready in later passes
+  later : (n j k : ℕ) (b : B) (p : ℕ) → j ≤ k → ready (passes ready after n j b) p ≡ true → ready (passes ready after n k b) p ≡ true
+  unfolding passes
+  later n zero k b p h u = grow .ready-mono b (passes ready after n k b) p (passes-grows n k b) u
+  later n (suc j) zero b p h u = absurd (omega arith)
+  later n (suc j) (suc k) b p h u = later n j k (visits ready after b (count 0 n)) p (omega arith) u
+
+  -- where all of a list are ready, it is a good order
+  all-good : (b : B) (σ : List ℕ) → ((p : ℕ) → In p σ → ready b p ≡ true) → goodFrom ready after b σ ≡ true
+  all-good b [] f = unfold goodFrom in refl
+  all-good b (p ∷ σ) f =
+      good-cons ready after b p σ (f p (inl refl))
+      (all-good (after b p) σ (λ q m. grow .ready-mono b (after b p) q (grow .after-grows b p) (f q (inr m))))
+
+  good-reached : (n k : ℕ) (b : B) (σ : List ℕ) → n ≤ k + 1 → Rearranges n σ → goodFrom ready after b σ ≡ true
+      → goodFrom ready after (passes ready after n k b) (count 0 n) ≡ true
+  good-reached n k b [] h r g =
+      all-good (passes ready after n k b) (count 0 n) (λ p m. let z = count-in 0 n p m in let y = r .long in absurd (omega arith))
+  good-reached n k b (x ∷ σ) h r g =
+      all-good (passes ready after n k b) (count 0 n)
+      (λ p m. let y = r .long in
+      later n (length σ) k b p (omega arith)
+      (reach n x σ b b g (grow .le-refl b) (r .below) p (takes-has p (count 0 n) (x ∷ σ) (right-takes n (x ∷ σ) r) m)))
+
+  -- ---- and where they are ready, there is a good order
+
+  -- to what is good at c there is a list good at b that has its places, and besides only places below n
+  abbrev Reached : ℕ → B → B → Type 0
+  Reached n b c =
+      (υ : List ℕ) → goodFrom ready after c υ ≡ true
+      → (τ : List ℕ) × (goodFrom ready after b τ ≡ true) × ((p : ℕ) → In p υ → In p τ) × ((p : ℕ) → In p τ → In p υ ⊎ (p < n))
+
+  reached-visit : (n : ℕ) (b c : B) (p : ℕ) → p < n → Reached n b c → Reached n b (visit ready after c p)
+  unfolding visit
+  reached-visit n b c p l f υ g = go (ready c p) refl g
+    where
+      go : (r : Bool) → ready c p ≡ r → goodFrom ready after (cond r (after c p) c) υ ≡ true
+          → (τ : List ℕ) × (goodFrom ready after b τ ≡ true) × ((q : ℕ) → In q υ → In q τ) × ((q : ℕ) → In q τ → In q υ ⊎ (q < n))
+      go false e g = f υ g
+      go true e g =
+          let s = f (p ∷ υ) (good-cons ready after c p υ e g) in
+          (s .0, s .1, λ q m. s .2 q (inr m), λ q m. ⊎-elim (λ i. ⊎-elim (λ u. inr (omega arith)) (λ u. inl u) i) (λ i. inr i) (s .3 q m))
+
+  reached-visits : (n : ℕ) (b c : B) (σ : List ℕ) → ((p : ℕ) → In p σ → p < n) → Reached n b c → Reached n b (visits ready after c σ)
+  unfolding visits
+  reached-visits n b c [] l f = f
+  reached-visits n b c (p ∷ σ) l f =
+      reached-visits n b (visit ready after c p) σ (λ q m. l q (inr m)) (reached-visit n b c p (l p (inl refl)) f)
+
+  reached-passes : (n k : ℕ) (b c : B) → Reached n b c → Reached n b (passes ready after n k c)
+  unfolding passes
+  reached-passes n zero b c f = f
+  reached-passes n (suc k) b c f =
+      reached-passes n k b (visits ready after c (count 0 n))
+      (reached-visits n b c (count 0 n) (λ p m. let z = count-in 0 n p m in omega arith) f)
+
+  -- a good list that has all of rem, and else only what is taken already, has a good order of rem in it
+  cover : (τ rem : List ℕ) (b : B) → Distinct rem → ((p : ℕ) → In p τ → In p rem ⊎ (after b p ≡ b)) → ((p : ℕ) → In p rem → In p τ)
+      → goodFrom ready after b τ ≡ true → (σ : List ℕ) × Takes rem σ × (goodFrom ready after b σ ≡ true)
+  cover [] [] b d f h g = ([], refl, g)
+  cover [] (x ∷ rem) b d f h g = absurd (h x (inl refl))
+  cover (x ∷ τ) rem b d f h g = go (in? x rem) (cover τ)
+    where
+      both : (ready b x ≡ true) × (goodFrom ready after (after b x) τ ≡ true)
+      both = good-parts ready after b x τ g
+
+      next : (p : ℕ) → In p τ → (x ≡ p) ⊎ (x ≡ p → ⊥) → In p rem ⊎ (after b p ≡ b) → In p (without x rem) ⊎ (after (after b x) p ≡ after b x)
+      next p m (inl e) i = inr (subst (λ (u : ℕ). after (after b x) u ≡ after b x) e (grow .after-twice b x))
+      next p m (inr e) (inl i) = inl (without-keeps x p rem e i)
+      next p m (inr e) (inr i) = inr (grow .after-swap b x p ∙ ap (λ c. after c x) i)
+
+      in-tail : (p : ℕ) → (x ≡ p → ⊥) → In p (x ∷ τ) → In p τ
+      in-tail p n (inl e) = absurd (n (sym e))
+      in-tail p n (inr i) = i
+
+      go : In x rem ⊎ (In x rem → ⊥)
+          → ((rem : List ℕ) (b : B) → Distinct rem → ((p : ℕ) → In p τ → In p rem ⊎ (after b p ≡ b)) → ((p : ℕ) → In p rem → In p τ)
+          → goodFrom ready after b τ ≡ true → (σ : List ℕ) × Takes rem σ × (goodFrom ready after b σ ≡ true))
+          → (σ : List ℕ) × Takes rem σ × (goodFrom ready after b σ ≡ true)
+      go (inl m) r =
+          let s = r (without x rem) (after b x) (without-distinct x rem d) (λ p i. next p i (same? x p) (f p (inr i)))
+          (λ p i. in-tail p (λ e. without-gone x rem d (subst (λ (u : ℕ). In u (without x rem)) (sym e) i)) (h p (without-in x p rem i))) (both .1) in
+          (x ∷ s .0, (m, s .1), good-cons ready after b x (s .0) (both .0) (s .2))
+      go (inr n) r =
+          let e : after b x ≡ b = ⊎-elim (λ m. absurd (n m)) (λ q. q) (f x (inl refl)) in
+          r rem b d (λ p i. f p (inr i)) (λ p i. in-tail p (λ q. n (subst (λ (u : ℕ). In u rem) (sym q) i)) (h p i))
+          (subst (λ (c : B). goodFrom ready after c τ ≡ true) e (both .1))
+
+  reached-good : (n k : ℕ) (b : B) → goodFrom ready after (passes ready after n k b) (count 0 n) ≡ true
+      → (σ : List ℕ) × Rearranges n σ × (goodFrom ready after b σ ≡ true)
+  reached-good n k b g =
+      let s = reached-passes n k b b (λ υ e. (υ, e, λ p m. m, λ p m. inl m)) (count 0 n) g in
+      let r = cover (s .0) (count 0 n) b (count-distinct 0 n)
+      (λ p m. inl (⊎-elim (λ i. i) (λ l. in-count 0 n p (omega arith) (omega arith)) (s .3 p m))) (s .2) (s .1) in
+      (r .0, takes-right n (r .0) (r .1), r .2)
+
+  -- ---- the theorem
+
+  -- after any passes, what is ready in turn has a good order
+  pub any-passes : (n k : ℕ) (b : B) → goodFrom ready after (passes ready after n k b) (count 0 n) ≡ true → isSome (firstGood ready after b n) ≡ true
+  any-passes n k b g = let s = reached-good n k b g in good-first ready after b n (s .0) (s .1) (s .2)
+
+  -- from n - 1 passes on, the places are ready in turn exactly where there is a good order
+  pub enough-passes : (n k : ℕ) (b : B) → n ≤ k + 1
+      → goodFrom ready after (passes ready after n k b) (count 0 n) ≡ isSome (firstGood ready after b n)
+  enough-passes n k b h =
+      same (goodFrom ready after (passes ready after n k b) (count 0 n)) (isSome (firstGood ready after b n)) (any-passes n k b)
+      (λ t. let s = first-good ready after b n t in good-reached n k b (s .0) h (s .1) (s .2))
+
+  -- a pass that changed nothing is the last
+  pub still-passes : (n k : ℕ) (b : B) → visits ready after (passes ready after n k b) (count 0 n) ≡ passes ready after n k b
+      → goodFrom ready after (passes ready after n k b) (count 0 n) ≡ isSome (firstGood ready after b n)
+  still-passes n k b e =
+      ap (λ c. goodFrom ready after c (count 0 n)) (sym (passes-add ready after n k n b ∙ passes-still ready after n n (passes ready after n k b) e))
+      ∙ enough-passes n (k + n) b (omega arith)
+
+-- ---- for the subgoals of a clause
+
+module _ (T : Table) (body : List Call) (n k : ℕ) (b : Bound) where
+  pub enough : n ≤ k + 1
+      → clause.goodFrom T body (passes (readyAt T body) (afterAt body) n k b) (count 0 n) ≡ isSome (firstGood (readyAt T body) (afterAt body) b n)
+  enough h = enough-passes (bound-growing T body) n k b h
+
+  pub all-ready : clause.goodFrom T body (passes (readyAt T body) (afterAt body) n k b) (count 0 n) ≡ true
+      → isSome (firstGood (readyAt T body) (afterAt body) b n) ≡ true
+  all-ready e = any-passes (bound-growing T body) n k b e
+
+  pub settled : visits (readyAt T body) (afterAt body) (passes (readyAt T body) (afterAt body) n k b) (count 0 n)
+      ≡ passes (readyAt T body) (afterAt body) n k b
+      → clause.goodFrom T body (passes (readyAt T body) (afterAt body) n k b) (count 0 n) ≡ isSome (firstGood (readyAt T body) (afterAt body) b n)
+  settled e = still-passes (bound-growing T body) n k b e
+
+  pub one-more : visits (readyAt T body) (afterAt body) (passes (readyAt T body) (afterAt body) n k b) (count 0 n)
+      ≡ passes (readyAt T body) (afterAt body) n (suc k) b
+  one-more = passes-suc (readyAt T body) (afterAt body) n k b

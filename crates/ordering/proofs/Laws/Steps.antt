@@ -1,0 +1,86 @@
+-- Loops over the arguments of a call, one argument at a time: what is left of the list is its first argument and then the rest, so binding goes
+-- up the list and the pattern, whose last argument has the highest bit, down. Assumes nothing.
+use mathlib.Core.Path.{_≡_, sym, ap, _∙_}
+use mathlib.Core.Bool.{Bool, true, false}
+use mathlib.Core.List.{List, [], _∷_}
+use Prim.Native.Nat.{ℕ, zero, suc, _+_, _*_, _-_, _^_, _≤_, _<_}
+use native.Mathlib.Nat.{pow-suc}
+use native.Mathlib.Numerals.{add-one}
+use native.Mathlib.Omega.{arith}
+use lib.ListN.{length, getD, set, drop, drop-of-length-le, length-drop}
+use lib.Pow.{pow-pos}
+use lib.Seq.{drop-cons}
+use borrow.Author.Tests.{lt-ltb, le-ltb, eq-eqb, ne-eqb}
+use Rattle.masks.specs.Limits.{maxArity}
+use Rattle.ordering.specs.Adorn.{variables, Bound, literal, isBound, bit, patternOf, bindVar, bindAll}
+use Rattle.ordering.proofs.Laws.Adorn.{bit-small}
+
+-- ---- binding, from the first argument up
+
+pub var-set : (b : Bound) (v : ℕ) → v < variables → bindVar b v ≡ set b v true
+unfolding bindVar
+var-set b v h = rw (lt-ltb v variables h)
+
+pub var-skip : (b : Bound) (v : ℕ) → variables ≤ v → bindVar b v ≡ b
+unfolding bindVar
+var-skip b v h = rw (le-ltb v variables h)
+
+pub all-step : (l : List ℕ) (i : ℕ) → i < length l → (b : Bound) → bindAll b (drop i l) ≡ bindAll (bindVar b (getD l i 0)) (drop (i + 1) l)
+unfolding bindAll
+all-step l i h b = rw (add-one i, drop-cons l i 0 h)
+
+pub all-end : (b : Bound) (l : List ℕ) (i : ℕ) → length l ≤ i → bindAll b (drop i l) ≡ b
+unfolding bindAll
+all-end b l i h = rw (drop-of-length-le l h)
+
+-- ---- the bit of an argument
+
+unfoldable pub bitOf : Bound → ℕ → ℕ
+bitOf b v = bit (isBound b v)
+
+pub bit-literal : (b : Bound) (v : ℕ) → v ≡ literal → bitOf b v ≡ 1
+unfolding bitOf isBound
+bit-literal b v h = rw (eq-eqb v literal h)
+
+pub bit-other : (b : Bound) (v : ℕ) → (v ≡ literal → ⊥) → variables ≤ v → bitOf b v ≡ 0
+unfolding bitOf isBound
+bit-other b v h k = rw (ne-eqb v literal h, le-ltb v variables k)
+
+pub bit-var : (b : Bound) (v : ℕ) (c : Bool) → (v ≡ literal → ⊥) → v < variables → getD b v false ≡ c → bitOf b v ≡ bit c
+unfolding bitOf isBound
+bit-var b v c h k e = rw (ne-eqb v literal h, lt-ltb v variables k, e)
+
+pub bitOf-small : (b : Bound) (v : ℕ) → bitOf b v < 2
+unfolding bitOf
+bitOf-small b v = bit-small (isBound b v)
+
+-- ---- the pattern, from the last argument down
+
+pub pattern-step : (l : List ℕ) (i : ℕ) → i < length l → (b : Bound)
+    → patternOf b (drop i l) ≡ patternOf b (drop (i + 1) l) * 2 + bitOf b (getD l i 0)
+unfolding patternOf bitOf
+pattern-step l i h b = rw (add-one i, drop-cons l i 0 h)
+
+pub pattern-down : (b : Bound) (l : List ℕ) (i : ℕ) → 0 < i → i ≤ length l
+    → patternOf b (drop i l) * 2 + bitOf b (getD l (i - 1) 0) ≡ patternOf b (drop (i - 1) l)
+pattern-down b l i h k =
+    let e : i - 1 + 1 ≡ i = omega arith in
+    sym (pattern-step l (i - 1) (omega arith) b ∙ ap (λ j. patternOf b (drop j l) * 2 + bitOf b (getD l (i - 1) 0)) e)
+
+pub pattern-end : (b : Bound) (l : List ℕ) (i : ℕ) → length l ≤ i → patternOf b (drop i l) ≡ 0
+unfolding patternOf
+pattern-end b l i h = rw (drop-of-length-le l h)
+
+-- k arguments have 2 ^ k patterns
+pub pattern-small : (b : Bound) (k : ℕ) (l : List ℕ) → length l ≤ k → patternOf b l < 2 ^ k
+unfolding patternOf
+pattern-small b k [] h = pow-pos k
+pattern-small b zero (v ∷ l) h = absurd (omega arith)
+pattern-small b (suc k) (v ∷ l) h =
+    let r = pattern-small b k l (omega arith) in
+    let s = bit-small (isBound b v) in
+    rw (pow-suc 2 k) (omega arith)
+
+-- with an argument still to come there is room for its bit
+pub pattern-left : (b : Bound) (l : List ℕ) (i : ℕ) → 0 < i → length l ≤ maxArity → patternOf b (drop i l) < 32
+pattern-left b l i h k = pattern-small b 5 (drop i l) (simp length-drop (omega arith))
