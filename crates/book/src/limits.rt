@@ -16,6 +16,8 @@ pub const MAX_ARGUMENTS: usize = 6;
 // Arguments: variables are 0 to 15.
 pub const LAST_VARIABLE: u8 = 15;
 
+pub const VARIABLES: usize = 16;
+
 pub const WILDCARD: u8 = 254;
 
 pub const LITERAL: u8 = 255;

@@ -4,19 +4,36 @@ use book::clause::arguments;
 use book::clause::head_at;
 use book::clause::subgoal_at;
 use book::clause::subgoals_at;
+use book::limits::LAST_VARIABLE;
 use book::limits::LITERAL;
 use book::limits::MAX_ARGUMENTS;
 use book::limits::MODES_SIZE;
 use book::limits::RULES_SIZE;
+use book::limits::VARIABLES;
 use book::mode::mode_at;
 use masks::constraint::Constraint;
 use masks::constraint::count;
+ghost use mathlib.Core.Path.{_≡_};
+ghost use mathlib.Core.Bool.{true};
+ghost use Prim.Native.Nat.{ℕ, _<_, _≤_};
+ghost use Rattle.masks.specs.Limits.{allPatterns};
+ghost use Rattle.masks.specs.Mask.{within};
+ghost use Rattle.masks.specs.Constraint.{admits, inRange};
+ghost use Rattle.masks.specs.Held.{masksOf};
+ghost use Rattle.masks.specs.Set.{bitAt};
+ghost use Rattle.book.specs.Limits.{maxPredicates, maxClauses};
+ghost use Rattle.book.specs.Held.{callOf, clauseAt};
+ghost use Rattle.ordering.specs.Adorn.{isBound, patternOf, headBound};
+ghost use Rattle.ordering.specs.Good.{goodClause};
+ghost use Rattle.ordering.specs.Held.{tableIn, Low, callsBelow};
+ghost use Rattle.lanes.specs.Lanes.{EachLane, lane, Agrees, Binds};
+ghost use Rattle.lanes.specs.Passes.{Passed};
 
 // All lanes.
 const ALL: u64 = 0xFFFF_FFFF_FFFF_FFFF;
 
 // Word i: the lanes whose pattern has bit i.
-const COLUMNS: [u64; 6] = [
+const COLUMNS: [u64; MAX_ARGUMENTS] = [
     0xAAAA_AAAA_AAAA_AAAA,
     0xCCCC_CCCC_CCCC_CCCC,
     0xF0F0_F0F0_F0F0_F0F0,
@@ -33,13 +50,16 @@ pub struct Pass {
 
 // The head patterns under which clause k is good, bit a for pattern a. Passes go over the subgoals as they stand, each of which is placed in the
 // lanes in which it is ready; a pass that binds nothing is the last, and so is the one that has as many before it as there are other subgoals.
-pub fn good_lanes<'a>(rules: &'a [u8; RULES_SIZE], k: usize, table: &'a [u8; MODES_SIZE]) -> u64 {
+pub fn good_lanes<'a>(rules: &'a [u8; RULES_SIZE], k: usize, table: &'a [u8; MODES_SIZE]) -> u64
+    requires { ⌜ (k ≤ maxClauses) × (callsBelow maxPredicates (clauseAt (now rules) k .body) ≡ true) × Low (now table) ⌝ }
+    ensures { λ r. ⌜ EachLane (λ a. bitAt r a ≡ goodClause (tableIn (now (table .entry)) maxPredicates) (clauseAt (now (rules .entry)) k) a) ⌝ }
+{
     let n = subgoals_at(rules, k);
     let head = head_at(rules, k);
     let mut vars = head_lanes(head);
     let mut passes: usize = 1;
     loop {
-        let p = pass(rules, k, table, &mut vars);
+        let p = one_pass(rules, k, table, &mut vars);
         if !p.moved {
             return p.good;
         }
@@ -51,12 +71,15 @@ pub fn good_lanes<'a>(rules: &'a [u8; RULES_SIZE], k: usize, table: &'a [u8; MOD
 }
 
 // One pass over the subgoals of clause k.
-fn pass<'a>(
+fn one_pass<'a>(
     rules: &'a [u8; RULES_SIZE],
     k: usize,
     table: &'a [u8; MODES_SIZE],
-    vars: &mut [u64; 16],
-) -> Pass {
+    vars: &mut [u64; VARIABLES],
+) -> Pass
+    requires { ⌜ (k ≤ maxClauses) × (callsBelow maxPredicates (clauseAt (now rules) k .body) ≡ true) × Low (now table) ⌝ }
+    ensures { λ r. ⌜ Passed (tableIn (now (table .entry)) maxPredicates) (clauseAt (now (rules .entry)) k .body) (now (vars .entry)) (now (vars .exit)) r ⌝ }
+{
     let n = subgoals_at(rules, k);
     let mut good = ALL;
     let mut moved = false;
@@ -75,13 +98,15 @@ fn pass<'a>(
 }
 
 // What is bound at the start: lane a is for head pattern a.
-fn head_lanes(head: Call) -> [u64; 16] {
+fn head_lanes(head: Call) -> [u64; VARIABLES]
+    ensures { λ r. ⌜ EachLane (λ a. lane a r ≡ headBound (callOf head .args) a) ⌝ }
+{
     let n = arguments(head);
-    let mut vars = [0u64; 16];
+    let mut vars = [0u64; VARIABLES];
     let mut i: usize = 0;
     while i < n {
         let v = head.args[i];
-        if v < 16 {
+        if v <= LAST_VARIABLE {
             let w = v as usize;
             vars[w] = vars[w] | COLUMNS[i];
         }
@@ -91,7 +116,10 @@ fn head_lanes(head: Call) -> [u64; 16] {
 }
 
 // The lanes in which the call can be made.
-fn ready_lanes(s: Call, c: Constraint, vars: &[u64; 16]) -> u64 {
+fn ready_lanes(s: Call, c: Constraint, vars: &[u64; VARIABLES]) -> u64
+    requires { ⌜ inRange allPatterns (masksOf c) ≡ true ⌝ }
+    ensures { λ r. ⌜ EachLane (λ a. bitAt r a ≡ admits (masksOf c) (patternOf (lane a (now (vars .entry))) (callOf s .args))) ⌝ }
+{
     let words = pattern_lanes(s, vars);
     let n = count(c);
     let mut r: u64 = 0;
@@ -105,7 +133,9 @@ fn ready_lanes(s: Call, c: Constraint, vars: &[u64; 16]) -> u64 {
 }
 
 // Word i: the lanes whose pattern has bit i.
-fn pattern_lanes(s: Call, vars: &[u64; 16]) -> [u64; MAX_ARGUMENTS] {
+fn pattern_lanes(s: Call, vars: &[u64; VARIABLES]) -> [u64; MAX_ARGUMENTS]
+    ensures { λ r. ⌜ EachLane (λ a. Agrees r a (patternOf (lane a (now (vars .entry))) (callOf s .args))) ⌝ }
+{
     let n = arguments(s);
     let mut words = [0u64; MAX_ARGUMENTS];
     let mut i: usize = 0;
@@ -118,11 +148,13 @@ fn pattern_lanes(s: Call, vars: &[u64; 16]) -> [u64; MAX_ARGUMENTS] {
 }
 
 // The lanes in which an argument is bound.
-fn arg_lanes(v: u8, vars: &[u64; 16]) -> u64 {
+fn arg_lanes(v: u8, vars: &[u64; VARIABLES]) -> u64
+    ensures { λ r. ⌜ EachLane (λ a. bitAt r a ≡ isBound (lane a (now (vars .entry))) v) ⌝ }
+{
     if v == LITERAL {
         return ALL;
     }
-    if v < 16 {
+    if v <= LAST_VARIABLE {
         let w = v as usize;
         return vars[w];
     }
@@ -130,7 +162,10 @@ fn arg_lanes(v: u8, vars: &[u64; 16]) -> u64 {
 }
 
 // The lanes whose pattern has all the bits of the mask. Each turn takes the lowest bit that is left.
-fn mask_lanes(mask: u8, words: &[u64; MAX_ARGUMENTS]) -> u64 {
+fn mask_lanes(mask: u8, words: &[u64; MAX_ARGUMENTS]) -> u64
+    requires { ⌜ mask < allPatterns ⌝ }
+    ensures { λ r. ⌜ EachLane (λ a. (p : ℕ) → Agrees (now (words .entry)) a p → bitAt r a ≡ within mask p) ⌝ }
+{
     let mut w = ALL;
     let mut m = mask;
     while m != 0 {
@@ -142,13 +177,15 @@ fn mask_lanes(mask: u8, words: &[u64; MAX_ARGUMENTS]) -> u64 {
 }
 
 // The variables of the subgoal are bound in the lanes of r. Says whether that bound any.
-fn bind_lanes(s: Call, r: u64, vars: &mut [u64; 16]) -> bool {
+fn bind_lanes(s: Call, r: u64, vars: &mut [u64; VARIABLES]) -> bool
+    ensures { λ m. ⌜ Binds (callOf s .args) r (now (vars .entry)) (now (vars .exit)) m ⌝ }
+{
     let n = arguments(s);
     let mut moved = false;
     let mut i: usize = 0;
     while i < n {
         let v = s.args[i];
-        if v < 16 {
+        if v <= LAST_VARIABLE {
             let w = v as usize;
             let old = vars[w];
             let new = old | r;

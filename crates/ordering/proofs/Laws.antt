@@ -4,5 +4,4 @@ pub mod Orders
 pub mod Greedy
 pub mod Adorn
 pub mod Good
-pub mod Passes
 pub mod Steps

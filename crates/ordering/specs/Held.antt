@@ -1,11 +1,11 @@
 -- How the code holds a table and an order. Assumes nothing.
 use mathlib.Core.Path.{_≡_}
-use mathlib.Core.Bool.{Bool, true, cond}
+use mathlib.Core.Bool.{Bool, true, false, not, cond, _&&_}
 use mathlib.Core.List.{List}
 use mathlib.Core.Option.{Option, none, some}
 use Prim.Native.Nat.{ℕ, _<_}
 use lib.Dec.{ltb}
-use lib.ListN.{take}
+use lib.ListN.{getD, take}
 use Rattle.masks.specs.Limits.{allPatterns}
 use Rattle.masks.specs.Lists.{all, values}
 use Rattle.masks.specs.Constraint.{inRange}
@@ -13,6 +13,7 @@ use Rattle.book.specs.Limits.{maxPredicates}
 use Rattle.book.specs.Book.{Call}
 use Rattle.book.specs.Held.{masksIn, modeBytes}
 use Rattle.ordering.specs.Adorn.{Table}
+use Rattle.ordering.specs.Orders.{find, count}
 use Rattle.ordering.specs.declared.Order.{Order}
 
 -- a table is held as modes are: here each predicate has its masks
@@ -34,3 +35,11 @@ callsBelow n body = all (λ c. ltb (c .pred) n) body
 -- an order, if one was found: the first n of its places
 abbrev pub orderOf : Order → Option (List ℕ)
 orderOf o = cond (o .found) (some (take (o .n) (o .places))) none
+
+-- the first of n places that is not used and passes, or n
+abbrev pub orElse : ℕ → Option ℕ → ℕ
+orElse n none = n
+orElse n (some p) = p
+
+unfoldable pub picked : List Bool → (ℕ → Bool) → ℕ → ℕ
+picked used passes n = orElse n (find (λ p. not (getD used p false) && passes p) (count 0 n))

@@ -1,6 +1,138 @@
-// Orders.
+// A body's first good order. What is bound is a flag for each variable; a table is lent as it is held.
+use book::clause::Call;
+use book::clause::arguments;
+use book::clause::subgoal_at;
+use book::clause::subgoals_at;
+use book::limits::LAST_VARIABLE;
+use book::limits::LITERAL;
+use book::limits::MAX_SUBGOALS;
+use book::limits::MODES_SIZE;
+use book::limits::RULES_SIZE;
+use book::limits::VARIABLES;
+use book::mode::mode_at;
+use masks::constraint::fits;
+ghost use mathlib.Core.Path.{_≡_};
+ghost use mathlib.Core.Bool.{true};
+ghost use Prim.Native.Nat.{_≤_};
+ghost use lib.ListN.{length};
+ghost use Rattle.book.specs.Limits.{maxPredicates, maxClauses};
+ghost use Rattle.book.specs.Held.{callOf, clauseAt};
+ghost use Rattle.ordering.specs.Adorn.{isBound, bit, patternOf, bindAll};
+ghost use Rattle.ordering.specs.Good.{readyAt, firstGood};
+ghost use Rattle.ordering.specs.Held.{tableIn, callsBelow, orderOf, picked};
+
+// An order of the subgoals of a body, if one was found: the first n places of the array.
 pub struct Order {
     pub found: bool,
     pub n: u8,
-    pub places: [u8; 8],
+    pub places: [u8; MAX_SUBGOALS],
+}
+
+// "the smallest list of subgoal places .. among the orders good against" a table, of the subgoals of clause k with these variables bound at the
+// start: at each turn the first place that is ready. Where none is, no order is good.
+pub fn first_order<'a>(
+    rules: &'a [u8; RULES_SIZE],
+    k: usize,
+    table: &'a [u8; MODES_SIZE],
+    bound: [bool; VARIABLES],
+) -> Order
+    requires { ⌜ (k ≤ maxClauses) × (callsBelow maxPredicates (clauseAt (now rules) k .body) ≡ true) ⌝ }
+    ensures { λ r. ⌜ orderOf r ≡ firstGood (tableIn (now (table .entry)) maxPredicates) (clauseAt (now (rules .entry)) k .body) bound ⌝ }
+{
+    let n = subgoals_at(rules, k);
+    let mut places = [0u8; MAX_SUBGOALS];
+    let mut used = [false; MAX_SUBGOALS];
+    let mut now = bound;
+    let mut i: usize = 0;
+    while i < n {
+        let p = first_ready(rules, k, table, now, used);
+        if n <= p {
+            return Order {
+                found: false,
+                n: 0,
+                places,
+            };
+        }
+        let s = subgoal_at(rules, k, p);
+        let then = bind_all(now, s);
+        places[i] = p as u8;
+        used[p] = true;
+        now = then;
+        i += 1;
+    }
+    let count = n as u8;
+    Order {
+        found: true,
+        n: count,
+        places,
+    }
+}
+
+// The first place of clause k that is not used and ready, or the number of its subgoals.
+fn first_ready<'a>(
+    rules: &'a [u8; RULES_SIZE],
+    k: usize,
+    table: &'a [u8; MODES_SIZE],
+    bound: [bool; VARIABLES],
+    used: [bool; MAX_SUBGOALS],
+) -> usize
+    requires { ⌜ (k ≤ maxClauses) × (callsBelow maxPredicates (clauseAt (now rules) k .body) ≡ true) ⌝ }
+    ensures { λ r. ⌜ r ≡ picked used (readyAt (tableIn (now (table .entry)) maxPredicates) (clauseAt (now (rules .entry)) k .body) bound) (length (clauseAt (now (rules .entry)) k .body)) ⌝ }
+{
+    let n = subgoals_at(rules, k);
+    let mut p: usize = 0;
+    while p < n {
+        if !used[p] {
+            let s = subgoal_at(rules, k, p);
+            let c = mode_at(table, s.pred);
+            if fits(c, pattern(bound, s)) {
+                return p;
+            }
+        }
+        p += 1;
+    }
+    n
+}
+
+// The pattern of a call: bit i is set where argument i is bound.
+fn pattern(bound: [bool; VARIABLES], s: Call) -> u8
+    ensures { λ r. ⌜ r ≡ patternOf bound (callOf s .args) ⌝ }
+{
+    let mut a: u8 = 0;
+    let mut i = arguments(s);
+    while 0 < i {
+        i -= 1;
+        a = a * 2 + bound_bit(bound, s.args[i]);
+    }
+    a
+}
+
+// 1 where an argument is bound: "a literal or a bound variable gives a bound position, anything else a free one".
+fn bound_bit(bound: [bool; VARIABLES], v: u8) -> u8
+    ensures { λ r. ⌜ r ≡ bit (isBound bound v) ⌝ }
+{
+    if v == LITERAL {
+        return 1;
+    }
+    if LAST_VARIABLE < v {
+        return 0;
+    }
+    if bound[v as usize] { 1 } else { 0 }
+}
+
+// "After the whole subgoal all its variables become bound".
+fn bind_all(bound: [bool; VARIABLES], s: Call) -> [bool; VARIABLES]
+    ensures { λ r. ⌜ r ≡ bindAll bound (callOf s .args) ⌝ }
+{
+    let n = arguments(s);
+    let mut b = bound;
+    let mut i: usize = 0;
+    while i < n {
+        let v = s.args[i];
+        if v <= LAST_VARIABLE {
+            b[v as usize] = true;
+        }
+        i += 1;
+    }
+    b
 }

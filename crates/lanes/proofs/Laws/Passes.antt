@@ -9,49 +9,37 @@ use native.Mathlib.Nat.{zero-add, suc-add}
 use native.Mathlib.Omega.{arith}
 use lib.ListN.{length}
 use Rattle.book.specs.Book.{Call}
 use Rattle.ordering.specs.Orders.{In, Distinct, Rearranges, without, count}
 use Rattle.ordering.specs.Adorn.{Table, Bound}
 use Rattle.ordering.specs.Turns.{goodFrom, firstGood}
 use Rattle.ordering.specs.Good as clause
 use Rattle.ordering.specs.Good.{readyAt, afterAt, isSome}
+use Rattle.lanes.specs.Passes.{visit, visits, passes}
 use Rattle.masks.proofs.Laws.Logic.{same}
 use Rattle.ordering.proofs.Laws.Orders.{same?, without-in, without-keeps, without-gone, without-distinct, Takes, takes-has, takes-right, right-takes, count-in, in-count, count-distinct}
 use Rattle.ordering.proofs.Laws.Greedy.{Growing, good-parts, good-cons, first-good, good-first}
 use Rattle.ordering.proofs.Laws.Good.{bound-growing}
 
 -- ---- passes
 
 module _ {B : Type 0} (ready : B → ℕ → Bool) (after : B → ℕ → B) where
-  -- p is taken where it is ready
-  unfoldable pub visit : B → ℕ → B
-  visit b p = cond (ready b p) (after b p) b
-
-  unfoldable pub visits : B → List ℕ → B
-  visits b [] = b
-  visits b (p ∷ σ) = visits (visit b p) σ
-
-  -- k passes over n places
-  unfoldable pub passes : ℕ → ℕ → B → B
-  passes n zero b = b
-  passes n (suc k) b = passes n k (visits b (count 0 n))
-
-  pub visit-ready : (b : B) (p : ℕ) → ready b p ≡ true → visit b p ≡ after b p
+  pub visit-ready : (b : B) (p : ℕ) → ready b p ≡ true → visit ready after b p ≡ after b p
   unfolding visit
   visit-ready b p e = rw e
 
   -- one pass more
-  pub passes-suc : (n k : ℕ) (b : B) → visits (passes n k b) (count 0 n) ≡ passes n (suc k) b
+  pub passes-suc : (n k : ℕ) (b : B) → visits ready after (passes ready after n k b) (count 0 n) ≡ passes ready after n (suc k) b
   unfolding passes
   passes-suc n zero b = refl
-  passes-suc n (suc k) b = passes-suc n k (visits b (count 0 n))
+  passes-suc n (suc k) b = passes-suc n k (visits ready after b (count 0 n))
 
-  passes-add : (n j k : ℕ) (b : B) → passes n (j + k) b ≡ passes n k (passes n j b)
+  passes-add : (n j k : ℕ) (b : B) → passes ready after n (j + k) b ≡ passes ready after n k (passes ready after n j b)
   unfolding passes
   passes-add n zero k b = rw (zero-add k)
-  passes-add n (suc j) k b = rw (suc-add j k) (passes-add n j k (visits b (count 0 n)))
+  passes-add n (suc j) k b = rw (suc-add j k) (passes-add n j k (visits ready after b (count 0 n)))
 
   -- after a pass that changed nothing none does
-  passes-still : (n k : ℕ) (b : B) → visits b (count 0 n) ≡ b → passes n k b ≡ b
+  passes-still : (n k : ℕ) (b : B) → visits ready after b (count 0 n) ≡ b → passes ready after n k b ≡ b
   unfolding passes
   passes-still n zero b e = refl
   passes-still n (suc k) b e = rw e (passes-still n k b e)
