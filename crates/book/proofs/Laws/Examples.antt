@@ -11,7 +11,7 @@ unfolding markAt within bytes many lowFrom hasMode predicate masks modeFields mo
 compute = tt
 
 -- "Clause: fault(H) :- low(V), volts(H,V). Query: fault(H), head(H)."
-pub bench : Book
+unfoldable pub bench : Book
 bench = record {
   arities = 1 ∷ 2 ∷ 1 ∷ 1 ∷ [];
   modes = record { pred = 1; masks = 1 ∷ [] } ∷ record { pred = 3; masks = 1 ∷ [] } ∷ [];

@@ -109,7 +109,7 @@ module _ (ar : List ℕ) (m : Mode) (t : modeFits ar m ≡ true) where
   pub mode-few : within (AtMost maxMasks) (length (m .masks)) ≡ true
   mode-few = and-left (within (AtMost maxMasks) (length (m .masks))) (all (within (Below (2 ^ getD ar (m .pred) 0))) (m .masks)) fields
 
-  mode-range : all (within (Below (2 ^ getD ar (m .pred) 0))) (m .masks) ≡ true
+  pub mode-range : all (within (Below (2 ^ getD ar (m .pred) 0))) (m .masks) ≡ true
   mode-range = and-right (within (AtMost maxMasks) (length (m .masks))) (all (within (Below (2 ^ getD ar (m .pred) 0))) (m .masks)) fields
 
 masks-got : (ar : List ℕ) (m : Mode) (r : List ℕ) → modeFits ar m ≡ true → masks (2 ^ getD ar (m .pred) 0) (length (m .masks) ∷ (m .masks ++ r)) ≡ got (m .masks) r

@@ -203,6 +203,22 @@ admits-written-up f up n a h =
     (λ t. at-anyBelow (λ m. f m && within m a) n a h (and-intro t (within-refl a)))
 
 -- sets with the same masks below n have the same written form
+-- what the written form admits passes the test of an upward set, at any pattern; and it admits what passes
+pub written-sound : (f : ℕ → Bool) → Up f → (n a : ℕ) → admits (written f n) a ≡ true → f a ≡ true
+written-sound f up n a t =
+    let r = anyBelow-at (λ m. f m && within m a) n (sym (admits-written f n a) ∙ t) in
+    up (r .0) a (and-right (f (r .0)) (within (r .0) a) (r .2)) (and-left (f (r .0)) (within (r .0) a) (r .2))
+
+-- a larger set's written form admits more, also past the n patterns
+pub written-mono : (f g : ℕ → Bool) (n : ℕ) → ((a : ℕ) → a < n → f a ≡ true → g a ≡ true)
+    → (a : ℕ) → admits (written f n) a ≡ true → admits (written g n) a ≡ true
+written-mono f g n h a t =
+    let r = anyBelow-at (λ m. f m && within m a) n (sym (admits-written f n a) ∙ t) in
+    let m = r .0 in
+    admits-written g n a
+    ∙ at-anyBelow (λ k. g k && within k a) n m (r .1)
+    (and-intro (h m (r .1) (and-left (f m) (within m a) (r .2))) (and-right (f m) (within m a) (r .2)))
+
 pub written-cong : (f g : ℕ → Bool) (n : ℕ) → ((a : ℕ) → a < n → f a ≡ g a) → written f n ≡ written g n
 unfolding written least drops
 written-cong f g n h =

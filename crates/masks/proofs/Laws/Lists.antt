@@ -11,7 +11,7 @@ use lib.ListN.{length, getD, take, set, length-take, length-append, List·getD-a
 use lib.Seq.{take-nil, take-suc, take-all, take-append-le, sets, length-take-le, getD-at}
 use borrow.Author.Tests.{eqb-true, eqb-false, eq-eqb, ltb-true, lt-ltb, leb-true, leb-false}
 use Rattle.masks.specs.Lists.{any, all, values, anyBelow, below, has, pairwise, ascending}
-use Rattle.masks.proofs.Laws.Logic.{byBool, and-intro, and-left, and-right, or-left, or-right, or-case}
+use Rattle.masks.proofs.Laws.Logic.{byBool, clash, and-intro, and-left, and-right, or-left, or-right, or-case}
 
 -- ---- the front of a list, and a run of stores
 
@@ -198,6 +198,20 @@ ascending-ext (x ∷ xs) (y ∷ ys) s t f g =
         or-case (eqb x y) (has ys x) (f x (has-here x xs)) (eqb-true x y)
         (λ h. or-case (eqb y x) (has xs y) (g y (has-here y ys)) (λ e. sym (eqb-true y x e))
         (λ m. let l = ascending-head y ys t x h in let k = ascending-head x xs s y m in absurd (omega arith)))
+
+-- ---- two tests
+
+module _ {A : Type 0} (p q : A → Bool) where
+  pub all-mono : ((x : A) → p x ≡ true → q x ≡ true) → (xs : List A) → all p xs ≡ true → all q xs ≡ true
+  all-mono h [] t = refl
+  all-mono h (x ∷ xs) t = and-intro (h x (and-left (p x) (all p xs) t)) (all-mono h xs (and-right (p x) (all p xs) t))
+
+  -- the same of every element that passes a third
+  pub all-same : (r : A → Bool) → ((x : A) → r x ≡ false → p x ≡ q x) → (xs : List A) → any r xs ≡ false → all p xs ≡ all q xs
+  all-same r h [] t = refl
+  all-same r h (x ∷ xs) t =
+      byBool (r x) (λ e. clash (or-left (r x) (any r xs) e) t)
+      (λ e. ap₂ (λ (a b : Bool). a && b) (h x e) (all-same r h xs (ap (λ (a : Bool). a || any r xs) (sym e) ∙ t)))
 
 -- ---- the first n values of a function
 

@@ -1,0 +1,5 @@
+-- The laws of this crate's definitions, for its own proofs and for those of the crates above.
+pub mod Examples
+pub mod Sums
+pub mod Valid
+pub mod Round

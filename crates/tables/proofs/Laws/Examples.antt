@@ -1,0 +1,107 @@
+-- Document 01's examples K1 to K10 that speak of constraints and rounds, as rows of one table, computed from the definitions. (K6 is in the crate
+-- `masks`.) Where document 01 gives no numbers to predicates and variables, they are numbered as they are first named. Assumes nothing.
+use mathlib.Core.Path.{_≡_, refl}
+use mathlib.Core.List.{List, [], _∷_}
+use Prim.Native.Nat.{ℕ}
+use Rattle.masks.specs.Mask.{within}
+use Rattle.masks.specs.Constraint.{admits, drops, least, written, minimise}
+use Rattle.book.specs.Book.{Call, Mode, Clause, Book}
+use Rattle.book.proofs.Laws.Examples.{bench}
+use Rattle.ordering.specs.Adorn.{Table, nothing, isBound, patternOf, bindVar, bindAll, bindHead, headBound, ready, after}
+use Rattle.ordering.specs.Orders.{find, without, each, ordersOf, count, orders}
+use Rattle.ordering.specs.Turns as turns
+use Rattle.ordering.specs.Good.{at, goodClause}
+use Rattle.tables.specs.Table.{modeOf, start, own, defined, good, next, step, table, settled, patternsOf, seek, rounds, final}
+
+compute : Unit {0}
+unfolding within admits drops least written minimise bench nothing isBound patternOf bindVar bindAll bindHead headBound ready after find without each ordersOf count orders turns.goodFrom turns.firstGood at goodClause modeOf start own defined good next step table settled patternsOf seek rounds final
+compute = tt
+
+-- ---- books
+
+abbrev call : ℕ → List ℕ → Call
+call p args = record { pred = p; args = args }
+
+abbrev needs : ℕ → List ℕ → Mode
+needs p masks = record { pred = p; masks = masks }
+
+abbrev clause : Call → List Call → Clause
+clause head body = record { head = head; body = body }
+
+abbrev rules : List ℕ → List Mode → List Clause → Book
+rules arities modes clauses = record { arities = arities; modes = modes; clauses = clauses; query = [] }
+
+-- ---- the table: of each book, its rounds and its final constraints
+
+pub record Row : Type 0 where
+  pub book : Book
+  pub rounds : ℕ
+  pub needs : Table
+
+abbrev pub Holds : Row → Type 0
+Holds r = (rounds (r .book) ≡ r .rounds) × (final (r .book) ≡ r .needs)
+
+abbrev pub EachHolds : List Row → Type 0
+EachHolds [] = Unit {0}
+EachHolds (r ∷ rs) = Holds r × EachHolds rs
+
+pub rows : List Row
+rows =
+    -- "K1: the book above"
+    record { book = bench; rounds = 1; needs = (0 ∷ []) ∷ (1 ∷ []) ∷ (1 ∷ []) ∷ (1 ∷ []) ∷ [] }
+    -- "K2: QU alone: 0 rounds"
+    ∷ record { book = rules [] [] []; rounds = 0; needs = [] }
+    -- "K3: r(X,Y) :- f(X,Y), g(X,Y) with f {1,2}, g {1}: masks 1"
+    ∷ record {
+      book = rules (2 ∷ 2 ∷ 2 ∷ []) (needs 1 (3 ∷ []) ∷ needs 2 (1 ∷ []) ∷ [])
+          (clause (call 0 (0 ∷ 1 ∷ [])) (call 1 (0 ∷ 1 ∷ []) ∷ call 2 (0 ∷ 1 ∷ []) ∷ []) ∷ []);
+      rounds = 1;
+      needs = (1 ∷ []) ∷ (3 ∷ []) ∷ (1 ∷ []) ∷ [];
+    }
+    -- "K4 (document 000, 4.7): r(Y,Z) :- f(X), g(X,Y,Z), h(Z), i(X), j(X,W), with f {1}, g {1,2} or {1,3}, h {1}: masks 1 2"
+    ∷ record {
+      book = rules (2 ∷ 1 ∷ 3 ∷ 1 ∷ 1 ∷ 2 ∷ []) (needs 1 (1 ∷ []) ∷ needs 2 (3 ∷ 5 ∷ []) ∷ needs 3 (1 ∷ []) ∷ [])
+          (clause (call 0 (0 ∷ 1 ∷ []))
+          (call 1 (2 ∷ []) ∷ call 2 (2 ∷ 0 ∷ 1 ∷ []) ∷ call 3 (1 ∷ []) ∷ call 4 (2 ∷ []) ∷ call 5 (2 ∷ 3 ∷ []) ∷ []) ∷ []);
+      rounds = 1;
+      needs = (1 ∷ 2 ∷ []) ∷ (1 ∷ []) ∷ (3 ∷ 5 ∷ []) ∷ (1 ∷ []) ∷ (0 ∷ []) ∷ (0 ∷ []) ∷ [];
+    }
+    -- "K5 (4.10): r(X) :- g(Y), f(X), each needing {1}: ill"
+    ∷ record {
+      book = rules (1 ∷ 1 ∷ 1 ∷ []) (needs 1 (1 ∷ []) ∷ needs 2 (1 ∷ []) ∷ [])
+          (clause (call 0 (0 ∷ [])) (call 1 (1 ∷ []) ∷ call 2 (0 ∷ []) ∷ []) ∷ []);
+      rounds = 1;
+      needs = [] ∷ (1 ∷ []) ∷ (1 ∷ []) ∷ [];
+    }
+    -- "K7: weak(P,H) :- hash(P,H), rainbow(H,P), each needing {1}: masks 1 2"
+    ∷ record {
+      book = rules (2 ∷ 2 ∷ 2 ∷ []) (needs 1 (1 ∷ []) ∷ needs 2 (1 ∷ []) ∷ [])
+          (clause (call 0 (0 ∷ 1 ∷ [])) (call 1 (0 ∷ 1 ∷ []) ∷ call 2 (1 ∷ 0 ∷ []) ∷ []) ∷ []);
+      rounds = 1;
+      needs = (1 ∷ 2 ∷ []) ∷ (1 ∷ []) ∷ (1 ∷ []) ∷ [];
+    }
+    -- "K8: a(X) :- b(X) and b(X) :- m(X), m {1}: 2 rounds, a and b both 1"
+    ∷ record {
+      book = rules (1 ∷ 1 ∷ 1 ∷ []) (needs 2 (1 ∷ []) ∷ [])
+          (clause (call 0 (0 ∷ [])) (call 1 (0 ∷ []) ∷ []) ∷ clause (call 1 (0 ∷ [])) (call 2 (0 ∷ []) ∷ []) ∷ []);
+      rounds = 2;
+      needs = (1 ∷ []) ∷ (1 ∷ []) ∷ (1 ∷ []) ∷ [];
+    }
+    -- "K9: p(X) :- p(X), m(X), m {1}: trivial, 0 rounds"
+    ∷ record {
+      book = rules (1 ∷ 1 ∷ []) (needs 1 (1 ∷ []) ∷ []) (clause (call 0 (0 ∷ [])) (call 0 (0 ∷ []) ∷ call 1 (0 ∷ []) ∷ []) ∷ []);
+      rounds = 0;
+      needs = (0 ∷ []) ∷ (1 ∷ []) ∷ [];
+    }
+    -- "K10: r(X,X) :- f(X), f {1}: masks 1 2"
+    ∷ record {
+      book = rules (2 ∷ 1 ∷ []) (needs 1 (1 ∷ []) ∷ []) (clause (call 0 (0 ∷ 0 ∷ [])) (call 1 (0 ∷ []) ∷ []) ∷ []);
+      rounds = 1;
+      needs = (1 ∷ 2 ∷ []) ∷ (1 ∷ []) ∷ [];
+    }
+    ∷ []
+
+pub examples : EachHolds rows
+unfolding compute rows
+examples =
+    ((refl, refl), ((refl, refl), ((refl, refl), ((refl, refl), ((refl, refl), ((refl, refl), ((refl, refl), ((refl, refl), ((refl, refl), tt)))))))))

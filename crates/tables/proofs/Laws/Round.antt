@@ -1,0 +1,86 @@
+-- One round. What is good stays good where more is bound or the table admits more; and a predicate's constraint after a round hangs only on those
+-- of the predicates that its clauses call. Assumes nothing.
+use mathlib.Core.Path.{_≡_, refl, sym, ap, _∙_, subst}
+use mathlib.Core.Bool.{Bool, true, false, cond, false≢true}
+use mathlib.Core.List.{List, []}
+use Prim.Native.Nat.{ℕ, _^_, _≤_, _<_}
+use lib.Dec.{ltb}
+use lib.ListN.{length, getD, List·getD-eq-default}
+use borrow.Author.Tests.{ltb-true, ltb-false}
+use Rattle.masks.specs.Lists.{any, all}
+use Rattle.masks.specs.Mask.{within}
+use Rattle.masks.specs.Constraint.{admits, written}
+use Rattle.masks.proofs.Laws.Logic.{byBool}
+use Rattle.masks.proofs.Laws.Lists.{all-mono, all-same, length-values, getD-values}
+use Rattle.masks.proofs.Laws.Mask.{within-refl}
+use Rattle.masks.proofs.Laws.Constraint.{Up, written-cong}
+use Rattle.book.specs.Book.{Clause}
+use Rattle.ordering.specs.Adorn.{Table}
+use Rattle.ordering.specs.Good.{goodClause}
+use Rattle.ordering.proofs.Laws.Adorn.{More, more-refl}
+use Rattle.ordering.proofs.Laws.Good.{good-clause-mono, clause-same}
+use Rattle.tables.specs.Table.{entry, own, defined, good, next, step}
+
+-- ---- tables
+
+pub byRange : {P : Type 0} (p n : ℕ) → (p < n → P) → (n ≤ p → P) → P
+byRange p n f g = byBool (ltb p n) (λ t. f (ltb-true p n t)) (λ t. g (ltb-false p n t))
+
+-- nothing is admitted past the end of a table
+pub past-none : {P : Type 0} (T : Table) (p a : ℕ) → length T ≤ p → admits (entry T p) a ≡ true → P
+unfolding admits
+past-none T p a h e = absurd (false≢true (subst (λ (c : List ℕ). admits c a ≡ true) (List·getD-eq-default T [] h) e))
+
+pub more-trans : (T U W : Table) → More T U → More U W → More T W
+more-trans T U W f g p a h = g p a (f p a h)
+
+-- ---- good patterns
+
+pub good-mono : (T U : Table) → More T U → (cs : List Clause) (p a b : ℕ) → within a b ≡ true → good T cs p a ≡ true → good U cs p b ≡ true
+unfolding good
+good-mono T U h cs p a b w =
+    all-mono (λ c. goodClause T c a) (λ c. goodClause U c b) (λ c. good-clause-mono T U c a b h w) (own cs p)
+
+pub good-up : (T : Table) (cs : List Clause) (p : ℕ) → Up (good T cs p)
+good-up T cs p a b w = good-mono T T (more-refl T) cs p a b w
+
+-- MONOTONE: a table that admits more keeps a pattern good
+pub good-more : (T U : Table) → More T U → (cs : List Clause) (p a : ℕ) → good T cs p a ≡ true → good U cs p a ≡ true
+good-more T U h cs p a = good-mono T U h cs p a a (within-refl a)
+
+-- a clause calls a predicate of the set x, and a clause of p does
+abbrev pub calls : (ℕ → Bool) → Clause → Bool
+calls x c = any (λ s. x (s .pred)) (c .body)
+
+unfoldable pub touched : (ℕ → Bool) → List Clause → ℕ → Bool
+touched x cs p = any (calls x) (own cs p)
+
+module _ (T U : Table) (x : ℕ → Bool) (agree : (q : ℕ) → x q ≡ false → entry T q ≡ entry U q) (cs : List Clause) (p : ℕ) where
+  pub good-same : touched x cs p ≡ false → (a : ℕ) → good T cs p a ≡ good U cs p a
+  unfolding touched good
+  good-same n a = all-same (λ c. goodClause T c a) (λ c. goodClause U c a) (calls x) (λ c e. clause-same T U x agree c a e) (own cs p) n
+
+  -- so where no clause of p calls what changed, a round gives p what the round before gave it
+  pub next-same : defined cs p ≡ true → touched x cs p ≡ false → (k : ℕ) → next T cs k p ≡ next U cs k p
+  unfolding next
+  next-same d n k = rw d (written-cong (good T cs p) (good U cs p) (2 ^ k) (λ a l. good-same n a))
+
+-- ---- the table after a round
+
+module _ (ar : List ℕ) (cs : List Clause) (T : Table) where
+  pub step-length : length (step ar cs T) ≡ length ar
+  unfolding step
+  step-length = length-values (λ p. next T cs (getD ar p 0) p) (length ar)
+
+  module _ (p : ℕ) (h : p < length ar) where
+    pub step-at : entry (step ar cs T) p ≡ next T cs (getD ar p 0) p
+    unfolding step
+    step-at = getD-values (λ p. next T cs (getD ar p 0) p) [] (length ar) p h
+
+    pub step-defined : defined cs p ≡ true → entry (step ar cs T) p ≡ written (good T cs p) (2 ^ getD ar p 0)
+    unfolding next
+    step-defined d = step-at ∙ rw d
+
+    pub step-outside : defined cs p ≡ false → entry (step ar cs T) p ≡ entry T p
+    unfolding next
+    step-outside d = step-at ∙ rw d

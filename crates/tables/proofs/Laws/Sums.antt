@@ -1,0 +1,66 @@
+-- Sums over the numbers below n: where no term is larger, the sum is not, and where the sum is no smaller the terms are the same. Assumes nothing.
+use mathlib.Core.Path.{_≡_, refl, sym, ap, _∙_}
+use mathlib.Core.Bool.{Bool, true, false, cond}
+use Prim.Native.Nat.{ℕ, zero, suc, _*_, _≤_, _<_}
+use native.Mathlib.Nat.{suc-mul}
+use native.Mathlib.Omega.{arith}
+use lib.Dec.{eqb}
+use borrow.Author.Tests.{eqb-true, eqb-false}
+use Rattle.masks.proofs.Laws.Logic.{byBool}
+use Rattle.tables.specs.Table.{sumBelow}
+
+pub sum-le : (f g : ℕ → ℕ) (n : ℕ) → ((i : ℕ) → i < n → f i ≤ g i) → sumBelow f n ≤ sumBelow g n
+sum-le f g zero h = omega arith
+sum-le f g (suc n) h = omega (arith, h n (omega arith), sum-le f g n (λ i l. h i (omega arith)))
+
+pub sum-stuck : (f g : ℕ → ℕ) (n : ℕ) → ((i : ℕ) → i < n → f i ≤ g i) → sumBelow g n ≤ sumBelow f n → (i : ℕ) → i < n → f i ≡ g i
+sum-stuck f g zero h e i l = absurd (omega arith)
+sum-stuck f g (suc n) h e i l =
+    byBool (eqb i n)
+    (λ t. let q : i ≡ n = eqb-true i n t in ap f q ∙ last ∙ ap g (sym q))
+    (λ t. let ne : i ≡ n → ⊥ = eqb-false i n t in sum-stuck f g n below rest i (omega arith))
+  where
+    below : (j : ℕ) → j < n → f j ≤ g j
+    below j m = h j (omega arith)
+
+    last : f n ≡ g n
+    last = omega (arith, h n (omega arith), sum-le f g n below)
+
+    rest : sumBelow g n ≤ sumBelow f n
+    rest = omega (arith, h n (omega arith))
+
+pub sum-most : (f : ℕ → ℕ) (m n : ℕ) → ((i : ℕ) → f i ≤ m) → sumBelow f n ≤ n * m
+sum-most f m zero h = omega arith
+sum-most f m (suc n) h = omega (arith, h n, sum-most f m n h, suc-mul n m)
+
+-- ---- how many numbers below n pass a test
+
+abbrev pub bit : Bool → ℕ
+bit b = cond b 1 0
+
+pub howMany : (ℕ → Bool) → ℕ → ℕ
+howMany q n = sumBelow (λ a. bit (q a)) n
+
+bit-le : (a b : Bool) → (a ≡ true → b ≡ true) → bit a ≤ bit b
+bit-le true b h = rw (h refl) (omega arith)
+bit-le false b h = omega arith
+
+bit-inj : (a b : Bool) → bit a ≡ bit b → a ≡ b
+bit-inj true true e = refl
+bit-inj true false e = absurd (omega arith)
+bit-inj false true e = absurd (omega arith)
+bit-inj false false e = refl
+
+pub howMany-le : (q r : ℕ → Bool) (n : ℕ) → ((a : ℕ) → q a ≡ true → r a ≡ true) → howMany q n ≤ howMany r n
+unfolding howMany
+howMany-le q r n h = sum-le (λ a. bit (q a)) (λ a. bit (r a)) n (λ a l. bit-le (q a) (r a) (h a))
+
+pub howMany-most : (q : ℕ → Bool) (n : ℕ) → howMany q n ≤ n
+unfolding howMany
+howMany-most q zero = omega arith
+howMany-most q (suc n) = omega (arith, howMany-most q n, bit-le (q n) true (λ e. refl))
+
+pub howMany-stuck : (q r : ℕ → Bool) (n : ℕ) → ((a : ℕ) → q a ≡ true → r a ≡ true) → howMany r n ≤ howMany q n → (a : ℕ) → a < n → q a ≡ r a
+unfolding howMany
+howMany-stuck q r n h e a l =
+    bit-inj (q a) (r a) (sum-stuck (λ a. bit (q a)) (λ a. bit (r a)) n (λ x m. bit-le (q x) (r x) (h x)) e a l)

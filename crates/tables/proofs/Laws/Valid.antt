@@ -1,0 +1,94 @@
+-- What a well-formed book says of its predicates: their arities and masks are in range, none has both clauses and MO, and every clause is of a
+-- predicate of the book and calls such only. Assumes nothing.
+use mathlib.Core.Path.{_≡_, refl, sym, ap, _∙_}
+use mathlib.Core.Bool.{Bool, true, false, cond, _||_}
+use mathlib.Core.List.{List, [], _∷_}
+use mathlib.Core.Option.{none, some, Option·none-ne-some, Option·some-injective}
+use Prim.Native.Nat.{ℕ, _^_, _≤_, _<_}
+use lib.Dec.{eqb, ltb}
+use lib.ListN.{length, getD}
+use borrow.Author.Tests.{eqb-true, ltb-true}
+use Rattle.masks.specs.Limits.{maxArity}
+use Rattle.masks.specs.Lists.{any, all}
+use Rattle.masks.specs.Constraint.{inRange}
+use Rattle.masks.proofs.Laws.Logic.{byBool, clash, and-left, and-right, or-case, or-right}
+use Rattle.masks.proofs.Laws.Lists.{all-mono, all-at}
+use Rattle.book.specs.Book.{Call, Mode, Clause, Book}
+use Rattle.book.specs.Format.{within, hasMode}
+use Rattle.book.specs.Encode.{callFits, modeFits, clauseFits, WellFormed}
+use Rattle.book.specs.declared.range.Range.the-variants.{Argument, HeadArgument}
+use Rattle.book.proofs.Laws.Trip.{call-known, mode-range, clause-head, clause-free, clause-goals}
+use Rattle.book.proofs.Laws.Bound.{arities-at}
+use Rattle.ordering.specs.Held.{callsBelow}
+use Rattle.tables.specs.Table.{modeOf, defined}
+
+-- ---- a mode
+
+mode-masks : (ar : List ℕ) (ms : List Mode) → all (modeFits ar) ms ≡ true → (p : ℕ) (masks : List ℕ) → modeOf ms p ≡ some masks
+    → inRange (2 ^ getD ar p 0) masks ≡ true
+unfolding modeOf inRange within
+mode-masks ar [] t p masks e = absurd (Option·none-ne-some masks e)
+mode-masks ar (m ∷ ms) t p masks e = go (eqb (m .pred) p) refl (mode-masks ar ms (and-right (modeFits ar m) (all (modeFits ar) ms) t) p masks) e
+  where
+    go : (b : Bool) → eqb (m .pred) p ≡ b → (modeOf ms p ≡ some masks → inRange (2 ^ getD ar p 0) masks ≡ true)
+        → cond b (some (m .masks)) (modeOf ms p) ≡ some masks → inRange (2 ^ getD ar p 0) masks ≡ true
+    go true q r e =
+        rw (← Option·some-injective (m .masks) masks e, ← eqb-true (m .pred) p q)
+        (mode-range ar m (and-left (modeFits ar m) (all (modeFits ar) ms) t))
+    go false q r e = r e
+
+mode-none : (ms : List Mode) (p : ℕ) → hasMode ms p ≡ false → modeOf ms p ≡ none
+unfolding modeOf hasMode
+mode-none [] p e = refl
+mode-none (m ∷ ms) p e = go (eqb (m .pred) p) (mode-none ms p) e
+  where
+    go : (b : Bool) → (any (λ (m : Mode). eqb (m .pred) p) ms ≡ false → modeOf ms p ≡ none) → (b || any (λ (m : Mode). eqb (m .pred) p) ms) ≡ false
+        → cond b (some (m .masks)) (modeOf ms p) ≡ none
+    go true r e = clash refl e
+    go false r e = r e
+
+-- ---- a clause
+
+body-known : (ar : List ℕ) (ms : List Mode) (c : Clause) → clauseFits ar ms c ≡ true → callsBelow (length ar) (c .body) ≡ true
+unfolding callsBelow within
+body-known ar ms c t = all-mono (callFits Argument ar) (λ s. ltb (s .pred) (length ar)) (λ s. call-known Argument ar s) (c .body) (clause-goals ar ms c t)
+
+head-known : (ar : List ℕ) (ms : List Mode) (c : Clause) → clauseFits ar ms c ≡ true → c .head .pred < length ar
+unfolding within
+head-known ar ms c t = ltb-true (c .head .pred) (length ar) (call-known HeadArgument ar (c .head) (clause-head ar ms c t))
+
+defined-fits : (ar : List ℕ) (ms : List Mode) (cs : List Clause) → all (clauseFits ar ms) cs ≡ true → (p : ℕ) → defined cs p ≡ true
+    → (p < length ar) × (hasMode ms p ≡ false)
+unfolding defined
+defined-fits ar ms [] t p d = clash d refl
+defined-fits ar ms (c ∷ cs) t p d =
+    let f = and-left (clauseFits ar ms c) (all (clauseFits ar ms) cs) t in
+    or-case (eqb (c .head .pred) p) (any (λ c. eqb (c .head .pred) p) cs) d
+    (λ e. let q = eqb-true (c .head .pred) p e in
+    (rw (← q) (head-known ar ms c f), rw (← q) (clause-free ar ms c f)))
+    (defined-fits ar ms cs (and-right (clauseFits ar ms c) (all (clauseFits ar ms) cs) t) p)
+
+-- ---- a book
+
+module _ (B : Book) (w : WellFormed B) where
+  pub arity-low : (p : ℕ) → getD (B .arities) p 0 ≤ maxArity
+  arity-low p = arities-at (B .arities) (w .aritiesFit) p
+
+  pub masks-low : (p : ℕ) (masks : List ℕ) → modeOf (B .modes) p ≡ some masks → inRange (2 ^ getD (B .arities) p 0) masks ≡ true
+  masks-low p masks e = mode-masks (B .arities) (B .modes) (w .modesFit) p masks e
+
+  pub defined-known : (p : ℕ) → defined (B .clauses) p ≡ true → p < length (B .arities)
+  defined-known p d = defined-fits (B .arities) (B .modes) (B .clauses) (w .clausesFit) p d .0
+
+  pub defined-apart : (p : ℕ) → defined (B .clauses) p ≡ true → modeOf (B .modes) p ≡ none
+  defined-apart p d = mode-none (B .modes) p (defined-fits (B .arities) (B .modes) (B .clauses) (w .clausesFit) p d .1)
+
+  module _ (d : Clause) (i : ℕ) (h : i < length (B .clauses)) where
+    clause-fits : clauseFits (B .arities) (B .modes) (getD (B .clauses) i d) ≡ true
+    clause-fits = all-at (clauseFits (B .arities) (B .modes)) d (B .clauses) i h (w .clausesFit)
+
+    pub clause-own : getD (B .clauses) i d .head .pred < length (B .arities)
+    clause-own = head-known (B .arities) (B .modes) (getD (B .clauses) i d) clause-fits
+
+    pub clause-calls : callsBelow (length (B .arities)) (getD (B .clauses) i d .body) ≡ true
+    clause-calls = body-known (B .arities) (B .modes) (getD (B .clauses) i d) clause-fits

@@ -1,0 +1,30 @@
+-- What the analysis of any bytes comes to. Assumes nothing.
+use mathlib.Core.List.{List, [], _∷_, _++_}
+use Prim.Native.Nat.{ℕ, zero, suc}
+use lib.ListN.{length}
+use Rattle.masks.specs.Outcome.{Outcome, refused, done}
+use Rattle.book.specs.Book.{Book}
+use Rattle.book.specs.Format.{number, Judged, fault, book, judge}
+use Rattle.ordering.specs.Adorn.{Table}
+use Rattle.tables.specs.Table.{entry, rounds, final}
+
+-- "CN, predicate, n, n masks"
+abbrev pub row : ℕ → List ℕ → List ℕ
+row p masks = 67 ∷ 78 ∷ p ∷ length masks ∷ masks
+
+-- "for each predicate in turn": the first n
+abbrev pub rows : Table → ℕ → List ℕ
+rows T zero = []
+rows T (suc n) = rows T n ++ row n (entry T n)
+
+-- "Its image"
+unfoldable pub image : Book → List ℕ
+image B = rows (final B) (length (B .arities))
+
+-- a fault is given with its number and place; "the analysis also gives its rounds"
+abbrev pub analysed : Judged → Outcome
+analysed (fault f at) = refused (number f) at
+analysed (book B) = done (rounds B) (image B)
+
+unfoldable pub analysis : List ℕ → Outcome
+analysis s = analysed (judge s)

@@ -1,0 +1,95 @@
+-- The analysis. Document 01: "The analysis goes in rounds over the whole table (definition 5.4)." Every definition computes. Assumes nothing.
+use mathlib.Core.Bool.{Bool, true, false, cond, _&&_}
+use mathlib.Core.List.{List, [], _∷_}
+use mathlib.Core.Option.{Option, none, some}
+use Prim.Native.Nat.{ℕ, zero, suc, _+_, _^_}
+use lib.Dec.{eqb}
+use lib.ListN.{length, getD}
+use Rattle.masks.specs.Lists.{any, all, values}
+use Rattle.masks.specs.Constraint.{trivial, written, minimise}
+use Rattle.book.specs.Book.{Mode, Clause, Book}
+use Rattle.ordering.specs.Adorn.{Table}
+use Rattle.ordering.specs.Good.{goodClause}
+
+-- the constraint of a predicate
+abbrev pub entry : Table → ℕ → List ℕ
+entry T p = getD T p []
+
+-- ---- "Table 0: each MO as given and minimised, all others trivial."
+
+-- the alternatives of p, where it has MO
+unfoldable pub modeOf : List Mode → ℕ → Option (List ℕ)
+modeOf [] p = none
+modeOf (m ∷ ms) p = cond (eqb (m .pred) p) (some (m .masks)) (modeOf ms p)
+
+-- "An outside predicate with no MO asks for nothing: it is trivial. One with MO and n = 0 has no alternative: it is ill"
+abbrev pub firstNeed : Option (List ℕ) → List ℕ
+firstNeed none = trivial
+firstNeed (some masks) = minimise masks
+
+unfoldable pub start : Book → Table
+start B = values (λ p. firstNeed (modeOf (B .modes) p)) (length (B .arities))
+
+-- ---- "Table k+1: each predicate with clauses gets exactly the patterns good under table k, the rest keep theirs."
+
+-- the clauses of p
+unfoldable pub own : List Clause → ℕ → List Clause
+own [] p = []
+own (c ∷ cs) p = cond (eqb (c .head .pred) p) (c ∷ own cs p) (own cs p)
+
+-- p has clauses
+unfoldable pub defined : List Clause → ℕ → Bool
+defined cs p = any (λ c. eqb (c .head .pred) p) cs
+
+-- "A predicate's pattern is good when all its clauses are good under it."
+unfoldable pub good : Table → List Clause → ℕ → ℕ → Bool
+good T cs p a = all (λ c. goodClause T c a) (own cs p)
+
+-- the constraint of p, which has k positions, in the table after T
+unfoldable pub next : Table → List Clause → ℕ → ℕ → List ℕ
+next T cs k p = cond (defined cs p) (written (good T cs p) (2 ^ k)) (entry T p)
+
+-- "A round reads only the table before it."
+unfoldable pub step : List ℕ → List Clause → Table → Table
+step arities cs T = values (λ p. next T cs (getD arities p 0) p) (length arities)
+
+unfoldable pub table : Book → ℕ → Table
+table B zero = start B
+table B (suc k) = step (B .arities) (B .clauses) (table B k)
+
+-- ---- "The rounds reported are the least k at which table k+1 equals table k, and table k is the answer."
+
+abbrev pub sameMasks : List ℕ → List ℕ → Bool
+sameMasks [] [] = true
+sameMasks [] (y ∷ ys) = false
+sameMasks (x ∷ xs) [] = false
+sameMasks (x ∷ xs) (y ∷ ys) = eqb x y && sameMasks xs ys
+
+abbrev pub sameTable : Table → Table → Bool
+sameTable [] [] = true
+sameTable [] (d ∷ U) = false
+sameTable (c ∷ T) [] = false
+sameTable (c ∷ T) (d ∷ U) = sameMasks c d && sameTable T U
+
+unfoldable pub settled : Book → ℕ → Bool
+settled B k = sameTable (table B (suc k)) (table B k)
+
+-- the sum of the first n values of a function
+abbrev pub sumBelow : (ℕ → ℕ) → ℕ → ℕ
+sumBelow f zero = 0
+sumBelow f (suc n) = sumBelow f n + f n
+
+-- the patterns of the predicates with clauses, all together: a round that changes something takes one away, so there are no more rounds than this
+unfoldable pub patternsOf : Book → ℕ
+patternsOf B = sumBelow (λ p. cond (defined (B .clauses) p) (2 ^ getD (B .arities) p 0) 0) (length (B .arities))
+
+-- the first j from k on at which the table is settled, looked for at d places
+unfoldable pub seek : Book → ℕ → ℕ → ℕ
+seek B k zero = k
+seek B k (suc d) = let r : ℕ = seek B (suc k) d in cond (settled B k) k r
+
+unfoldable pub rounds : Book → ℕ
+rounds B = seek B 0 (patternsOf B)
+
+unfoldable pub final : Book → Table
+final B = table B (rounds B)
