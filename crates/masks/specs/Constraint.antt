@@ -1,5 +1,5 @@
 -- Constraints: lists of masks. Every definition computes. Assumes nothing.
-use mathlib.Core.Bool.{Bool, not, _&&_}
+use mathlib.Core.Bool.{Bool, true, false, not, _&&_}
 use mathlib.Core.List.{List, [], _∷_, _++_, map}
 use Prim.Native.Nat.{ℕ}
 use lib.Dec.{eqb, ltb}
@@ -55,6 +55,13 @@ written f n = below (least f n) n
 -- "Table 0: each MO as given and minimised": the written form of masks given in any order, with repeats
 unfoldable pub minimise : List ℕ → List ℕ
 minimise c = written (has c) allPatterns
+
+-- two lists of masks are the same
+abbrev pub sameMasks : List ℕ → List ℕ → Bool
+sameMasks [] [] = true
+sameMasks [] (y ∷ ys) = false
+sameMasks (x ∷ xs) [] = false
+sameMasks (x ∷ xs) (y ∷ ys) = eqb x y && sameMasks xs ys
 
 -- ---- "Two constraints of one arity are combined in two ways (definitions 4.13 and 5.1)"
 

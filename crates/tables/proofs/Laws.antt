@@ -3,3 +3,4 @@ pub mod Examples
 pub mod Sums
 pub mod Valid
 pub mod Round
+pub mod Rounds

@@ -6,7 +6,7 @@ use Prim.Native.Nat.{ℕ, zero, suc, _+_, _^_}
 use lib.Dec.{eqb}
 use lib.ListN.{length, getD}
 use Rattle.masks.specs.Lists.{any, all, values}
-use Rattle.masks.specs.Constraint.{trivial, written, minimise}
+use Rattle.masks.specs.Constraint.{trivial, written, minimise, sameMasks}
 use Rattle.book.specs.Book.{Mode, Clause, Book}
 use Rattle.ordering.specs.Adorn.{Table}
 use Rattle.ordering.specs.Good.{goodClause}
@@ -27,8 +27,11 @@ abbrev pub firstNeed : Option (List ℕ) → List ℕ
 firstNeed none = trivial
 firstNeed (some masks) = minimise masks
 
+unfoldable pub firstNeeds : List Mode → ℕ → Table
+firstNeeds ms n = values (λ p. firstNeed (modeOf ms p)) n
+
 unfoldable pub start : Book → Table
-start B = values (λ p. firstNeed (modeOf (B .modes) p)) (length (B .arities))
+start B = firstNeeds (B .modes) (length (B .arities))
 
 -- ---- "Table k+1: each predicate with clauses gets exactly the patterns good under table k, the rest keep theirs."
 
@@ -58,12 +61,6 @@ table B zero = start B
 table B (suc k) = step (B .arities) (B .clauses) (table B k)
 
 -- ---- "The rounds reported are the least k at which table k+1 equals table k, and table k is the answer."
-
-abbrev pub sameMasks : List ℕ → List ℕ → Bool
-sameMasks [] [] = true
-sameMasks [] (y ∷ ys) = false
-sameMasks (x ∷ xs) [] = false
-sameMasks (x ∷ xs) (y ∷ ys) = eqb x y && sameMasks xs ys
 
 abbrev pub sameTable : Table → Table → Bool
 sameTable [] [] = true

@@ -7,6 +7,7 @@ use crate::length::book_length;
 use crate::put::least;
 use crate::put::put_byte;
 use crate::put::put_bytes;
+use crate::put::put_constraint;
 use crate::put::put_mark;
 use book::clause::Call;
 use book::clause::Clause;
@@ -21,8 +22,6 @@ use book::limits::RULES_SIZE;
 use book::mode::has_mode;
 use book::mode::mode_at;
 use masks::constraint::Constraint;
-use masks::constraint::count;
-use masks::constraint::put_masks;
 use masks::reply::Reply;
 ghost use Prim.Native.Nat.{min, _≤_};
 ghost use lib.ListN.{length, take};
@@ -116,11 +115,7 @@ fn put_mode(out: &mut [u8], at: usize, p: u8, c: Constraint) -> usize
     ensures { λ r. ⌜ Wrote (now (out .entry)) (now (out .exit)) at r (encMode (record { pred = p; masks = masksOf c })) ⌝ }
 {
     let q = put_mark(out, at, b"MO");
-    let r = put_byte(out, q, p);
-    let n = count(c);
-    let s = put_byte(out, r, n as u8);
-    put_masks(out, s, c);
-    s + n
+    put_constraint(out, q, p, c)
 }
 
 // Each clause with its subgoals.

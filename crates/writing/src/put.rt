@@ -1,8 +1,13 @@
 // Bytes and marks, stored from a place on; each answers the place after it. A lent array is gone over as a slice, since only then is its
 // length known to the proof.
+use masks::constraint::Constraint;
+use masks::constraint::count;
+use masks::constraint::put_masks;
 ghost use mathlib.Core.Path.{_≡_};
 ghost use mathlib.Core.List.{[], _∷_};
 ghost use Prim.Native.Nat.{min};
+ghost use lib.ListN.{length};
+ghost use Rattle.masks.specs.Held.{masksOf};
 ghost use Rattle.writing.specs.Wrote.{Room, Wrote};
 
 pub fn put_mark(out: &mut [u8], at: usize, m: &[u8; 2]) -> usize
@@ -25,6 +30,18 @@ pub fn put_bytes(out: &mut [u8], at: usize, b: &[u8]) -> usize
         i += 1;
     }
     p
+}
+
+// A predicate, the number of masks, and the masks.
+pub fn put_constraint(out: &mut [u8], at: usize, p: u8, c: Constraint) -> usize
+    requires { ⌜ Room (now out) at (p ∷ length (masksOf c) ∷ masksOf c) ⌝ }
+    ensures { λ r. ⌜ Wrote (now (out .entry)) (now (out .exit)) at r (p ∷ length (masksOf c) ∷ masksOf c) ⌝ }
+{
+    let q = put_byte(out, at, p);
+    let n = count(c);
+    let r = put_byte(out, q, n as u8);
+    put_masks(out, r, c);
+    r + n
 }
 
 pub fn put_byte(out: &mut [u8], at: usize, x: u8) -> usize

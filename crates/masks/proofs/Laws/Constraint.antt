@@ -1,7 +1,7 @@
 -- Constraints. Each mask of a set contains a least one, so the written form admits what the set admits; and a mask of a written form is told
 -- from what the form admits, so two written forms that admit the same patterns are equal. Assumes nothing.
-use mathlib.Core.Path.{_≡_, refl, sym, ap, ap₂, _∙_}
-use mathlib.Core.Bool.{Bool, true, false, not, cond, _&&_, _||_, and-or-distrib-left, and-or-distrib-right, and-false, and-true, or-false}
+use mathlib.Core.Path.{_≡_, refl, sym, ap, ap₂, _∙_, subst}
+use mathlib.Core.Bool.{Bool, true, false, not, cond, _&&_, _||_, and-or-distrib-left, and-or-distrib-right, and-false, and-true, or-false, false≢true}
 use mathlib.Core.List.{List, [], _∷_, _++_, map}
 use Prim.Native.Nat.{ℕ, zero, suc, _+_, _^_, _≤_, _<_}
 use native.Mathlib.Omega.{arith}
@@ -13,7 +13,7 @@ use borrow.Author.Tests.{eqb-true, eq-eqb, ne-eqb, ltb-true, lt-ltb}
 use Rattle.masks.specs.Limits.{allPatterns}
 use Rattle.masks.specs.Mask.{within}
 use Rattle.masks.specs.Lists.{any, all, anyBelow, has, ascending}
-use Rattle.masks.specs.Constraint.{unlike, admits, inRange, apart, isWritten, drops, least, written, minimise, choice, unions, joint}
+use Rattle.masks.specs.Constraint.{unlike, admits, inRange, apart, isWritten, drops, least, written, minimise, choice, unions, joint, sameMasks}
 use Rattle.masks.proofs.Laws.Logic.{byBool, clash, false-of, same, and-intro, and-left, and-right, or-case, not-intro, not-elim}
 use Rattle.masks.proofs.Laws.Lists.{pairwise-head, pairwise-tail, ascending-head, ascending-tail, front-lt, any-append, any-suc, any-at, all-at, has-append, has-here, any-has, has-any, all-has, has-all, anyBelow-at, at-anyBelow, below-has, has-below, anyBelow-cong, below-cong, ascending-below, ascending-ext}
 use Rattle.masks.proofs.Laws.Mask.{within-and, and-within, within-refl, within-trans, within-le, within-antisym, within-or}
@@ -351,3 +351,23 @@ pub admits-joint : (c d : List ℕ) → inRange allPatterns c ≡ true → inRan
     → (a : ℕ) → admits (joint c d) a ≡ (admits c a && admits d a)
 unfolding joint
 admits-joint c d s t a = admits-minimise (unions c d) (unions-inRange 6 c d s t) a ∙ admits-unions c d a
+
+-- ---- the same masks, by the test
+
+pub sameMasks-true : (xs ys : List ℕ) → sameMasks xs ys ≡ true → xs ≡ ys
+sameMasks-true [] [] e = refl
+sameMasks-true [] (y ∷ ys) e = absurd (false≢true e)
+sameMasks-true (x ∷ xs) [] e = absurd (false≢true e)
+sameMasks-true (x ∷ xs) (y ∷ ys) e =
+    ap₂ (λ (z : ℕ) (l : List ℕ). z ∷ l) (eqb-true x y (and-left (eqb x y) (sameMasks xs ys) e))
+    (sameMasks-true xs ys (and-right (eqb x y) (sameMasks xs ys) e))
+
+pub sameMasks-refl : (xs : List ℕ) → sameMasks xs xs ≡ true
+sameMasks-refl [] = refl
+sameMasks-refl (x ∷ xs) = and-intro (eq-eqb x x refl) (sameMasks-refl xs)
+
+pub sameMasks-other : (xs ys : List ℕ) → (xs ≡ ys → ⊥) → false ≡ sameMasks xs ys
+sameMasks-other xs ys ne = sym (false-of (λ t. ne (sameMasks-true xs ys t)))
+
+pub sameMasks-equal : (xs ys : List ℕ) → xs ≡ ys → true ≡ sameMasks xs ys
+sameMasks-equal xs ys e = sym (subst (λ (zs : List ℕ). sameMasks xs zs ≡ true) e (sameMasks-refl xs))

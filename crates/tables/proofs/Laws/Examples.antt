@@ -11,10 +11,10 @@ use Rattle.ordering.specs.Adorn.{Table, nothing, isBound, patternOf, bindVar, b
 use Rattle.ordering.specs.Orders.{find, without, each, ordersOf, count, orders}
 use Rattle.ordering.specs.Turns as turns
 use Rattle.ordering.specs.Good.{at, goodClause}
-use Rattle.tables.specs.Table.{modeOf, start, own, defined, good, next, step, table, settled, patternsOf, seek, rounds, final}
+use Rattle.tables.specs.Table.{modeOf, firstNeeds, start, own, defined, good, next, step, table, settled, patternsOf, seek, rounds, final}
 
 compute : Unit {0}
-unfolding within admits drops least written minimise bench nothing isBound patternOf bindVar bindAll bindHead headBound ready after find without each ordersOf count orders turns.goodFrom turns.firstGood at goodClause modeOf start own defined good next step table settled patternsOf seek rounds final
+unfolding within admits drops least written minimise bench nothing isBound patternOf bindVar bindAll bindHead headBound ready after find without each ordersOf count orders turns.goodFrom turns.firstGood at goodClause modeOf firstNeeds start own defined good next step table settled patternsOf seek rounds final
 compute = tt
 
 -- ---- books
