@@ -64,6 +64,7 @@ pub fn check(s: &[u8]) -> Reply
 // The book that the bytes are, or their first fault.
 pub fn read_book(s: &[u8]) -> Reading
     ensures { λ r. ⌜ found r ≡ format.judge (now (s .entry)) ⌝ }
+    ensures { λ r. ⌜ (r .book .preds ≤ maxPredicates) × (r .book .clauses ≤ maxClauses) ⌝ }
 {
     let mut arities = [0u8; MAX_PREDICATES];
     let mut modes = [0u8; MODES_SIZE];
@@ -116,6 +117,7 @@ fn read_rules<'a>(
 ) -> Found
     requires { ⌜ (from ≤ length (now s)) × (preds ≤ maxPredicates) × Arities (take preds (now arities)) × NoModes (now modes) ⌝ }
     ensures { λ r. ⌜ Reads (now (s .entry)) r (λ n. bookIn preds (now (arities .entry)) (now (modes .exit)) n (now (rules .exit))) (format.rules (take preds (now (arities .entry))) (drop from (now (s .entry)))) ⌝ }
+    ensures { λ r. ⌜ counted r ≤ maxClauses ⌝ }
 {
     let bytes: &[u8] = arities;
     let n = preds as usize;

@@ -4,3 +4,4 @@ pub mod Sums
 pub mod Valid
 pub mod Round
 pub mod Rounds
+pub mod Held

@@ -23,10 +23,10 @@ returns : tie.Need-returns
 returns c =
     let read-book = c .before .before .before .before .before .read-book in
     let g = c .before .before .before .g in
-    rw (← read-book .ensures, g .given .1) (c .refused .ensures ∙ rw (c .before .number .ensures))
+    rw (← read-book .ensures .0, g .given .1) (c .refused .ensures ∙ rw (c .before .number .ensures))
 
 returns-2 : tie.Need-returns-2
-returns-2 c = rw (← c .before .before .read-book .ensures, c .enum-told .given .1)
+returns-2 c = rw (← c .before .before .read-book .ensures .0, c .enum-told .given .1)
 
 pub check-spec : {M : Type 1} → statement M
 check-spec =

@@ -1,4 +1,5 @@
 -- `reading::read_book` meets its contract. The predicates have a fault, which is the book's, or what follows them decides. Assumes nothing.
+use native.Mathlib.Omega.{arith}
 use borrow.Author.Needs.{needs}
 use Rattle.reading.proofs.Laws.Whole.{whole-bad, whole-arities, whole-next}
 use Rattle.reading.proofs.Laws.Runs.{count-next}
@@ -19,7 +20,7 @@ enum-told c = search needs
 returns : tie.Need-returns
 returns c =
     let read-predicates = c .before .before .read-predicates in
-    rw (c .enum-told .given .1) (whole-bad _ (read-predicates .ensures .0) (c .enum-told .given .1))
+    (rw (c .enum-told .given .1) (whole-bad _ (read-predicates .ensures .0) (c .enum-told .given .1)), (omega arith, omega arith))
 
 read-rules-requires : tie.Need-read-rules-requires
 read-rules-requires c κs =
@@ -34,7 +35,10 @@ returns-2 : tie.Need-returns-2
 returns-2 c =
     let read-predicates = c .before .before .before .before .before .before .before .before .read-predicates in
     let p = c .before .before .before .before .before .before .p in
-    rw (c .count .ensures) (whole-next _ (read-predicates .ensures .0) (p .given .1) (c .before .read-rules .ensures))
+    let n = count-next 64 (p .given .1) (read-predicates .ensures .1) in
+    let k = c .before .read-rules .ensures .1 in
+    let e = c .count .ensures in
+    (rw e (whole-next _ (read-predicates .ensures .0) (p .given .1) (c .before .read-rules .ensures .0)), (n, omega arith))
 
 pub read-book-spec : {M : Type 1} → statement M
 read-book-spec =

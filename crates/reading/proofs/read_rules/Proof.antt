@@ -4,7 +4,7 @@ use native.Mathlib.Omega.{arith}
 use lib.Seq.{length-take-le}
 use borrow.Author.Needs.{needs}
 use Rattle.reading.proofs.Laws.Whole.{rules-modes, rules-clauses, rules-asked, rules-query, rules-next, held-is}
-use Rattle.reading.proofs.Laws.Runs.{count-next}
+use Rattle.reading.proofs.Laws.Runs.{count-bad, count-next}
 use Rattle.records.proofs.Laws.Reads.{next-inside}
 use Rattle.reading.proofs.read_rules.Statement.{statement}
 use Rattle.reading.proofs.read_rules.Tie as tie
@@ -29,7 +29,7 @@ returns : tie.Need-returns
 returns c =
     let args = c .before .before .before .before .before .before .before .args in
     let read-modes = c .before .before .read-modes in
-    rules-modes _ _ (args .from) (read-modes .ensures) (c .enum-told .given .1)
+    (rules-modes _ _ (args .from) (read-modes .ensures) (c .enum-told .given .1), count-bad 64 (c .enum-told .given .1))
 
 read-clauses-requires : tie.Need-read-clauses-requires
 read-clauses-requires c κs =
@@ -50,7 +50,7 @@ returns-2 c =
     let read-modes = c .before .before .before .before .before .before .before .before .read-modes in
     let m = c .before .before .before .before .before .before .m in
     let read-clauses = c .before .before .read-clauses in
-    rules-clauses _ _ (args .from) (read-modes .ensures) (m .given .1) (read-clauses .ensures .0) (c .enum-told2 .given .1)
+    (rules-clauses _ _ (args .from) (read-modes .ensures) (m .given .1) (read-clauses .ensures .0) (c .enum-told2 .given .1), read-clauses .ensures .1)
 
 add-read-body : tie.Need-add-read-body
 add-read-body c =
@@ -89,7 +89,7 @@ returns-3 c =
     let read-clauses = c .before .before .before .before .before .before .before .before .before .before .read-clauses in
     let c· = c .before .before .before .before .before .before .before .before .c in
     let read-body = c .before .before .before .before .before .read-body in
-    rules-query _ _ (args .from) (read-modes .ensures) (m .given .1) (read-clauses .ensures .0) (c· .given .1) (read-body .ensures .0) (c .enum-told3 .given .1)
+    (rules-query _ _ (args .from) (read-modes .ensures) (m .given .1) (read-clauses .ensures .0) (c· .given .1) (read-body .ensures .0) (c .enum-told3 .given .1), count-bad 64 (c .enum-told3 .given .1))
 
 returns-4 : tie.Need-returns-4
 returns-4 c =
@@ -100,7 +100,8 @@ returns-4 c =
     let c· = c .before .before .before .before .before .before .before .before .before .c in
     let read-body = c .before .before .before .before .before .before .read-body in
     let put-clause = c .before .before .before .put-clause in
-    rules-next _ _ (args .from) (read-modes .ensures) (m .given .1) (read-clauses .ensures .0) (c· .given .1) (read-body .ensures .0) (c .before .g .given .1) (held-is _ _ _ _ (count-next 64 (c· .given .1) (read-clauses .ensures .1)) (put-clause .ensures))
+    let n = count-next 64 (c· .given .1) (read-clauses .ensures .1) in
+    (rules-next _ _ (args .from) (read-modes .ensures) (m .given .1) (read-clauses .ensures .0) (c· .given .1) (read-body .ensures .0) (c .before .g .given .1) (held-is _ _ _ _ n (put-clause .ensures)), n)
 
 pub read-rules-spec : {M : Type 1} → statement M
 read-rules-spec =
