@@ -116,14 +116,14 @@ pub fn with_unions(set: u64, m: u8, masks: &[u8]) -> u64
     let mut all = set;
     let mut i: usize = 0;
     while i < masks.len() {
-        all = with_mask(all, m | masks[i]);
+        all = with_member(all, m | masks[i]);
         i += 1;
     }
     all
 }
 
-// A set of masks with one more.
-fn with_mask(set: u64, m: u8) -> u64
+// A set with one more member, also where it is a set of other numbers below 64.
+pub fn with_member(set: u64, m: u8) -> u64
     requires { ⌜ m < allPatterns ⌝ }
     ensures { λ r. ⌜ r ≡ bitOr set (2 ^ m) ⌝ }
 {

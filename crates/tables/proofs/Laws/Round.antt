@@ -7,7 +7,6 @@ use Prim.Native.Nat.{ℕ, _^_, _≤_, _<_}
 use lib.Dec.{ltb}
 use lib.ListN.{length, getD, List·getD-eq-default}
 use borrow.Author.Tests.{ltb-true, ltb-false}
-use Rattle.masks.specs.Lists.{any, all}
 use Rattle.masks.specs.Mask.{within}
 use Rattle.masks.specs.Constraint.{admits, written}
 use Rattle.masks.proofs.Laws.Logic.{byBool}
@@ -19,6 +18,7 @@ use Rattle.ordering.specs.Adorn.{Table}
 use Rattle.ordering.specs.Good.{goodClause}
 use Rattle.ordering.proofs.Laws.Adorn.{More, more-refl}
 use Rattle.ordering.proofs.Laws.Good.{good-clause-mono, clause-same}
+use Rattle.tables.specs.Calls.{calls, touched}
 use Rattle.tables.specs.Table.{entry, own, defined, good, next, step}
 
 -- ---- tables
@@ -48,16 +48,11 @@ good-up T cs p a b w = good-mono T T (more-refl T) cs p a b w
 pub good-more : (T U : Table) → More T U → (cs : List Clause) (p a : ℕ) → good T cs p a ≡ true → good U cs p a ≡ true
 good-more T U h cs p a = good-mono T U h cs p a a (within-refl a)
 
--- a clause calls a predicate of the set x, and a clause of p does
-abbrev pub calls : (ℕ → Bool) → Clause → Bool
-calls x c = any (λ s. x (s .pred)) (c .body)
-
-unfoldable pub touched : (ℕ → Bool) → List Clause → ℕ → Bool
-touched x cs p = any (calls x) (own cs p)
+-- ---- who calls whom
 
 module _ (T U : Table) (x : ℕ → Bool) (agree : (q : ℕ) → x q ≡ false → entry T q ≡ entry U q) (cs : List Clause) (p : ℕ) where
   pub good-same : touched x cs p ≡ false → (a : ℕ) → good T cs p a ≡ good U cs p a
-  unfolding touched good
+  unfolding touched good calls
   good-same n a = all-same (λ c. goodClause T c a) (λ c. goodClause U c a) (calls x) (λ c e. clause-same T U x agree c a e) (own cs p) n
 
   -- so where no clause of p calls what changed, a round gives p what the round before gave it

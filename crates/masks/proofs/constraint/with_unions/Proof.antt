@@ -23,11 +23,11 @@ abbrev μ-loop : tie.MeasureT-loop
 loop-holds : tie.Need-loop-holds Inv-loop μ-loop
 loop-holds c = (omega arith, with-start (c .before .args .set) (c .before .args .m) (c .before .args .masks .now))
 
-shared-slice-read-with-mask : tie.Need-shared-slice-read-with-mask Inv-loop μ-loop
-shared-slice-read-with-mask c = search needs
+shared-slice-read-with-member : tie.Need-shared-slice-read-with-member Inv-loop μ-loop
+shared-slice-read-with-member c = search needs
 
-with-mask-requires : tie.Need-with-mask-requires Inv-loop μ-loop
-with-mask-requires c κs =
+with-member-requires : tie.Need-with-member-requires Inv-loop μ-loop
+with-member-requires c κs =
     let l = c .before .before .loop in
     let s = c .before .before .before .before .args in
     union-below (s .m) (s .masks .now) (l .i) (c .before .before .before .before .pre .0) (c .before .before .before .before .pre .1) (omega arith)
@@ -42,7 +42,7 @@ loop-again : tie.Need-loop-again Inv-loop μ-loop
 loop-again c =
     let l = c .before .before .before .loop in
     let s = c .before .before .before .before .before .args in
-    (omega arith, λ k. ap (λ (w : ℕ). bitAt w k) (c .with-mask .ensures) ∙ with-next (s .set) (s .m) (s .masks .now) (l .all) (l .i) (omega arith) (l .inv .1) k)
+    (omega arith, λ k. ap (λ (w : ℕ). bitAt w k) (c .with-member .ensures) ∙ with-next (s .set) (s .m) (s .masks .now) (l .all) (l .i) (omega arith) (l .inv .1) k)
 
 returns : tie.Need-returns Inv-loop μ-loop
 returns c =
@@ -58,8 +58,8 @@ with-unions-spec =
     Inv-loop
     μ-loop
     loop-holds
-    shared-slice-read-with-mask
-    with-mask-requires
+    shared-slice-read-with-member
+    with-member-requires
     add-i
     loop-less
     loop-again
