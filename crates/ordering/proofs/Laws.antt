@@ -5,3 +5,4 @@ pub mod Greedy
 pub mod Adorn
 pub mod Good
 pub mod Steps
+pub mod Held
