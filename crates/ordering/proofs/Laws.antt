@@ -6,3 +6,4 @@ pub mod Adorn
 pub mod Good
 pub mod Steps
 pub mod Held
+pub mod Run

@@ -183,7 +183,7 @@ takes-front x rem (y ∷ σ) m t = go (same? x y) (takes-front x (without y rem)
 abbrev pub Ascends : List ℕ → Type 0
 Ascends l = Sorted (λ (x y : ℕ). x < y) l
 
-ascends-distinct : (l : List ℕ) → Ascends l → Distinct l
+pub ascends-distinct : (l : List ℕ) → Ascends l → Distinct l
 ascends-distinct [] a = tt
 ascends-distinct (x ∷ l) a = (λ m. let h = a .0 x m in absurd (omega arith), ascends-distinct l (a .1))
 
