@@ -18,26 +18,30 @@ use Rattle.book.specs.Book.{Call}
 use Rattle.ordering.specs.Orders.{In, find, without, count}
 use Rattle.ordering.specs.Adorn.{Bound, patternOf, bindAll, ready, after}
 use Rattle.ordering.specs.Good.{at, readyAt, afterAt}
-use Rattle.ordering.specs.Held.{entryIn, tableIn, orElse, picked}
+use Rattle.ordering.specs.Held.{entryIn, tableIn, callsBelow, orElse, picked}
 use Rattle.masks.proofs.Laws.Logic.{clash, and-left, and-right}
 use Rattle.ordering.proofs.Laws.Orders.{find-some, find-none, find-least, without-in, without-keeps, without-gone, Ascends, ascends-distinct, ascends-without, count-in, in-count, count-ascends}
 use Rattle.ordering.proofs.Laws.Greedy.{greedyOf, greedy}
-use Rattle.ordering.proofs.Laws.Held.{tableIn-at}
+use Rattle.ordering.proofs.Laws.Held.{tableIn-at, callsBelow-at}
 
 -- ---- a subgoal as it is read
 
-module _ (body : List Call) (b : Bound) (p : ℕ) {s : Call} (e : s ≡ getD body p (record { pred = 0; args = [] })) where
-  -- with its constraint in the table and its pattern
-  pub ready-read : (table : List ℕ) {c : List ℕ} {a : ℕ} → s .pred < maxPredicates → c ≡ entryIn table (s .pred) → a ≡ patternOf b (s .args)
-      → readyAt (tableIn table maxPredicates) body b p ≡ admits c a
-  unfolding at ready
-  ready-read table h q r =
-      sym (ap (ready (tableIn table maxPredicates) b) e)
-      ∙ ap₂ (λ (c : List ℕ) (a : ℕ). admits c a) (tableIn-at table maxPredicates (s .pred) h ∙ sym q) (sym r)
+module _ (body : List Call) (p : ℕ) {s : Call} (e : s ≡ getD body p (record { pred = 0; args = [] })) where
+  pub pred-read : callsBelow maxPredicates body ≡ true → p < length body → s .pred < maxPredicates
+  unfolding at
+  pred-read t h = rw e (callsBelow-at maxPredicates body p t h)
 
-  pub after-read : {b′ : Bound} → b′ ≡ bindAll b (s .args) → b′ ≡ afterAt body b p
+  -- with its constraint in the table and its pattern
+  pub ready-read : (table : List ℕ) (b : Bound) {c : List ℕ} {a : ℕ} → callsBelow maxPredicates body ≡ true → p < length body → c ≡ entryIn table (s .pred)
+      → a ≡ patternOf b (s .args) → readyAt (tableIn table maxPredicates) body b p ≡ admits c a
+  unfolding at ready
+  ready-read table b t h q r =
+      sym (ap (ready (tableIn table maxPredicates) b) e)
+      ∙ ap₂ (λ (c : List ℕ) (a : ℕ). admits c a) (tableIn-at table maxPredicates (s .pred) (pred-read t h) ∙ sym q) (sym r)
+
+  pub after-read : (b : Bound) {b′ : Bound} → b′ ≡ bindAll b (s .args) → b′ ≡ afterAt body b p
   unfolding at after
-  after-read q = q ∙ ap (after b) e
+  after-read b q = q ∙ ap (after b) e
 
 -- ---- the scan
 
