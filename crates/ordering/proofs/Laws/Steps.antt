@@ -7,7 +7,7 @@ use Prim.Native.Nat.{ℕ, zero, suc, _+_, _*_, _-_, _^_, _≤_, _<_}
 use native.Mathlib.Nat.{pow-suc}
 use native.Mathlib.Numerals.{add-one}
 use native.Mathlib.Omega.{arith}
-use lib.ListN.{length, getD, set, take, drop, drop-of-length-le, length-set, length-take, length-drop}
+use lib.ListN.{length, getD, set, take, drop, drop-of-length-le, length-take, length-drop}
 use lib.Pow.{pow-pos}
 use lib.Seq.{drop-cons, getD-take}
 use borrow.Author.Tests.{lt-ltb, le-ltb, eq-eqb, ne-eqb}
@@ -40,23 +40,20 @@ first-at n l i h = let e = length-take n l in getD-take n l i 0 (omega arith)
 -- the loop that binds: what is left, from argument i on, comes to what all come to
 pub record Binding (b₀ : Bound) (args : List ℕ) (i : ℕ) (b : Bound) : Type 0 where
   pub most : i ≤ length args
-  pub size : length b ≡ variables
   pub rest : bindAll b (drop i args) ≡ bindAll b₀ args
 
-pub binding-start : (b : Bound) (args : List ℕ) → length b ≡ variables → Binding b args 0 b
-binding-start b args e = record { most = omega arith; size = e; rest = refl }
+pub binding-start : (b : Bound) (args : List ℕ) → Binding b args 0 b
+binding-start b args = record { most = omega arith; rest = refl }
 
 module _ {b₀ b : Bound} (n : ℕ) (l : List ℕ) {i : ℕ} (w : Binding b₀ (take n l) i b) (h : i < length (take n l)) where
-  binding-next : {b′ : Bound} → bindVar b (getD l i 0) ≡ b′ → length b′ ≡ variables → Binding b₀ (take n l) (i + 1) b′
-  binding-next {b′} q e =
-      let v : bindVar b (getD (take n l) i 0) ≡ b′ = rw (first-at n l i h) q in
-      record { most = omega arith; size = e; rest = sym (ap (λ (u : Bound). bindAll u (drop (i + 1) (take n l))) v) ∙ sym (all-step (take n l) i h b) ∙ w .rest }
+  binding-next : Binding b₀ (take n l) (i + 1) (bindVar b (getD l i 0))
+  binding-next = record { most = omega arith; rest = rw (sym (first-at n l i h)) (sym (all-step (take n l) i h b) ∙ w .rest) }
 
   pub binding-var : getD l i 0 < variables → Binding b₀ (take n l) (i + 1) (set b (getD l i 0) true)
-  binding-var k = binding-next (var-set b (getD l i 0) k) (length-set b (getD l i 0) true ∙ w .size)
+  binding-var k = rw (sym (var-set b (getD l i 0) k)) binding-next
 
   pub binding-skip : variables ≤ getD l i 0 → Binding b₀ (take n l) (i + 1) b
-  binding-skip k = binding-next (var-skip b (getD l i 0) k) (w .size)
+  binding-skip k = rw (var-skip b (getD l i 0) k) at binding-next
 
 pub binding-end : {b₀ b : Bound} {args : List ℕ} {i : ℕ} → Binding b₀ args i b → length args ≤ i → b ≡ bindAll b₀ args
 binding-end {b₀} {b} {args} {i} w h = sym (all-end b args i h) ∙ w .rest

@@ -19,7 +19,7 @@ arguments-requires : tie.Need-arguments-requires Inv-loop μ-loop
 arguments-requires c κs = search needs
 
 loop-holds : tie.Need-loop-holds Inv-loop μ-loop
-loop-holds c = binding-start (c .before .args .bound) (callOf (c .before .args .t2) .args) (search needs)
+loop-holds c = binding-start (c .before .args .bound) (callOf (c .before .args .t2) .args)
 
 element-copy-out-v : tie.Need-element-copy-out-v Inv-loop μ-loop
 element-copy-out-v c =
@@ -31,7 +31,7 @@ cast-b : tie.Need-cast-b Inv-loop μ-loop
 cast-b c = omega arith
 
 array-write-b : tie.Need-array-write-b Inv-loop μ-loop
-array-write-b c = let e = c .before .before .before .loop .inv .size in omega arith
+array-write-b c = omega arith
 
 add-i : tie.Need-add-i Inv-loop μ-loop
 add-i c = omega arith

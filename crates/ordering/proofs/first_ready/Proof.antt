@@ -1,5 +1,5 @@
 -- `ordering::first_ready` meets its contract. The loop's invariant: what the scan comes to is the first from p on. Assumes nothing.
-use mathlib.Core.Path.{_≡_, sym, _∙_}
+use mathlib.Core.Path.{sym, _∙_}
 use mathlib.Core.Logic.{⊎-elim}
 use Prim.Native.Nat.{_-_}
 use native.Mathlib.Omega.{arith}
@@ -11,7 +11,6 @@ use Rattle.book.specs.Held.{clauseAt}
 use Rattle.ordering.specs.Good.{readyAt}
 use Rattle.ordering.specs.Held.{tableIn}
 use Rattle.book.proofs.Laws.Held.{clauseAt-count}
-use Rattle.ordering.proofs.Laws.Held.{callsBelow-at}
 use Rattle.ordering.proofs.Laws.Run.{pred-read, ready-read, Scan, scan-start, scan-used, scan-waits, scan-here, scan-end}
 use Rattle.ordering.proofs.first_ready.Statement.{statement}
 use Rattle.ordering.proofs.first_ready.Tie as tie
@@ -74,7 +73,7 @@ loop-again c =
     let n = c .before .before .before .subgoals-at .ensures in
     let l = c .before .before .loop in
     ⊎-elim
-    (λ w. 
+    (λ w.
     let r = ready-read (clauseAt (s .rules .now) (s .k) .body) (l .p) (w .1 .ensures) (s .table .now) (s .bound) (b .pre .1) (omega arith) (w .2 .ensures) (w .3 .ensures) in
     scan-waits (l .inv) (omega arith) (r ∙ sym (w .4 .ensures) ∙ w .5 .left))
     (λ w. scan-used (l .inv) (omega arith) (not-false _ (w .left)))
