@@ -14,6 +14,12 @@ use borrow.Author.Tests.{eqb-true, eqb-false, eq-eqb, ne-eqb}
 use Rattle.ordering.specs.Orders.{In, Distinct, Rearranges, LexLt, Sorted, find, without, each, ordersOf, count, orders}
 use Rattle.masks.proofs.Laws.Logic.{byBool, clash}
 
+-- ---- by computing
+
+pub orders-three : orders 3 ≡ (0 ∷ 1 ∷ 2 ∷ []) ∷ (0 ∷ 2 ∷ 1 ∷ []) ∷ (1 ∷ 0 ∷ 2 ∷ []) ∷ (1 ∷ 2 ∷ 0 ∷ []) ∷ (2 ∷ 0 ∷ 1 ∷ []) ∷ (2 ∷ 1 ∷ 0 ∷ []) ∷ []
+unfolding without each ordersOf count orders
+orders-three = refl
+
 -- ---- the first element that passes
 
 module _ {A : Type 0} (p : A → Bool) where

@@ -185,21 +185,23 @@ module _ {B : Type 0} {ready : B → ℕ → Bool} {after : B → ℕ → B} whe
           go none q e = refl
           go (some x) q e = let m = w .left .only x (find-some (ready b) (w .rem) x q .0) .0 in absurd (omega arith)
 
-      pub run-next : r < n → Run ready after b₀ n (i + 1) (after b r) (set used r true) (set places i r)
+      -- it is taken: stored behind the others, and its flag is set
+      pub run-next : {b′ : B} {used′ : List Bool} {places′ : List ℕ} → r < n → b′ ≡ after b r → used′ ≡ set used r true → places′ ≡ set places i r
+          → Run ready after b₀ n (i + 1) b′ used′ places′
       unfolding greedyOf
-      run-next k =
+      run-next k eb eu ep =
           let f = w .flags in
           let t = w .room in
           let s : n - i ≡ suc (n - (i + 1)) = omega arith in
           let e : find (ready b) (w .rem) ≡ some r = go (find (ready b) (w .rem)) found in
           record {
             most = omega arith;
-            flags = simp length-set f;
-            room = simp length-set t;
+            flags = rw (eu, length-set used r true) f;
+            room = rw (ep, length-set places i r) t;
             rem = without r (w .rem);
-            left = left-next r (omega arith) (w .left);
+            left = rw eu (left-next r (omega arith) (w .left));
             rest =
-                rw (add-one i, take-suc-set places i r (omega arith))
+                rw (eb, ep, add-one i, take-suc-set places i r (omega arith))
                 (sym (joined (greedyOf ready after (n - suc i) (after b r) (without r (w .rem)))) ∙ rw (s, e, add-one i) at (w .rest));
           }
         where

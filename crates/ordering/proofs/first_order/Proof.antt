@@ -1,6 +1,6 @@
 -- `ordering::first_order` meets its contract. The loop's invariant: the first i places, with what the greedy rule makes of those not used, are what
 -- it makes of all; and that is the first good order. Assumes nothing.
-use mathlib.Core.Path.{sym, _∙_}
+use mathlib.Core.Path.{refl, sym, _∙_}
 use Prim.Native.Nat.{_-_}
 use native.Mathlib.Omega.{arith}
 use lib.ListN.{length}
@@ -81,8 +81,8 @@ loop-again c =
     let n = c .before .before .before .before .before .before .subgoals-at .ensures in
     let l = c .before .before .before .before .before .loop in
     let r = c .before .before .before .first-ready in
-    rw (after-read (clauseAt (s .rules .now) (s .k) .body) (r .result) (c .before .subgoal-at .ensures) (l .now) (c .bind-all .ensures))
-    (run-next (l .inv) (r .result) (r .ensures) (omega arith) (omega arith))
+    run-next (l .inv) (r .result) (r .ensures) (omega arith) (omega arith)
+    (after-read (clauseAt (s .rules .now) (s .k) .body) (r .result) (c .before .subgoal-at .ensures) (l .now) (c .bind-all .ensures)) refl refl
 
 cast-count : tie.Need-cast-count Inv-loop μ-loop
 cast-count c =
