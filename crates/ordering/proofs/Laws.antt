@@ -1,7 +1,10 @@
 -- The laws of this crate's definitions, for its own proofs and for those of the crates above. A file that has the name of one in `specs/`
--- has the laws of what is defined there; `Greedy` and `Passes` have those of `Turns`.
+-- has the laws of what is defined there; `Greedy` has those of `Turns`, `Steps` and `Run` those of the code's loops.
 pub mod Orders
 pub mod Greedy
 pub mod Adorn
 pub mod Good
 pub mod Steps
+pub mod Held
+pub mod Run
+pub mod Examples

@@ -3,7 +3,7 @@
 use mathlib.Core.Path.{_≡_, refl, ap, _∙_}
 use mathlib.Core.Bool.{Bool, true, false, cond}
 use mathlib.Core.Logic.{⊎-elim}
-use mathlib.Core.List.{List, [], _∷_}
+use mathlib.Core.List.{List, [], _∷_, map}
 use Prim.Native.Nat.{ℕ, zero, suc, _+_, _*_, _/_, _%_, _≤_, _<_}
 use native.Mathlib.Omega.{arith}
 use lib.Dec.{eqb, ltb}
@@ -19,6 +19,27 @@ use Rattle.masks.proofs.Laws.Logic.{clash}
 use Rattle.masks.proofs.Laws.Mask.{within-and, and-within, halved, doubled}
 use Rattle.masks.proofs.Laws.Constraint.{admits-up}
 use Rattle.ordering.proofs.Laws.Orders.{same?}
+
+-- ---- document 01's words, by computing
+
+-- "a literal or a bound variable gives a bound position, anything else a free one"; "A wildcard is always free and binds nothing"
+pub positions : patternOf (bindVar nothing 0) (0 ∷ 1 ∷ 254 ∷ 255 ∷ []) ≡ 9
+unfolding nothing isBound patternOf bindVar
+positions = refl
+
+pub wildcard-none : bindAll nothing (254 ∷ []) ≡ nothing
+unfolding nothing bindVar bindAll
+wildcard-none = refl
+
+-- "Binding X at the first place of p(X,X) in time for the second. Both are free."
+pub both-free : patternOf nothing (0 ∷ 0 ∷ []) ≡ 0
+unfolding nothing isBound patternOf
+both-free = refl
+
+-- "a variable at two head positions is bound if either is"
+pub either-binds : map (λ a. isBound (headBound (0 ∷ 0 ∷ []) a) 0) (0 ∷ 1 ∷ 2 ∷ 3 ∷ []) ≡ false ∷ true ∷ true ∷ true ∷ []
+unfolding nothing isBound bindVar bindHead headBound
+either-binds = refl
 
 -- ---- what is bound: b′ has as many variables, and at least the bound ones of b
 

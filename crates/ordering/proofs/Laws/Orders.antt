@@ -14,6 +14,12 @@ use borrow.Author.Tests.{eqb-true, eqb-false, eq-eqb, ne-eqb}
 use Rattle.ordering.specs.Orders.{In, Distinct, Rearranges, LexLt, Sorted, find, without, each, ordersOf, count, orders}
 use Rattle.masks.proofs.Laws.Logic.{byBool, clash}
 
+-- ---- by computing
+
+pub orders-three : orders 3 ≡ (0 ∷ 1 ∷ 2 ∷ []) ∷ (0 ∷ 2 ∷ 1 ∷ []) ∷ (1 ∷ 0 ∷ 2 ∷ []) ∷ (1 ∷ 2 ∷ 0 ∷ []) ∷ (2 ∷ 0 ∷ 1 ∷ []) ∷ (2 ∷ 1 ∷ 0 ∷ []) ∷ []
+unfolding without each ordersOf count orders
+orders-three = refl
+
 -- ---- the first element that passes
 
 module _ {A : Type 0} (p : A → Bool) where
@@ -183,7 +189,7 @@ takes-front x rem (y ∷ σ) m t = go (same? x y) (takes-front x (without y rem)
 abbrev pub Ascends : List ℕ → Type 0
 Ascends l = Sorted (λ (x y : ℕ). x < y) l
 
-ascends-distinct : (l : List ℕ) → Ascends l → Distinct l
+pub ascends-distinct : (l : List ℕ) → Ascends l → Distinct l
 ascends-distinct [] a = tt
 ascends-distinct (x ∷ l) a = (λ m. let h = a .0 x m in absurd (omega arith), ascends-distinct l (a .1))
 

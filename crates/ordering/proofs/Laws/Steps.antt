@@ -1,15 +1,15 @@
 -- Loops over the arguments of a call, one argument at a time: what is left of the list is its first argument and then the rest, so binding goes
 -- up the list and the pattern, whose last argument has the highest bit, down. Assumes nothing.
-use mathlib.Core.Path.{_≡_, sym, ap, _∙_}
+use mathlib.Core.Path.{_≡_, refl, sym, ap, _∙_}
 use mathlib.Core.Bool.{Bool, true, false}
 use mathlib.Core.List.{List, [], _∷_}
 use Prim.Native.Nat.{ℕ, zero, suc, _+_, _*_, _-_, _^_, _≤_, _<_}
 use native.Mathlib.Nat.{pow-suc}
 use native.Mathlib.Numerals.{add-one}
 use native.Mathlib.Omega.{arith}
-use lib.ListN.{length, getD, set, drop, drop-of-length-le, length-drop}
+use lib.ListN.{length, getD, set, take, drop, drop-of-length-le, length-take, length-drop}
 use lib.Pow.{pow-pos}
-use lib.Seq.{drop-cons}
+use lib.Seq.{drop-cons, getD-take}
 use borrow.Author.Tests.{lt-ltb, le-ltb, eq-eqb, ne-eqb}
 use Rattle.masks.specs.Limits.{maxArity}
 use Rattle.ordering.specs.Adorn.{variables, Bound, literal, isBound, bit, patternOf, bindVar, bindAll}
@@ -32,6 +32,31 @@ all-step l i h b = rw (add-one i, drop-cons l i 0 h)
 pub all-end : (b : Bound) (l : List ℕ) (i : ℕ) → length l ≤ i → bindAll b (drop i l) ≡ b
 unfolding bindAll
 all-end b l i h = rw (drop-of-length-le l h)
+
+-- an array's first n, where they are
+pub first-at : (n : ℕ) (l : List ℕ) (i : ℕ) → i < length (take n l) → getD (take n l) i 0 ≡ getD l i 0
+first-at n l i h = let e = length-take n l in getD-take n l i 0 (omega arith)
+
+-- the loop that binds: what is left, from argument i on, comes to what all come to
+pub record Binding (b₀ : Bound) (args : List ℕ) (i : ℕ) (b : Bound) : Type 0 where
+  pub most : i ≤ length args
+  pub rest : bindAll b (drop i args) ≡ bindAll b₀ args
+
+pub binding-start : (b : Bound) (args : List ℕ) → Binding b args 0 b
+binding-start b args = record { most = omega arith; rest = refl }
+
+module _ {b₀ b : Bound} (n : ℕ) (l : List ℕ) {i : ℕ} (w : Binding b₀ (take n l) i b) (h : i < length (take n l)) where
+  binding-next : Binding b₀ (take n l) (i + 1) (bindVar b (getD l i 0))
+  binding-next = record { most = omega arith; rest = rw (sym (first-at n l i h)) (sym (all-step (take n l) i h b) ∙ w .rest) }
+
+  pub binding-var : getD l i 0 < variables → Binding b₀ (take n l) (i + 1) (set b (getD l i 0) true)
+  binding-var k = rw (sym (var-set b (getD l i 0) k)) binding-next
+
+  pub binding-skip : variables ≤ getD l i 0 → Binding b₀ (take n l) (i + 1) b
+  binding-skip k = rw (var-skip b (getD l i 0) k) at binding-next
+
+pub binding-end : {b₀ b : Bound} {args : List ℕ} {i : ℕ} → Binding b₀ args i b → length args ≤ i → b ≡ bindAll b₀ args
+binding-end {b₀} {b} {args} {i} w h = sym (all-end b args i h) ∙ w .rest
 
 -- ---- the bit of an argument
 
@@ -66,6 +91,12 @@ pub pattern-down : (b : Bound) (l : List ℕ) (i : ℕ) → 0 < i → i ≤ leng
 pattern-down b l i h k =
     let e : i - 1 + 1 ≡ i = omega arith in
     sym (pattern-step l (i - 1) (omega arith) b ∙ ap (λ j. patternOf b (drop j l) * 2 + bitOf b (getD l (i - 1) 0)) e)
+
+-- the same with the bit as the code has it, of an array's first n
+pub pattern-next : (b : Bound) (n : ℕ) (l : List ℕ) (i x : ℕ) → 0 < i → i ≤ length (take n l) → x ≡ bit (isBound b (getD l (i - 1) 0))
+    → patternOf b (drop i (take n l)) * 2 + x ≡ patternOf b (drop (i - 1) (take n l))
+unfolding bitOf
+pattern-next b n l i x h k e = rw (e, sym (first-at n l (i - 1) (omega arith))) (pattern-down b (take n l) i h k)
 
 pub pattern-end : (b : Bound) (l : List ℕ) (i : ℕ) → length l ≤ i → patternOf b (drop i l) ≡ 0
 unfolding patternOf

@@ -1,0 +1,67 @@
+-- `ordering::bind_all` meets its contract. The loop's invariant: what is left to bind, from argument i on, comes to what all come to. Assumes nothing.
+use mathlib.Core.Logic.{⊎-elim}
+use Prim.Native.Nat.{_-_}
+use native.Mathlib.Omega.{arith}
+use lib.ListN.{length-take}
+use borrow.Author.Needs.{needs}
+use Rattle.book.specs.Held.{callOf}
+use Rattle.ordering.proofs.Laws.Steps.{Binding, binding-start, binding-var, binding-skip, binding-end}
+use Rattle.ordering.proofs.bind_all.Statement.{statement}
+use Rattle.ordering.proofs.bind_all.Tie as tie
+
+abbrev Inv-loop : tie.InvT-loop
+Inv-loop s n b₀ i₀ b i = Binding b₀ (callOf s .args) i b
+
+abbrev μ-loop : tie.MeasureT-loop
+μ-loop s n b₀ i₀ b i = n - i
+
+arguments-requires : tie.Need-arguments-requires Inv-loop μ-loop
+arguments-requires c κs = search needs
+
+loop-holds : tie.Need-loop-holds Inv-loop μ-loop
+loop-holds c = binding-start (c .before .args .bound) (callOf (c .before .args .t2) .args)
+
+element-copy-out-v : tie.Need-element-copy-out-v Inv-loop μ-loop
+element-copy-out-v c =
+    let s = c .before .before .before .args .t2 in
+    let n = c .before .before .arguments .ensures .0 in
+    omega (arith, length-take (s .n) (s .args))
+
+cast-b : tie.Need-cast-b Inv-loop μ-loop
+cast-b c = omega arith
+
+array-write-b : tie.Need-array-write-b Inv-loop μ-loop
+array-write-b c = omega arith
+
+add-i : tie.Need-add-i Inv-loop μ-loop
+add-i c = omega arith
+
+loop-less : tie.Need-loop-less Inv-loop μ-loop
+loop-less c = omega arith
+
+loop-again : tie.Need-loop-again Inv-loop μ-loop
+loop-again c =
+    let s = c .before .before .before .before .before .args .t2 in
+    let n = c .before .before .before .before .arguments .ensures .0 in
+    let l = c .before .before .before .loop .inv in
+    ⊎-elim (λ w. rw (w .1) (binding-var (s .n) (s .args) l (omega arith) (omega arith)))
+    (λ w. rw (w .1) (binding-skip (s .n) (s .args) l (omega arith) (omega arith))) (c .if1 .came)
+
+returns : tie.Need-returns Inv-loop μ-loop
+returns c = let n = c .before .before .arguments .ensures .0 in binding-end (c .before .loop .inv) (omega arith)
+
+pub bind-all-spec : {M : Type 1} → statement M
+bind-all-spec =
+    tie.close
+    (tie.spec
+    Inv-loop
+    μ-loop
+    arguments-requires
+    loop-holds
+    element-copy-out-v
+    cast-b
+    array-write-b
+    add-i
+    loop-less
+    loop-again
+    returns)

@@ -1,0 +1,120 @@
+-- `ordering::first_order` meets its contract. The loop's invariant: the first i places, with what the greedy rule makes of those not used, are what
+-- it makes of all; and that is the first good order. Assumes nothing.
+use mathlib.Core.Path.{refl, sym, _∙_}
+use Prim.Native.Nat.{_-_}
+use native.Mathlib.Omega.{arith}
+use lib.ListN.{length}
+use borrow.Author.Needs.{needs}
+use Rattle.book.specs.Limits.{maxPredicates}
+use Rattle.book.specs.Held.{clauseAt}
+use Rattle.ordering.specs.Good.{readyAt, afterAt}
+use Rattle.ordering.specs.Held.{tableIn}
+use Rattle.book.proofs.Laws.Held.{clauseAt-count}
+use Rattle.ordering.proofs.Laws.Good.{greedy-is-first}
+use Rattle.ordering.proofs.Laws.Run.{after-read, Run, run-start, run-next, run-stuck, run-end}
+use Rattle.ordering.proofs.first_order.Statement.{statement}
+use Rattle.ordering.proofs.first_order.Tie as tie
+
+abbrev Inv-loop : tie.InvT-loop
+Inv-loop rules k table n places₀ used₀ now₀ i₀ places used now i =
+    let body = clauseAt rules k .body in
+    Run (readyAt (tableIn table maxPredicates) body) (afterAt body) now₀ (length body) i now used places
+
+abbrev μ-loop : tie.MeasureT-loop
+μ-loop rules k table n places₀ used₀ now₀ i₀ places used now i = n - i
+
+subgoals-at-requires : tie.Need-subgoals-at-requires Inv-loop μ-loop
+subgoals-at-requires c κs = c .pre .0
+
+loop-holds : tie.Need-loop-holds Inv-loop μ-loop
+loop-holds c =
+    let s = c .before .args in
+    let n = clauseAt-count (s .rules .now) (s .k) in
+    run-start (s .bound) (length (clauseAt (s .rules .now) (s .k) .body)) 8 _ (omega arith) (omega arith)
+
+first-ready-requires : tie.Need-first-ready-requires Inv-loop μ-loop
+first-ready-requires c κs = c .before .before .before .pre
+
+returns : tie.Need-returns Inv-loop μ-loop
+returns c =
+    let s = c .before .before .before .before .before .args in
+    let n = c .before .before .before .before .subgoals-at .ensures in
+    let r = c .before .first-ready in
+    sym (run-stuck (c .before .before .before .loop .inv) (r .result) (r .ensures) (omega arith) (omega arith))
+    ∙ greedy-is-first (tableIn (s .table .now) maxPredicates) (clauseAt (s .rules .now) (s .k) .body) (s .bound)
+
+subgoal-at-requires : tie.Need-subgoal-at-requires Inv-loop μ-loop
+subgoal-at-requires c κs =
+    let n = c .before .before .before .before .subgoals-at .ensures in
+    (c .before .before .before .before .before .pre .0, omega arith)
+
+bind-all-requires : tie.Need-bind-all-requires Inv-loop μ-loop
+bind-all-requires c κs = search needs
+
+cast-places : tie.Need-cast-places Inv-loop μ-loop
+cast-places c =
+    let s = c .before .before .before .before .before .before .before .args in
+    let n = c .before .before .before .before .before .before .subgoals-at .ensures in
+    omega (arith, clauseAt-count (s .rules .now) (s .k))
+
+array-write-places : tie.Need-array-write-places Inv-loop μ-loop
+array-write-places c =
+    let s = c .before .before .before .before .before .before .before .args in
+    let n = c .before .before .before .before .before .before .subgoals-at .ensures in
+    omega (arith, clauseAt-count (s .rules .now) (s .k))
+
+array-write-used : tie.Need-array-write-used Inv-loop μ-loop
+array-write-used c =
+    let s = c .before .before .before .before .before .before .before .args in
+    let n = c .before .before .before .before .before .before .subgoals-at .ensures in
+    omega (arith, clauseAt-count (s .rules .now) (s .k))
+
+add-i : tie.Need-add-i Inv-loop μ-loop
+add-i c = omega arith
+
+loop-less : tie.Need-loop-less Inv-loop μ-loop
+loop-less c = omega arith
+
+loop-again : tie.Need-loop-again Inv-loop μ-loop
+loop-again c =
+    let s = c .before .before .before .before .before .before .before .args in
+    let n = c .before .before .before .before .before .before .subgoals-at .ensures in
+    let l = c .before .before .before .before .before .loop in
+    let r = c .before .before .before .first-ready in
+    run-next (l .inv) (r .result) (r .ensures) (omega arith) (omega arith)
+    (after-read (clauseAt (s .rules .now) (s .k) .body) (r .result) (c .before .subgoal-at .ensures) (l .now) (c .bind-all .ensures)) refl refl
+
+cast-count : tie.Need-cast-count Inv-loop μ-loop
+cast-count c =
+    let s = c .before .before .before .args in
+    let n = c .before .before .subgoals-at .ensures in
+    omega (arith, clauseAt-count (s .rules .now) (s .k))
+
+returns-2 : tie.Need-returns-2 Inv-loop μ-loop
+returns-2 c =
+    let s = c .before .before .before .args in
+    let n = c .before .before .subgoals-at .ensures in
+    rw n
+    (sym (run-end (c .before .loop .inv) (omega arith))
+    ∙ greedy-is-first (tableIn (s .table .now) maxPredicates) (clauseAt (s .rules .now) (s .k) .body) (s .bound))
+
+pub first-order-spec : {M : Type 1} → statement M
+first-order-spec =
+    tie.close
+    (tie.spec
+    Inv-loop
+    μ-loop
+    subgoals-at-requires
+    loop-holds
+    first-ready-requires
+    returns
+    subgoal-at-requires
+    bind-all-requires
+    cast-places
+    array-write-places
+    array-write-used
+    add-i
+    loop-less
+    loop-again
+    cast-count
+    returns-2)
