@@ -13,16 +13,21 @@ use lib.Seq.{take-suc, getD-take, getD-set-same, getD-set-other, set-getD, lengt
 use borrow.Author.Tests.{eqb-true, eqb-false, eq-eqb, ne-eqb, lt-ltb, le-ltb, leb-true, leb-false}
 use Rattle.masks.specs.Limits.{maxArity, allPatterns}
 use Rattle.masks.specs.Mask.{within}
-use Rattle.masks.specs.Constraint.{admits}
+use Rattle.masks.specs.Constraint.{admits, inRange}
 use Rattle.masks.specs.Set.{bitAt}
 use Rattle.ordering.specs.Adorn.{variables, literal, Bound, nothing, isBound, patternOf, bindVar, bindAll, bindHead, headBound}
 use Rattle.lanes.specs.Lanes.{EachLane, lane, Agrees, Binds}
 use Rattle.masks.proofs.Laws.Logic.{byBool, clash}
 use Rattle.masks.proofs.Laws.Lists.{any-suc, take-front, front-lt, allBelow}
+use Rattle.masks.proofs.Laws.Constraint.{inRange-at}
 use Rattle.masks.proofs.Laws.Set.{bitAt-zero, bitAt-or}
 use Rattle.masks.proofs.Laws.Members.{bitAt-and}
 use Rattle.ordering.proofs.Laws.Steps.{var-set, var-skip}
-use Rattle.lanes.proofs.Laws.Words.{ones, bitAt-ones, lane-at, lane-or, lane-zeros, pattern-at, pattern-past, asked, within-bits}
+use Rattle.lanes.proofs.Laws.Words.{ones, bitAt-ones, column, bitAt-column, lane-at, lane-or, lane-zeros, pattern-at, pattern-past, asked, within-bits}
+
+-- of the first n of an array, all are done
+done : (n i : ℕ) (l : List ℕ) → i ≡ length (take n l) → take i l ≡ take n l
+done n i l e = ap (λ (k : ℕ). take k l) e ∙ take-front n l
 
 -- ---- an argument
 
@@ -73,7 +78,6 @@ module _ (vars args : List ℕ) where
         rest = λ j k. getD-set-other words i j w 0 (λ e. omega arith) ∙ g .rest j (omega arith);
       }
 
-  -- of n arguments, all are done
   pub words-end : (n : ℕ) {i : ℕ} {words : List ℕ} → length (take n args) ≤ i → i ≤ length (take n args) → Words vars args i words
       → EachLane (λ a. Agrees words a (patternOf (lane a vars) (take n args)))
   words-end n {i} {words} h k g a l j m =
@@ -114,6 +118,11 @@ module _ (mask : ℕ) (words : List ℕ) where
 abbrev pub Tried : List ℕ → List ℕ → ℕ → ℕ → Type 0
 Tried words masks i r = EachLane (λ a. (p : ℕ) → Agrees words a p → bitAt r a ≡ admits (take i masks) p)
 
+-- each is one of six positions
+pub mask-below : (masks : List ℕ) (n i : ℕ) → inRange allPatterns (take n masks) ≡ true → i < length (take n masks) → getD masks i 0 < allPatterns
+mask-below masks n i t h =
+    subst (λ (m : ℕ). m < allPatterns) (getD-take n masks i 0 (front-lt n i masks h .0)) (inRange-at allPatterns (take n masks) i t h)
+
 module _ (words masks : List ℕ) where
   pub tried-start : Tried words masks 0 0
   unfolding admits
@@ -127,28 +136,32 @@ module _ (words masks : List ℕ) where
       ∙ ap₂ (λ (x y : Bool). x || y) (g a h p f) (q a h p f)
       ∙ sym (any-suc (λ m. within m p) 0 masks i l)
 
-  -- of n masks, all are done
   pub tried-end : (n i r : ℕ) → i ≡ length (take n masks) → Tried words masks i r
       → EachLane (λ a. (p : ℕ) → Agrees words a p → bitAt r a ≡ admits (take n masks) p)
   tried-end n i r e g a h p f =
-      g a h p f ∙ ap (λ (l : List ℕ). admits l p) (ap (λ (k : ℕ). take k masks) e ∙ take-front n masks)
+      g a h p f ∙ ap (λ (l : List ℕ). admits l p) (done n i masks e)
 
 -- ---- an argument bound in the lanes of r
 
 abbrev pub BindsOne : ℕ → ℕ → List ℕ → List ℕ → Type 0
 BindsOne v r before after = EachLane (λ a. lane a after ≡ cond (bitAt r a) (bindVar (lane a before) v) (lane a before))
 
-module _ (v r : ℕ) (vars : List ℕ) where
-  pub one-var : v < variables → BindsOne v r vars (set vars v (bitOr (getD vars v 0) r))
-  one-var l a h = lane-or a vars v r ∙ ap (λ (b : Bound). cond (bitAt r a) b (lane a vars)) (sym (var-set (lane a vars) v l))
+module _ (v r : ℕ) (vars : List ℕ) {after : List ℕ} where
+  pub one-var : v < variables → after ≡ set vars v (bitOr (getD vars v 0) r) → BindsOne v r vars after
+  one-var l e a h =
+      ap (lane a) e ∙ lane-or a vars v r ∙ ap (λ (b : Bound). cond (bitAt r a) b (lane a vars)) (sym (var-set (lane a vars) v l))
 
   -- a literal or a wildcard
-  pub one-other : variables ≤ v → BindsOne v r vars vars
-  one-other l a h = go (bitAt r a)
+  pub one-other : variables ≤ v → after ≡ vars → BindsOne v r vars after
+  one-other l e a h = ap (lane a) e ∙ go (bitAt r a)
     where
       go : (c : Bool) → lane a vars ≡ cond c (bindVar (lane a vars) v) (lane a vars)
       go true = sym (var-skip (lane a vars) v l)
       go false = refl
+
+  -- the word that is stored is the one that was there
+  pub one-still : after ≡ set vars v (bitOr (getD vars v 0) r) → bitOr (getD vars v 0) r ≡ getD vars v 0 → after ≡ vars
+  one-still e q = e ∙ ap (set vars v) q ∙ set-getD vars v 0
 
 -- ---- the variables of a subgoal: those of the first i arguments are bound in the lanes of r
 
@@ -182,6 +195,10 @@ module _ (args : List ℕ) (r : ℕ) (before : List ℕ) where
       go a true = more (lane a before)
       go a false = refl
 
+  pub binding-end : (n i : ℕ) {now : List ℕ} {moved : Bool} → i ≡ length (take n args) → Binds (take i args) r before now moved
+      → Binds (take n args) r before now moved
+  binding-end n i {now} {moved} e g = subst (λ (l : List ℕ). Binds l r before now moved) (done n i args e) g
+
 -- ---- the variables of a head: those of the first i positions are bound in the lanes that have its bit
 
 head-snoc : (b : Bound) (l : List ℕ) (v a : ℕ) → bindHead b (l ++ (v ∷ [])) a ≡ cond (bitAt a (length l)) (bindVar (bindHead b l a) v) (bindHead b l a)
@@ -198,20 +215,19 @@ module _ (args : List ℕ) where
   unfolding headBound bindHead nothing
   headed-start = record { size = refl; lanes = λ a h. lane-zeros a variables }
 
-  pub headed-next : (i w : ℕ) {vars after : List ℕ} → i < length args → length after ≡ length vars → EachLane (λ a. bitAt w a ≡ bitAt a i)
-      → BindsOne (getD args i 0) w vars after → Headed args i vars → Headed args (i + 1) after
+  pub headed-next : (i : ℕ) {vars after : List ℕ} → i < length args → i < maxArity → length after ≡ length vars
+      → BindsOne (getD args i 0) (column i) vars after → Headed args i vars → Headed args (i + 1) after
   unfolding headBound
-  headed-next i w {vars} {after} l e q f g =
+  headed-next i {vars} {after} l k e f g =
       record {
         size = e ∙ g .size;
         lanes = λ a h.
             f a h
-            ∙ ap₂ (λ (c : Bool) (b : Bound). cond c (bindVar b (getD args i 0)) b) (q a h) (g .lanes a h)
+            ∙ ap₂ (λ (c : Bool) (b : Bound). cond c (bindVar b (getD args i 0)) b) (bitAt-column i k a h) (g .lanes a h)
             ∙ sym (rw (add-one i, take-suc args i 0 l)
             (head-snoc nothing (take i args) (getD args i 0) a
             ∙ ap (λ (k : ℕ). cond (bitAt a k) (bindVar (bindHead nothing (take i args) a) (getD args i 0)) (bindHead nothing (take i args) a)) (length-take-le i args (omega arith))));
       }
 
-  -- of n arguments, all are done
   pub headed-end : (n : ℕ) {i : ℕ} {vars : List ℕ} → i ≡ length (take n args) → Headed args i vars → EachLane (λ a. lane a vars ≡ headBound (take n args) a)
-  headed-end n {i} e g a h = g .lanes a h ∙ ap (λ (l : List ℕ). headBound l a) (ap (λ (k : ℕ). take k args) e ∙ take-front n args)
+  headed-end n {i} e g a h = g .lanes a h ∙ ap (λ (l : List ℕ). headBound l a) (done n i args e)

@@ -31,9 +31,16 @@ pub bitAt-ones : EachLane (λ a. bitAt ones a ≡ true)
 unfolding bitAt
 bitAt-ones a h = allBelow-at (bitAt ones) allPatterns refl a h
 
--- word i of six has the lanes whose pattern has bit i
-abbrev pub areColumns : List ℕ → Bool
-areColumns l = allBelow (λ i. allBelow (λ a. Bool·beq (bitAt (getD l i 0) a) (bitAt a i)) allPatterns) maxArity
+-- word i has the lanes whose pattern has bit i
+abbrev columns : List ℕ
+columns =
+    12297829382473034410 ∷ 14757395258967641292 ∷ 17361641481138401520 ∷ 18374966859414961920 ∷ 18446462603027742720 ∷ 18446744069414584320 ∷ []
+
+abbrev pub column : ℕ → ℕ
+column i = getD columns i 0
+
+abbrev inColumn : ℕ → ℕ → Bool
+inColumn i a = Bool·beq (bitAt (column i) a) (bitAt a i)
 
 beq-same : (x y : Bool) → Bool·beq x y ≡ true → x ≡ y
 beq-same true true e = refl
@@ -41,11 +48,11 @@ beq-same true false e = sym e
 beq-same false true e = e
 beq-same false false e = refl
 
-pub bitAt-column : (l : List ℕ) → areColumns l ≡ true → (i : ℕ) → i < maxArity → EachLane (λ a. bitAt (getD l i 0) a ≡ bitAt a i)
-bitAt-column l t i h a k =
-    beq-same (bitAt (getD l i 0) a) (bitAt a i)
-    (allBelow-at (λ x. Bool·beq (bitAt (getD l i 0) x) (bitAt x i)) allPatterns
-    (allBelow-at (λ j. allBelow (λ x. Bool·beq (bitAt (getD l j 0) x) (bitAt x j)) allPatterns) maxArity t i h) a k)
+pub bitAt-column : (i : ℕ) → i < maxArity → EachLane (λ a. bitAt (column i) a ≡ bitAt a i)
+unfolding bitAt
+bitAt-column i h a k =
+    beq-same (bitAt (column i) a) (bitAt a i)
+    (allBelow-at (inColumn i) allPatterns (allBelow-at (λ j. allBelow (inColumn j) allPatterns) maxArity refl i h) a k)
 
 -- ---- a lane of the variables
 
