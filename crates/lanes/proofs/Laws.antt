@@ -3,3 +3,4 @@
 pub mod Words
 pub mod Steps
 pub mod Passes
+pub mod Passing

@@ -1,7 +1,8 @@
 -- The laws of this crate's definitions, for its own proofs and for those of the crates above. A file that has the name of one in `specs/`
--- has the laws of what is defined there; `Greedy` and `Passes` have those of `Turns`.
+-- has the laws of what is defined there; `Greedy` has those of `Turns`, and `Steps` those of loops over the arguments of a call.
 pub mod Orders
 pub mod Greedy
 pub mod Adorn
 pub mod Good
 pub mod Steps
+pub mod Held

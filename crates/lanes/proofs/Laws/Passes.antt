@@ -1,9 +1,9 @@
 -- Whether a good order exists is told by passes over the places, each taken where it is ready. The k-th place of a good order is ready after k - 1
 -- passes, so all are after n - 1; and the places taken on the way, followed by all that are ready then, hold a good order. Assumes nothing.
 use mathlib.Core.Path.{_≡_, refl, sym, ap, _∙_, subst}
-use mathlib.Core.Bool.{Bool, true, false, cond}
+use mathlib.Core.Bool.{Bool, true, false, cond, _&&_}
 use mathlib.Core.Logic.{_⊎_, inl, inr, ⊎-elim}
-use mathlib.Core.List.{List, [], _∷_}
+use mathlib.Core.List.{List, [], _∷_, _++_}
 use Prim.Native.Nat.{ℕ, zero, suc, _+_, _≤_, _<_}
 use native.Mathlib.Nat.{zero-add, suc-add}
 use native.Mathlib.Omega.{arith}
@@ -16,7 +16,7 @@ use Rattle.ordering.specs.Good as clause
 use Rattle.ordering.specs.Good.{readyAt, afterAt, isSome}
 use Rattle.lanes.specs.Passes.{visit, visits, passes}
 use Rattle.masks.proofs.Laws.Logic.{same}
-use Rattle.ordering.proofs.Laws.Orders.{same?, without-in, without-keeps, without-gone, without-distinct, Takes, takes-has, takes-right, right-takes, count-in, in-count, count-distinct}
+use Rattle.ordering.proofs.Laws.Orders.{same?, without-in, without-keeps, without-gone, without-distinct, Takes, takes-has, takes-right, right-takes, count-suc, count-in, in-count, count-distinct}
 use Rattle.ordering.proofs.Laws.Greedy.{Growing, good-parts, good-cons, first-good, good-first}
 use Rattle.ordering.proofs.Laws.Good.{bound-growing}
 
@@ -26,6 +26,35 @@ module _ {B : Type 0} (ready : B → ℕ → Bool) (after : B → ℕ → B) whe
   pub visit-ready : (b : B) (p : ℕ) → ready b p ≡ true → visit ready after b p ≡ after b p
   unfolding visit
   visit-ready b p e = rw e
+
+  visits-snoc : (b : B) (σ : List ℕ) (p : ℕ) → visits ready after b (σ ++ (p ∷ [])) ≡ visit ready after (visits ready after b σ) p
+  unfolding visits
+  visits-snoc b [] p = refl
+  visits-snoc b (q ∷ σ) p = visits-snoc (visit ready after b q) σ p
+
+  -- as long as each was ready in its turn, visiting them is taking them
+  good-snoc : (b : B) (σ : List ℕ) (p : ℕ) → goodFrom ready after b (σ ++ (p ∷ [])) ≡ (goodFrom ready after b σ && ready (visits ready after b σ) p)
+  unfolding goodFrom visits visit
+  good-snoc b [] p = go (ready b p)
+    where
+      go : (c : Bool) → cond c true false ≡ c
+      go true = refl
+      go false = refl
+  good-snoc b (q ∷ σ) p = go (ready b q) (good-snoc (after b q) σ p)
+    where
+      go : (c : Bool) → goodFrom ready after (after b q) (σ ++ (p ∷ [])) ≡ (goodFrom ready after (after b q) σ && ready (visits ready after (after b q) σ) p)
+          → cond c (goodFrom ready after (after b q) (σ ++ (p ∷ []))) false
+          ≡ (cond c (goodFrom ready after (after b q) σ) false && ready (visits ready after (cond c (after b q) b) σ) p)
+      go true e = e
+      go false e = refl
+
+  -- one place more
+  pub visits-suc : (b : B) (j : ℕ) → visits ready after b (count 0 (suc j)) ≡ visit ready after (visits ready after b (count 0 j)) j
+  visits-suc b j = ap (visits ready after b) (count-suc j) ∙ visits-snoc b (count 0 j) j
+
+  pub good-suc : (b : B) (j : ℕ)
+      → goodFrom ready after b (count 0 (suc j)) ≡ (goodFrom ready after b (count 0 j) && ready (visits ready after b (count 0 j)) j)
+  good-suc b j = ap (goodFrom ready after b) (count-suc j) ∙ good-snoc b (count 0 j) j
 
   -- one pass more
   pub passes-suc : (n k : ℕ) (b : B) → visits ready after (passes ready after n k b) (count 0 n) ≡ passes ready after n (suc k) b
