@@ -26,26 +26,30 @@ use Rattle.ordering.proofs.Laws.Held.{tableIn-at, callsBelow-at}
 use Rattle.lanes.proofs.Laws.Words.{ones, bitAt-ones}
 use Rattle.lanes.proofs.Laws.Passes.{visits-suc, good-suc, enough, settled, one-more}
 
--- ---- a subgoal in its turn
+-- ---- a subgoal in its turn: s is the one at place j
 
-module _ (table : List ℕ) (body : List Call) (below : callsBelow maxPredicates body ≡ true) (j : ℕ) (h : j < length body) (s : Call)
-    (e : s ≡ getD body j (record { pred = 0; args = [] }))
-  where
-    pub turn-pred : s .pred < maxPredicates
-    unfolding at
-    turn-pred = subst (λ (c : Call). c .pred < maxPredicates) (sym e) (callsBelow-at maxPredicates body j below h)
+pub record Turn (body : List Call) (j : ℕ) (s : Call) : Type 0 where
+  pub here : j < length body
+  pub is : s ≡ at body j
+  pub low : s .pred < maxPredicates
 
-    module _ (masks : List ℕ) (q : masks ≡ entryIn table (s .pred)) where
-      pub turn-low : Low table → inRange allPatterns masks ≡ true
-      turn-low f = ap (inRange allPatterns) q ∙ f (s .pred) turn-pred
+pub turn : {body : List Call} {j : ℕ} {s : Call} → callsBelow maxPredicates body ≡ true → j < length body
+    → s ≡ getD body j (record { pred = 0; args = [] }) → Turn body j s
+unfolding at
+turn {body} {j} t h e =
+    record { here = h; is = e; low = subst (λ (c : Call). c .pred < maxPredicates) (sym e) (callsBelow-at maxPredicates body j t h) }
 
-      pub turn-ready : (vars : List ℕ) (r : ℕ) → EachLane (λ a. bitAt r a ≡ admits masks (patternOf (lane a vars) (s .args)))
-          → EachLane (λ a. bitAt r a ≡ readyAt (tableIn table maxPredicates) body (lane a vars) j)
-      unfolding ready at
-      turn-ready vars r f a l =
-          f a l
-          ∙ ap (λ (m : List ℕ). admits m (patternOf (lane a vars) (s .args))) (q ∙ sym (tableIn-at table maxPredicates (s .pred) turn-pred))
-          ∙ ap (ready (tableIn table maxPredicates) (lane a vars)) e
+module _ {body : List Call} {j : ℕ} {s : Call} (t : Turn body j s) (table masks : List ℕ) (q : masks ≡ entryIn table (s .pred)) where
+  pub turn-masks : Low table → inRange allPatterns masks ≡ true
+  turn-masks f = ap (inRange allPatterns) q ∙ f (s .pred) (t .low)
+
+  pub turn-ready : (vars : List ℕ) (r : ℕ) → EachLane (λ a. bitAt r a ≡ admits masks (patternOf (lane a vars) (s .args)))
+      → EachLane (λ a. bitAt r a ≡ readyAt (tableIn table maxPredicates) body (lane a vars) j)
+  unfolding ready
+  turn-ready vars r f a l =
+      f a l
+      ∙ ap (λ (m : List ℕ). admits m (patternOf (lane a vars) (s .args))) (q ∙ sym (tableIn-at table maxPredicates (s .pred) (t .low)))
+      ∙ ap (ready (tableIn table maxPredicates) (lane a vars)) (t .is)
 
 -- ---- a pass: the first j subgoals are visited
 
@@ -60,17 +64,18 @@ module _ (T : Table) (body : List Call) (before : List ℕ) where
   unfolding count visits turns.goodFrom
   visiting-start = record { most = omega arith; lanes = λ a h. refl; good = λ a h. bitAt-ones a h; still = λ e. refl }
 
-  pub visiting-next : {j : ℕ} {vars to : List ℕ} {word r : ℕ} {moved bound then : Bool} → j < length body
-      → EachLane (λ a. bitAt r a ≡ readyAt T body (lane a vars) j) → Binds (at body j .args) r vars to bound
+  pub visiting-next : {j : ℕ} {s : Call} {vars to : List ℕ} {word r : ℕ} {moved bound then : Bool} → Turn body j s
+      → EachLane (λ a. bitAt r a ≡ readyAt T body (lane a vars) j) → Binds (s .args) r vars to bound
       → (then ≡ false → (moved ≡ false) × (bound ≡ false)) → Visiting T body before j vars word moved
       → Visiting T body before (j + 1) to (bitAnd word r) then
   unfolding visit after
-  visiting-next {j} {vars} {to} {word} {r} h f g m v =
+  visiting-next {j} {s} {vars} {to} {word} {r} t f g m v =
+      let h = t .here in
       record {
         most = omega arith;
         lanes = λ a l.
             g .lanes a l
-            ∙ ap (λ (c : Bool). cond c (afterAt body (lane a vars) j) (lane a vars)) (f a l)
+            ∙ ap₂ (λ (c : Bool) (u : Call). cond c (after (lane a vars) u) (lane a vars)) (f a l) (t .is)
             ∙ ap (λ (b : Bound). visit (readyAt T body) (afterAt body) b j) (v .lanes a l)
             ∙ rw add-one (sym (visits-suc (readyAt T body) (afterAt body) (lane a before) j));
         good = λ a l.
