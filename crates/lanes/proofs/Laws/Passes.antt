@@ -23,7 +23,7 @@ use Rattle.ordering.proofs.Laws.Good.{bound-growing}
 -- ---- passes
 
 module _ {B : Type 0} (ready : B → ℕ → Bool) (after : B → ℕ → B) where
-  pub visit-ready : (b : B) (p : ℕ) → ready b p ≡ true → visit ready after b p ≡ after b p
+  visit-ready : (b : B) (p : ℕ) → ready b p ≡ true → visit ready after b p ≡ after b p
   unfolding visit
   visit-ready b p e = rw e
 
@@ -234,7 +234,7 @@ module _ {B : Type 0} {ready : B → ℕ → Bool} {after : B → ℕ → B} {Le
   -- ---- the theorem
 
   -- after any passes, what is ready in turn has a good order
-  pub any-passes : (n k : ℕ) (b : B) → goodFrom ready after (passes ready after n k b) (count 0 n) ≡ true → isSome (firstGood ready after b n) ≡ true
+  any-passes : (n k : ℕ) (b : B) → goodFrom ready after (passes ready after n k b) (count 0 n) ≡ true → isSome (firstGood ready after b n) ≡ true
   any-passes n k b g = let s = reached-good n k b g in good-first ready after b n (s .0) (s .1) (s .2)
 
   -- from n - 1 passes on, the places are ready in turn exactly where there is a good order
@@ -257,10 +257,6 @@ module _ (T : Table) (body : List Call) (n k : ℕ) (b : Bound) where
   pub enough : n ≤ k + 1
       → clause.goodFrom T body (passes (readyAt T body) (afterAt body) n k b) (count 0 n) ≡ isSome (firstGood (readyAt T body) (afterAt body) b n)
   enough h = enough-passes (bound-growing T body) n k b h
-
-  pub all-ready : clause.goodFrom T body (passes (readyAt T body) (afterAt body) n k b) (count 0 n) ≡ true
-      → isSome (firstGood (readyAt T body) (afterAt body) b n) ≡ true
-  all-ready e = any-passes (bound-growing T body) n k b e
 
   pub settled : visits (readyAt T body) (afterAt body) (passes (readyAt T body) (afterAt body) n k b) (count 0 n)
       ≡ passes (readyAt T body) (afterAt body) n k b

@@ -1,15 +1,15 @@
 -- The loops over the arguments of a call, over the bits of a mask and over the masks of a constraint: what the first of them come to in each
 -- lane. One invariant for each loop, with a law for its start, its next turn and its end. Assumes nothing.
 use mathlib.Core.Path.{_≡_, refl, sym, ap, ap₂, _∙_, subst}
-use mathlib.Core.Bool.{Bool, true, false, not, cond, _&&_, _||_, and-comm, and-true}
-use mathlib.Core.List.{List, [], _∷_, _++_}
+use mathlib.Core.Bool.{Bool, true, false, not, cond, _&&_, _||_, and-comm}
+use mathlib.Core.List.{List, [], _∷_}
 use Prim.Native.Nat.{ℕ, zero, suc, _+_, _/_, _%_, _^_, _≤_, _<_}
 use native.Mathlib.Numerals.{add-one}
 use native.Mathlib.Omega.{arith}
 use lib.Bits.{bitAnd, bitOr}
 use lib.Dec.{eqb, leb}
 use lib.ListN.{length, getD, set, replicate, take, length-set, getD-replicate, List·getD-eq-default}
-use lib.Seq.{take-suc, getD-take, getD-set-same, getD-set-other, set-getD, length-take-le}
+use lib.Seq.{getD-take, getD-set-same, getD-set-other, set-getD}
 use borrow.Author.Tests.{eqb-true, eqb-false, eq-eqb, ne-eqb, lt-ltb, le-ltb, leb-true, leb-false}
 use Rattle.masks.specs.Limits.{maxArity, allPatterns}
 use Rattle.masks.specs.Mask.{within}
@@ -17,7 +17,7 @@ use Rattle.masks.specs.Constraint.{admits, inRange}
 use Rattle.masks.specs.Set.{bitAt}
 use Rattle.ordering.specs.Adorn.{variables, literal, Bound, nothing, isBound, patternOf, bindVar, bindAll, bindHead, headBound}
 use Rattle.lanes.specs.Lanes.{EachLane, lane, Agrees, Binds}
-use Rattle.masks.proofs.Laws.Logic.{byBool, clash}
+use Rattle.masks.proofs.Laws.Logic.{byBool}
 use Rattle.masks.proofs.Laws.Lists.{any-suc, take-front, front-lt, allBelow}
 use Rattle.masks.proofs.Laws.Constraint.{inRange-at}
 use Rattle.masks.proofs.Laws.Set.{bitAt-zero, bitAt-or}
@@ -165,10 +165,11 @@ module _ (v r : ℕ) (vars : List ℕ) {after : List ℕ} where
 
 -- ---- the variables of a subgoal: those of the first i arguments are bound in the lanes of r
 
-all-snoc : (b : Bound) (l : List ℕ) (v : ℕ) → bindAll b (l ++ (v ∷ [])) ≡ bindVar (bindAll b l) v
+bind-suc : (l : List ℕ) (i : ℕ) → i < length l → (b : Bound) → bindAll b (take (suc i) l) ≡ bindVar (bindAll b (take i l)) (getD l i 0)
 unfolding bindAll
-all-snoc b [] v = refl
-all-snoc b (u ∷ l) v = all-snoc (bindVar b u) l v
+bind-suc [] i h b = absurd (omega arith)
+bind-suc (u ∷ l) zero h b = refl
+bind-suc (u ∷ l) (suc i) h b = bind-suc l i (omega arith) (bindVar b u)
 
 module _ (args : List ℕ) (r : ℕ) (before : List ℕ) where
   pub binding-start : Binds (take 0 args) r before before false
@@ -183,17 +184,18 @@ module _ (args : List ℕ) (r : ℕ) (before : List ℕ) where
       → (then ≡ false → (moved ≡ false) × (after ≡ now)) → Binds (take i args) r before now moved → Binds (take (i + 1) args) r before after then
   binding-next i {now} {after} l f m g =
       record {
-        lanes = λ a h. f a h ∙ ap (λ (b : Bound). cond (bitAt r a) (bindVar b (getD args i 0)) b) (g .lanes a h) ∙ go a (bitAt r a);
+        lanes = λ a h.
+            f a h
+            ∙ ap (λ (b : Bound). cond (bitAt r a) (bindVar b (getD args i 0)) b) (g .lanes a h)
+            ∙ inside (bitAt r a) (lane a before) (bindAll (lane a before) (take i args)) (getD args i 0)
+            ∙ rw add-one (sym (ap (λ (b : Bound). cond (bitAt r a) b (lane a before)) (bind-suc args i l (lane a before))));
         still = λ e. m e .1 ∙ g .still (m e .0);
       }
     where
-      more : (b : Bound) → bindVar (bindAll b (take i args)) (getD args i 0) ≡ bindAll b (take (i + 1) args)
-      more b = rw (add-one i, take-suc args i 0 l) (sym (all-snoc b (take i args) (getD args i 0)))
-
-      go : (a : ℕ) (c : Bool) → cond c (bindVar (cond c (bindAll (lane a before) (take i args)) (lane a before)) (getD args i 0)) (cond c (bindAll (lane a before) (take i args)) (lane a before))
-          ≡ cond c (bindAll (lane a before) (take (i + 1) args)) (lane a before)
-      go a true = more (lane a before)
-      go a false = refl
+      -- a lane that is in r twice
+      inside : (c : Bool) (b d : Bound) (v : ℕ) → cond c (bindVar (cond c d b) v) (cond c d b) ≡ cond c (bindVar d v) b
+      inside true b d v = refl
+      inside false b d v = refl
 
   pub binding-end : (n i : ℕ) {now : List ℕ} {moved : Bool} → i ≡ length (take n args) → Binds (take i args) r before now moved
       → Binds (take n args) r before now moved
@@ -201,10 +203,12 @@ module _ (args : List ℕ) (r : ℕ) (before : List ℕ) where
 
 -- ---- the variables of a head: those of the first i positions are bound in the lanes that have its bit
 
-head-snoc : (b : Bound) (l : List ℕ) (v a : ℕ) → bindHead b (l ++ (v ∷ [])) a ≡ cond (bitAt a (length l)) (bindVar (bindHead b l a) v) (bindHead b l a)
+head-suc : (l : List ℕ) (i : ℕ) → i < length l → (b : Bound) (a : ℕ)
+    → bindHead b (take (suc i) l) a ≡ cond (bitAt a i) (bindVar (bindHead b (take i l) a) (getD l i 0)) (bindHead b (take i l) a)
 unfolding bindHead bitAt
-head-snoc b [] v a = refl
-head-snoc b (u ∷ l) v a = head-snoc (cond (eqb (a % 2) 1) (bindVar b u) b) l v (a / 2)
+head-suc [] i h b a = absurd (omega arith)
+head-suc (u ∷ l) zero h b a = refl
+head-suc (u ∷ l) (suc i) h b a = head-suc l i (omega arith) (cond (eqb (a % 2) 1) (bindVar b u) b) (a / 2)
 
 pub record Headed (args : List ℕ) (i : ℕ) (vars : List ℕ) : Type 0 where
   pub size : length vars ≡ variables
@@ -224,9 +228,7 @@ module _ (args : List ℕ) where
         lanes = λ a h.
             f a h
             ∙ ap₂ (λ (c : Bool) (b : Bound). cond c (bindVar b (getD args i 0)) b) (bitAt-column i k a h) (g .lanes a h)
-            ∙ sym (rw (add-one i, take-suc args i 0 l)
-            (head-snoc nothing (take i args) (getD args i 0) a
-            ∙ ap (λ (k : ℕ). cond (bitAt a k) (bindVar (bindHead nothing (take i args) a) (getD args i 0)) (bindHead nothing (take i args) a)) (length-take-le i args (omega arith))));
+            ∙ rw add-one (sym (head-suc args i l nothing a));
       }
 
   pub headed-end : (n : ℕ) {i : ℕ} {vars : List ℕ} → i ≡ length (take n args) → Headed args i vars → EachLane (λ a. lane a vars ≡ headBound (take n args) a)

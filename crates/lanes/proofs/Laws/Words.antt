@@ -6,7 +6,7 @@ use mathlib.Core.List.{List, [], _∷_, map}
 use Prim.Native.Nat.{ℕ, zero, suc, _+_, _*_, _/_, _%_, _^_, _≤_, _<_}
 use native.Mathlib.Nat.{pow-suc}
 use native.Mathlib.Omega.{arith}
-use lib.Bits.{bitAnd, bitOr}
+use lib.Bits.{bitOr}
 use lib.Dec.{eqb}
 use lib.ListN.{length, getD, set, replicate, List·getD-map}
 use lib.Seq.{set-getD}
@@ -16,7 +16,7 @@ use Rattle.masks.specs.Mask.{within}
 use Rattle.masks.specs.Set.{bitAt}
 use Rattle.ordering.specs.Adorn.{Bound, isBound, bit, patternOf}
 use Rattle.lanes.specs.Lanes.{EachLane, lane}
-use Rattle.masks.proofs.Laws.Logic.{byBool, clash, same, and-left, and-right, or-left, or-right, or-case, not-elim}
+use Rattle.masks.proofs.Laws.Logic.{byBool, clash, same, or-case, not-elim}
 use Rattle.masks.proofs.Laws.Lists.{allBelow, allBelow-at, at-allBelow}
 use Rattle.masks.proofs.Laws.Mask.{within-zero, within-and, and-within, doubled}
 use Rattle.masks.proofs.Laws.Set.{bitAt-zero, bitAt-or}

@@ -1,15 +1,12 @@
 -- `lanes::bind_lanes` meets its contract. The loop's invariant: the contract for the first i arguments. Assumes nothing.
-use mathlib.Core.Path.{_≡_, sym, ap, _∙_, subst}
+use mathlib.Core.Path.{sym, _∙_}
 use mathlib.Core.Logic.{⊎-elim}
-use mathlib.Core.List.{List}
-use Prim.Native.Nat.{ℕ, _-_, _≤_}
+use Prim.Native.Nat.{_-_, _≤_}
 use native.Mathlib.Omega.{arith}
-use lib.ListN.{length, take, length-take}
+use lib.ListN.{take, length-take}
 use borrow.Author.Needs.{needs}
-use Rattle.book.specs.Held.{callOf}
 use Rattle.lanes.specs.Lanes.{Binds}
 use Rattle.masks.proofs.Laws.Logic.{clash}
-use Rattle.masks.proofs.Laws.Lists.{take-front}
 use Rattle.lanes.proofs.Laws.Steps.{one-var, one-other, one-still, binding-start, binding-next, binding-end}
 use Rattle.lanes.proofs.bind_lanes.Statement.{statement}
 use Rattle.lanes.proofs.bind_lanes.Tie as tie

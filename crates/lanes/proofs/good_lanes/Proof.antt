@@ -1,7 +1,6 @@
 -- `lanes::good_lanes` meets its contract. The loop's invariant: in each lane, so many passes from the head pattern on are done; by the theorem of
 -- the passes, the last says where the clause is good. Assumes nothing.
-use mathlib.Core.Path.{_≡_}
-use Prim.Native.Nat.{ℕ, _-_}
+use Prim.Native.Nat.{_-_}
 use native.Mathlib.Omega.{arith}
 use borrow.Author.Needs.{needs}
 use borrow.Author.Tests.{not-true}

@@ -1,7 +1,7 @@
 -- `lanes::head_lanes` meets its contract. The loop's invariant: in each lane, what the first i positions bind is bound. Assumes nothing.
-use mathlib.Core.Path.{_≡_, refl, ap, _∙_}
+use mathlib.Core.Path.{ap, _∙_}
 use mathlib.Core.Logic.{⊎-elim}
-use Prim.Native.Nat.{ℕ, _-_, _≤_}
+use Prim.Native.Nat.{_-_, _≤_}
 use native.Mathlib.Omega.{arith}
 use lib.ListN.{length, length-take, length-set}
 use borrow.Author.Needs.{needs}

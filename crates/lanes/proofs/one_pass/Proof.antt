@@ -1,14 +1,11 @@
 -- `lanes::one_pass` meets its contract. The loop's invariant: the first j subgoals are visited. Assumes nothing.
-use mathlib.Core.Path.{_≡_, sym, _∙_}
+use mathlib.Core.Path.{sym, _∙_}
 use mathlib.Core.Logic.{⊎-elim}
-use mathlib.Core.List.{List}
-use Prim.Native.Nat.{ℕ, _-_, _≤_, _<_}
+use Prim.Native.Nat.{_-_}
 use native.Mathlib.Omega.{arith}
-use lib.ListN.{length}
 use borrow.Author.Needs.{needs}
 use Rattle.masks.specs.Held.{masksOf}
 use Rattle.book.specs.Limits.{maxPredicates}
-use Rattle.book.specs.Book.{Call}
 use Rattle.book.specs.Held.{callOf, clauseAt}
 use Rattle.ordering.specs.Held.{tableIn}
 use Rattle.masks.proofs.Laws.Logic.{clash}

@@ -1,9 +1,7 @@
 -- `lanes::pattern_lanes` meets its contract. The loop's invariant: the words of the first i arguments are made, and the others are 0. Assumes
 -- nothing.
-use mathlib.Core.Path.{_≡_}
-use Prim.Native.Nat.{ℕ, _-_, _≤_}
+use Prim.Native.Nat.{_-_, _≤_}
 use native.Mathlib.Omega.{arith}
-use lib.ListN.{length, length-take}
 use borrow.Author.Needs.{needs}
 use Rattle.lanes.proofs.Laws.Steps.{Words, words-start, words-next, words-end}
 use Rattle.lanes.proofs.pattern_lanes.Statement.{statement}

@@ -1,10 +1,9 @@
 -- `lanes::ready_lanes` meets its contract. The loop's invariant: r has the lanes whose pattern fits one of the first i masks. Assumes nothing.
 use mathlib.Core.Path.{_≡_}
-use Prim.Native.Nat.{ℕ, _-_, _≤_}
+use Prim.Native.Nat.{_-_, _≤_}
 use native.Mathlib.Omega.{arith}
 use lib.ListN.{length, length-take}
 use borrow.Author.Needs.{needs}
-use Rattle.masks.specs.Held.{masksOf}
 use Rattle.book.specs.Held.{callOf}
 use Rattle.ordering.specs.Adorn.{patternOf}
 use Rattle.lanes.specs.Lanes.{lane}
