@@ -1,9 +1,9 @@
 -- Whether a good order exists is told by passes over the places, each taken where it is ready. The k-th place of a good order is ready after k - 1
 -- passes, so all are after n - 1; and the places taken on the way, followed by all that are ready then, hold a good order. Assumes nothing.
 use mathlib.Core.Path.{_≡_, refl, sym, ap, _∙_, subst}
-use mathlib.Core.Bool.{Bool, true, false, cond}
+use mathlib.Core.Bool.{Bool, true, false, cond, _&&_}
 use mathlib.Core.Logic.{_⊎_, inl, inr, ⊎-elim}
-use mathlib.Core.List.{List, [], _∷_}
+use mathlib.Core.List.{List, [], _∷_, _++_}
 use Prim.Native.Nat.{ℕ, zero, suc, _+_, _≤_, _<_}
 use native.Mathlib.Nat.{zero-add, suc-add}
 use native.Mathlib.Omega.{arith}
@@ -16,16 +16,45 @@ use Rattle.ordering.specs.Good as clause
 use Rattle.ordering.specs.Good.{readyAt, afterAt, isSome}
 use Rattle.lanes.specs.Passes.{visit, visits, passes}
 use Rattle.masks.proofs.Laws.Logic.{same}
-use Rattle.ordering.proofs.Laws.Orders.{same?, without-in, without-keeps, without-gone, without-distinct, Takes, takes-has, takes-right, right-takes, count-in, in-count, count-distinct}
+use Rattle.ordering.proofs.Laws.Orders.{same?, without-in, without-keeps, without-gone, without-distinct, Takes, takes-has, takes-right, right-takes, count-suc, count-in, in-count, count-distinct}
 use Rattle.ordering.proofs.Laws.Greedy.{Growing, good-parts, good-cons, first-good, good-first}
 use Rattle.ordering.proofs.Laws.Good.{bound-growing}
 
 -- ---- passes
 
 module _ {B : Type 0} (ready : B → ℕ → Bool) (after : B → ℕ → B) where
-  pub visit-ready : (b : B) (p : ℕ) → ready b p ≡ true → visit ready after b p ≡ after b p
+  visit-ready : (b : B) (p : ℕ) → ready b p ≡ true → visit ready after b p ≡ after b p
   unfolding visit
   visit-ready b p e = rw e
+
+  visits-snoc : (b : B) (σ : List ℕ) (p : ℕ) → visits ready after b (σ ++ (p ∷ [])) ≡ visit ready after (visits ready after b σ) p
+  unfolding visits
+  visits-snoc b [] p = refl
+  visits-snoc b (q ∷ σ) p = visits-snoc (visit ready after b q) σ p
+
+  -- as long as each was ready in its turn, visiting them is taking them
+  good-snoc : (b : B) (σ : List ℕ) (p : ℕ) → goodFrom ready after b (σ ++ (p ∷ [])) ≡ (goodFrom ready after b σ && ready (visits ready after b σ) p)
+  unfolding goodFrom visits visit
+  good-snoc b [] p = go (ready b p)
+    where
+      go : (c : Bool) → cond c true false ≡ c
+      go true = refl
+      go false = refl
+  good-snoc b (q ∷ σ) p = go (ready b q) (good-snoc (after b q) σ p)
+    where
+      go : (c : Bool) → goodFrom ready after (after b q) (σ ++ (p ∷ [])) ≡ (goodFrom ready after (after b q) σ && ready (visits ready after (after b q) σ) p)
+          → cond c (goodFrom ready after (after b q) (σ ++ (p ∷ []))) false
+          ≡ (cond c (goodFrom ready after (after b q) σ) false && ready (visits ready after (cond c (after b q) b) σ) p)
+      go true e = e
+      go false e = refl
+
+  -- one place more
+  pub visits-suc : (b : B) (j : ℕ) → visits ready after b (count 0 (suc j)) ≡ visit ready after (visits ready after b (count 0 j)) j
+  visits-suc b j = ap (visits ready after b) (count-suc j) ∙ visits-snoc b (count 0 j) j
+
+  pub good-suc : (b : B) (j : ℕ)
+      → goodFrom ready after b (count 0 (suc j)) ≡ (goodFrom ready after b (count 0 j) && ready (visits ready after b (count 0 j)) j)
+  good-suc b j = ap (goodFrom ready after b) (count-suc j) ∙ good-snoc b (count 0 j) j
 
   -- one pass more
   pub passes-suc : (n k : ℕ) (b : B) → visits ready after (passes ready after n k b) (count 0 n) ≡ passes ready after n (suc k) b
@@ -205,7 +234,7 @@ module _ {B : Type 0} {ready : B → ℕ → Bool} {after : B → ℕ → B} {Le
   -- ---- the theorem
 
   -- after any passes, what is ready in turn has a good order
-  pub any-passes : (n k : ℕ) (b : B) → goodFrom ready after (passes ready after n k b) (count 0 n) ≡ true → isSome (firstGood ready after b n) ≡ true
+  any-passes : (n k : ℕ) (b : B) → goodFrom ready after (passes ready after n k b) (count 0 n) ≡ true → isSome (firstGood ready after b n) ≡ true
   any-passes n k b g = let s = reached-good n k b g in good-first ready after b n (s .0) (s .1) (s .2)
 
   -- from n - 1 passes on, the places are ready in turn exactly where there is a good order
@@ -228,10 +257,6 @@ module _ (T : Table) (body : List Call) (n k : ℕ) (b : Bound) where
   pub enough : n ≤ k + 1
       → clause.goodFrom T body (passes (readyAt T body) (afterAt body) n k b) (count 0 n) ≡ isSome (firstGood (readyAt T body) (afterAt body) b n)
   enough h = enough-passes (bound-growing T body) n k b h
-
-  pub all-ready : clause.goodFrom T body (passes (readyAt T body) (afterAt body) n k b) (count 0 n) ≡ true
-      → isSome (firstGood (readyAt T body) (afterAt body) b n) ≡ true
-  all-ready e = any-passes (bound-growing T body) n k b e
 
   pub settled : visits (readyAt T body) (afterAt body) (passes (readyAt T body) (afterAt body) n k b) (count 0 n)
       ≡ passes (readyAt T body) (afterAt body) n k b

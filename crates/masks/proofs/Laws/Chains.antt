@@ -1,7 +1,7 @@
 -- No 21 subsets of six positions avoid containing one another. The 64 subsets lie in 20 chains, any two members of a chain comparable (one
 -- test, computed over all pairs); so masks that are apart lie in different chains, and are at most 20. Assumes nothing.
 use mathlib.Core.Path.{_≡_, refl, sym, ap, _∙_}
-use mathlib.Core.Bool.{Bool, true, false, not, cond, _&&_, _||_, false≢true}
+use mathlib.Core.Bool.{Bool, true, false, not, cond, _||_, false≢true}
 use mathlib.Core.List.{List, [], _∷_, map}
 use Prim.Native.Nat.{ℕ, zero, suc, _≤_, _<_}
 use native.Mathlib.Omega.{arith}
@@ -12,8 +12,8 @@ use Rattle.masks.specs.Limits.{maxMasks, allPatterns}
 use Rattle.masks.specs.Mask.{within}
 use Rattle.masks.specs.Lists.{has}
 use Rattle.masks.specs.Constraint.{unlike, inRange, apart, isWritten}
-use Rattle.masks.proofs.Laws.Logic.{byBool, and-left, and-right, or-right, or-case, not-elim}
-use Rattle.masks.proofs.Laws.Lists.{pairwise-head, pairwise-tail, has-here}
+use Rattle.masks.proofs.Laws.Logic.{and-left, and-right, or-right, or-case, not-elim}
+use Rattle.masks.proofs.Laws.Lists.{pairwise-head, pairwise-tail, has-here, allBelow, allBelow-at}
 use Rattle.masks.proofs.Laws.Constraint.{inRange-has, inRange-mono, written-inRange, written-apart}
 
 -- ---- a list of different numbers below n has at most n members
@@ -87,17 +87,6 @@ table =
 
 chain : ℕ → ℕ
 chain m = getD table m 0
-
--- p holds of each number below n: a test that is computed, and what it says of each
-abbrev allBelow : (ℕ → Bool) → ℕ → Bool
-allBelow p zero = true
-allBelow p (suc n) = p n && allBelow p n
-
-allBelow-at : (p : ℕ → Bool) (n : ℕ) → allBelow p n ≡ true → (k : ℕ) → k < n → p k ≡ true
-allBelow-at p zero t k h = absurd (omega arith)
-allBelow-at p (suc n) t k h =
-    byBool (eqb k n) (λ e. ap p (eqb-true k n e) ∙ and-left (p n) (allBelow p n) t)
-    (λ e. let ne : k ≡ n → ⊥ = eqb-false k n e in allBelow-at p n (and-right (p n) (allBelow p n) t) k (omega arith))
 
 linked : ℕ → ℕ → Bool
 linked a b = not (eqb (chain a) (chain b)) || (within a b || within b a)

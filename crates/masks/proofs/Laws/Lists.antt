@@ -142,6 +142,22 @@ pub below-cong : (p q : ℕ → Bool) (n : ℕ) → ((k : ℕ) → k < n → p k
 below-cong p q zero f = refl
 below-cong p q (suc n) f = ap₂ (λ (l : List ℕ) (b : Bool). l ++ cond b (n ∷ []) []) (below-cong p q n (λ k h. f k (omega arith))) (f n (omega arith))
 
+-- p holds of each number below n: a test that is computed, and what it says of each
+abbrev pub allBelow : (ℕ → Bool) → ℕ → Bool
+allBelow p zero = true
+allBelow p (suc n) = p n && allBelow p n
+
+module _ (p : ℕ → Bool) where
+  pub allBelow-at : (n : ℕ) → allBelow p n ≡ true → (k : ℕ) → k < n → p k ≡ true
+  allBelow-at zero t k h = absurd (omega arith)
+  allBelow-at (suc n) t k h =
+      byBool (eqb k n) (λ e. ap p (eqb-true k n e) ∙ and-left (p n) (allBelow p n) t)
+      (λ e. let ne : k ≡ n → ⊥ = eqb-false k n e in allBelow-at n (and-right (p n) (allBelow p n) t) k (omega arith))
+
+  pub at-allBelow : (n : ℕ) → ((k : ℕ) → k < n → p k ≡ true) → allBelow p n ≡ true
+  at-allBelow zero f = refl
+  at-allBelow (suc n) f = and-intro (f n (omega arith)) (at-allBelow n (λ k h. f k (omega arith)))
+
 -- ---- lists in which a relation holds pairwise
 
 module _ (r : ℕ → ℕ → Bool) (x : ℕ) (xs : List ℕ) (t : pairwise r (x ∷ xs) ≡ true) where

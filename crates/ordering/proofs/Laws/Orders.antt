@@ -207,6 +207,16 @@ unfolding count
 count-length i zero = refl
 count-length i (suc n) = ap suc (count-length (suc i) n)
 
+count-snoc : (i n : ℕ) → count i (suc n) ≡ count i n ++ ((i + n) ∷ [])
+unfolding count
+count-snoc i zero = let e : i ≡ i + 0 = omega arith in ap {B = List ℕ} (λ (x : ℕ). x ∷ []) e
+count-snoc i (suc n) =
+    let e : suc i + n ≡ i + suc n = omega arith in
+    ap {B = List ℕ} (λ (l : List ℕ). i ∷ l) (count-snoc (suc i) n ∙ ap (λ (x : ℕ). count (suc i) n ++ (x ∷ [])) e)
+
+pub count-suc : (n : ℕ) → count 0 (suc n) ≡ count 0 n ++ (n ∷ [])
+count-suc n = let e : 0 + n ≡ n = omega arith in count-snoc 0 n ∙ ap (λ (x : ℕ). count 0 n ++ (x ∷ [])) e
+
 pub count-in : (i n p : ℕ) → In p (count i n) → (i ≤ p) × (p < i + n)
 unfolding count
 count-in i (suc n) p (inl e) = omega arith
