@@ -34,7 +34,7 @@ const PATTERNS: [u64; 7] = [
 ];
 
 // A table after a round, and the predicates whose constraint is another one than before.
-pub struct Round {
+pub struct After {
     pub table: Table,
     pub changed: u64,
 }
@@ -47,7 +47,7 @@ pub fn round<'a>(
     own: &'a [u64; MAX_PREDICATES],
     old: Table,
     due: u64,
-) -> Round
+) -> After
     requires { ⌜ Ready (now arities) (now rules) (now own) (old .needs) due ⌝ }
     ensures { λ r. ⌜ Rounds (now (arities .entry)) (now (rules .entry)) (now (own .entry)) (old .needs) due (r .table .needs) (r .changed) ⌝ }
 {
@@ -65,7 +65,7 @@ pub fn round<'a>(
             changed = with_member(changed, p);
         }
     }
-    Round {
+    After {
         table: new,
         changed,
     }
