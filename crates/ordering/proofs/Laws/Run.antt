@@ -37,7 +37,7 @@ module _ (body : List Call) (p : ℕ) {s : Call} (e : s ≡ getD body p (record 
   unfolding at ready
   ready-read table b t h q r =
       sym (ap (ready (tableIn table maxPredicates) b) e)
-      ∙ ap₂ (λ (c : List ℕ) (a : ℕ). admits c a) (tableIn-at table maxPredicates (s .pred) (pred-read t h) ∙ sym q) (sym r)
+      ∙ ap₂ admits (tableIn-at table maxPredicates (s .pred) (pred-read t h) ∙ sym q) (sym r)
 
   pub after-read : (b : Bound) {b′ : Bound} → b′ ≡ bindAll b (s .args) → b′ ≡ afterAt body b p
   unfolding at after
@@ -80,24 +80,22 @@ module _ {used : List Bool} {passes : ℕ → Bool} {n p : ℕ} (s : Scan used p
 
 -- ---- the places that are left
 
--- two ascending lists, with the same members that pass
-find-same : (p q : ℕ → Bool) (l m : List ℕ) → Ascends l → Ascends m → ((x : ℕ) → In x l → p x ≡ true → In x m × (q x ≡ true))
-    → ((x : ℕ) → In x m → q x ≡ true → In x l × (p x ≡ true)) → find p l ≡ find q m
+-- two ascending lists with the same members that pass
+find-same : (p q : ℕ → Bool) (l m : List ℕ) → Ascends l → Ascends m → ((x : ℕ) → In x l × (p x ≡ true) → In x m × (q x ≡ true))
+    → ((x : ℕ) → In x m × (q x ≡ true) → In x l × (p x ≡ true)) → find p l ≡ find q m
 find-same p q l m a b f g = go (find p l) (find q m) refl refl
   where
     go : (o o′ : Option ℕ) → find p l ≡ o → find q m ≡ o′ → o ≡ o′
     go none none d e = refl
-    go none (some y) d e = let k = find-some q m y e in let h = g y (k .0) (k .1) in absurd (find-none p l d y (h .0) (h .1))
-    go (some x) none d e = let k = find-some p l x d in let h = f x (k .0) (k .1) in absurd (find-none q m e x (h .0) (h .1))
+    go none (some y) d e = let h = g y (find-some q m y e) in absurd (find-none p l d y (h .0) (h .1))
+    go (some x) none d e = let h = f x (find-some p l x d) in absurd (find-none q m e x (h .0) (h .1))
     go (some x) (some y) d e =
-        let k = find-some p l x d in
-        let h = f x (k .0) (k .1) in
-        let k′ = find-some q m y e in
-        let h′ = g y (k′ .0) (k′ .1) in
+        let h = f x (find-some p l x d) in
+        let k = g y (find-some q m y e) in
         ap some
         (⊎-elim (λ z. z)
         (λ u. ⊎-elim (λ z. sym z) (λ v. absurd (omega arith)) (find-least q (λ (i j : ℕ). i < j) m y b e x (h .0) (h .1)))
-        (find-least p (λ (i j : ℕ). i < j) l x a d y (h′ .0) (h′ .1)))
+        (find-least p (λ (i j : ℕ). i < j) l x a d y (k .0) (k .1)))
 
 -- rem has, ascending, those of n places that are not used
 pub record Left (n : ℕ) (used : List Bool) (rem : List ℕ) : Type 0 where
@@ -120,7 +118,8 @@ left-next {n} {used} {rem} p h l = record {
       without-keeps p q rem (λ e. ne (sym e)) (l .has q k (sym (getD-set-other used p q true false ne) ∙ u));
   only = λ q k.
       let m = l .only q (without-in p q rem k) in
-      (m .0, getD-set-other used p q true false (λ e. without-gone p rem (ascends-distinct rem (l .rising)) (subst (λ (j : ℕ). In j (without p rem)) e k)) ∙ m .1);
+      let ne : q ≡ p → ⊥ = λ e. without-gone p rem (ascends-distinct rem (l .rising)) (subst (λ (j : ℕ). In j (without p rem)) e k) in
+      (m .0, getD-set-other used p q true false ne ∙ m .1);
 }
 
 -- what the scan finds is the first of them that passes
@@ -129,9 +128,14 @@ unfolding picked
 left-picked {n} {used} {rem} passes l =
     ap (orElse n)
     (find-same (free used passes) passes (count 0 n) rem (count-ascends 0 n) (l .rising)
-    (λ p m t. let e = count-in 0 n p m in
-    (l .has p (omega arith) (not-true (getD used p false) (and-left (not (getD used p false)) (passes p) t)), and-right (not (getD used p false)) (passes p) t))
-    (λ p m t. let e = l .only p m in let k = e .0 in (in-count 0 n p (omega arith) (omega arith), rw (e .1) t)))
+    (λ p m.
+    let e = count-in 0 n p (m .0) in
+    let u = not-true (getD used p false) (and-left (not (getD used p false)) (passes p) (m .1)) in
+    (l .has p (omega arith) u, and-right (not (getD used p false)) (passes p) (m .1)))
+    (λ p m.
+    let e = l .only p (m .0) in
+    let k = e .0 in
+    (in-count 0 n p (omega arith) (omega arith), rw (e .1) (m .1))))
 
 -- ---- the run
 

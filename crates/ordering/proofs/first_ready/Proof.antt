@@ -57,7 +57,9 @@ returns c =
     let s = b .args in
     let n = c .before .before .before .before .before .before .before .before .subgoals-at .ensures in
     let l = c .before .before .before .before .before .before .before .loop in
-    let r = ready-read (clauseAt (s .rules .now) (s .k) .body) (l .p) (c .before .before .before .before .subgoal-at .ensures) (s .table .now) (s .bound) (b .pre .1) (omega arith) (c .before .before .before .mode-at .ensures) (c .before .before .pattern .ensures) in
+    let r =
+    ready-read (clauseAt (s .rules .now) (s .k) .body) (l .p) (c .before .before .before .before .subgoal-at .ensures) (s .table .now) (s .bound)
+    (b .pre .1) (omega arith) (c .before .before .before .mode-at .ensures) (c .before .before .pattern .ensures) in
     scan-here (l .inv) (omega arith) (not-true _ (c .before .before .before .before .before .if1 .taken)) (r ∙ sym (c .before .fits2 .ensures) ∙ c .if2 .taken)
 
 add-p : tie.Need-add-p Inv-loop μ-loop
@@ -74,7 +76,9 @@ loop-again c =
     let l = c .before .before .loop in
     ⊎-elim
     (λ w.
-    let r = ready-read (clauseAt (s .rules .now) (s .k) .body) (l .p) (w .1 .ensures) (s .table .now) (s .bound) (b .pre .1) (omega arith) (w .2 .ensures) (w .3 .ensures) in
+    let r =
+    ready-read (clauseAt (s .rules .now) (s .k) .body) (l .p) (w .1 .ensures) (s .table .now) (s .bound)
+    (b .pre .1) (omega arith) (w .2 .ensures) (w .3 .ensures) in
     scan-waits (l .inv) (omega arith) (r ∙ sym (w .4 .ensures) ∙ w .5 .left))
     (λ w. scan-used (l .inv) (omega arith) (not-false _ (w .left)))
     (c .if1 .came)
