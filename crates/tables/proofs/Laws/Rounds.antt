@@ -16,7 +16,7 @@ use borrow.Author.Tests.{eqb-true, eqb-false, eq-eqb, lt-ltb, leb-true}
 use Rattle.masks.specs.Limits.{maxArity}
 use Rattle.masks.specs.Mask.{within}
 use Rattle.masks.specs.Constraint.{admits, trivial, inRange, isWritten, written, minimise, sameMasks}
-use Rattle.masks.proofs.Laws.Logic.{byBool, clash, same, and-intro, and-left, and-right, or-left}
+use Rattle.masks.proofs.Laws.Logic.{byBool, clash, false-of, same, and-intro, and-left, and-right, or-left}
 use Rattle.masks.proofs.Laws.Lists.{length-values, getD-values}
 use Rattle.masks.proofs.Laws.Mask.{within-zero}
 use Rattle.masks.proofs.Laws.Constraint.{sameMasks-true, sameMasks-refl, canonical, written-isWritten, written-sound, written-mono, written-admits, minimise-isWritten-at}
@@ -304,3 +304,43 @@ module _ (B : Book) where
         go : (p : ℕ) (b : Bool) → cond b (2 ^ getD (B .arities) p 0) 0 ≤ 64
         go p true = pow-le-pow-right (omega arith) (arity-low B w p)
         go p false = omega arith
+
+-- ---- a loop of rounds: T is table k, and none before it was settled
+
+pub record Going (B : Book) (k : ℕ) (T : Table) : Type 0 where
+  pub now : T ≡ table B k
+  pub before : (j : ℕ) → j < k → settled B j ≡ false
+
+pub going-start : (B : Book) → Going B 0 (start B)
+unfolding table
+going-start B = record { now = refl; before = λ j l. absurd (omega arith) }
+
+module _ (B : Book) (k : ℕ) (T : Table) (g : Going B k T) where
+  settled-now : (b : Bool) → sameTable (step (B .arities) (B .clauses) T) T ≡ b → settled B k ≡ b
+  unfolding settled table
+  settled-now b e = subst (λ (W : Table). sameTable (step (B .arities) (B .clauses) W) W ≡ b) (g .now) e
+
+  -- the new table differs: on with it
+  pub going-next : (step (B .arities) (B .clauses) T ≡ T → ⊥) → Going B (suc k) (step (B .arities) (B .clauses) T)
+  unfolding table
+  going-next ne =
+      record {
+        now = ap (step (B .arities) (B .clauses)) (g .now);
+        before = λ j l. byBool (eqb j k)
+            (λ t. ap (settled B) (eqb-true j k t) ∙ settled-now false (false-of (λ e. ne (sameTable-true (step (B .arities) (B .clauses) T) T e))))
+            (λ t. let other : j ≡ k → ⊥ = eqb-false j k t in g .before j (omega arith));
+      }
+
+  module _ (w : WellFormed B) where
+    pub going-less : (step (B .arities) (B .clauses) T ≡ T → ⊥) → k < rounds B
+    going-less ne =
+        byRange k (rounds B) (λ l. l)
+        (λ l. clash (rounds-settled B w) (going-next ne .before (rounds B) (omega arith)))
+
+    -- it does not: done
+    pub going-rounds : step (B .arities) (B .clauses) T ≡ T → k ≡ rounds B
+    going-rounds e = rounds-unique B w k (settled-now true (true-sameTable (step (B .arities) (B .clauses) T) T e)) (g .before)
+
+    pub going-final : step (B .arities) (B .clauses) T ≡ T → T ≡ final B
+    unfolding final
+    going-final e = g .now ∙ ap (table B) (going-rounds e)

@@ -83,6 +83,11 @@ module _ (B : Book) (w : WellFormed B) where
   pub defined-apart : (p : ℕ) → defined (B .clauses) p ≡ true → modeOf (B .modes) p ≡ none
   defined-apart p d = mode-none (B .modes) p (defined-fits (B .arities) (B .modes) (B .clauses) (w .clausesFit) p d .1)
 
+  pub bodies-known : all (λ c. callsBelow (length (B .arities)) (c .body)) (B .clauses) ≡ true
+  bodies-known =
+      all-mono (clauseFits (B .arities) (B .modes)) (λ c. callsBelow (length (B .arities)) (c .body)) (body-known (B .arities) (B .modes)) (B .clauses)
+      (w .clausesFit)
+
   module _ (d : Clause) (i : ℕ) (h : i < length (B .clauses)) where
     clause-fits : clauseFits (B .arities) (B .modes) (getD (B .clauses) i d) ≡ true
     clause-fits = all-at (clauseFits (B .arities) (B .modes)) d (B .clauses) i h (w .clausesFit)
