@@ -42,7 +42,7 @@ column i = getD columns i 0
 abbrev inColumn : ℕ → ℕ → Bool
 inColumn i a = Bool·beq (bitAt (column i) a) (bitAt a i)
 
-beq-same : (x y : Bool) → Bool·beq x y ≡ true → x ≡ y
+pub beq-same : (x y : Bool) → Bool·beq x y ≡ true → x ≡ y
 beq-same true true e = refl
 beq-same true false e = sym e
 beq-same false true e = e

@@ -1,0 +1,3 @@
+-- The laws of this crate's definitions and of its loops.
+pub mod Trying
+pub mod Rounding

@@ -1,0 +1,107 @@
+use mathlib.Core.Bool.{true, false}
+use Prim.Native.Nat.{suc}
+use lib.Bits.{bitAnd}
+use lib.Count.{trailingZeros}
+use Rattle.masks.specs.Set.{bitAt}
+use Rattle.masks.proofs.Laws.Members.{others-less, Over, over-start, over-end, over-lowest, over-member, over-here, over-next}
+use Rattle.needs.proofs.Laws.Trying.{Tried, tried-start, tried-skip, tried-next}
+use borrow.Author.Needs.{needs}
+use native.Mathlib.Omega.{arith}
+use Prim.Native.Nat.{ℕ, _+_, _-_, _*_, _≤_, _<_}
+use mathlib.Core.Path.{_≡_, refl, sym, ap, _∙_}
+use lib.ListN.{length, getD, take, drop}
+use mathlib.Core.Logic.{⊎-elim}
+use Rattle.needs.proofs.round.good_patterns.Statement.{statement}
+use Rattle.needs.proofs.round.good_patterns.Tie as tie
+use Rattle.needs.proofs.round.good_patterns.Reads as reads
+use Rattle.needs.proofs.round.good_patterns.Lts as lts
+use Rattle.lanes.proofs.good_lanes.Reads as good-lanes-reads
+
+abbrev Inv-loop : tie.InvT-loop
+Inv-loop arity rules own table set₀ rest₀ set rest = Over (Tried rules arity own table set) 64 own rest
+
+abbrev μ-loop : tie.MeasureT-loop
+μ-loop arity rules own table set₀ rest₀ set rest = rest
+
+--src/round.rt:97:19
+mul-set : tie.Need-mul-set Inv-loop μ-loop
+mul-set c = search needs
+
+--src/round.rt:97:19
+array-read-set : tie.Need-array-read-set Inv-loop μ-loop
+array-read-set c = search needs
+
+--src/round.rt:99:5
+loop-holds : tie.Need-loop-holds Inv-loop μ-loop
+loop-holds c = over-start (Tried (c .args .rules .now) (c .args .arity) (c .args .own) (c .args .table .now) _) 64 (c .args .own) (search needs) (tried-start (c .args .rules .now) (c .args .arity) (c .args .own) (c .args .table .now) (c .pre .0))
+
+-- in a turn: k is the lowest clause of those left
+module _ (c : tie.In-loop Inv-loop μ-loop) where
+  abbrev tried : ℕ → ℕ → Type 0
+  tried = Tried (c .before .before .args .rules .now) (c .before .before .args .arity) (c .before .before .args .own) (c .before .before .args .table .now)
+
+  abbrev k : ℕ
+  k = trailingZeros 64 (c .before .loop .rest)
+
+  abbrev skip : (i : ℕ) → bitAt (c .before .before .args .own) i ≡ false → tried (c .before .loop .set) i → tried (c .before .loop .set) (suc i)
+  skip = tried-skip (c .before .before .args .rules .now) (c .before .before .args .arity) (c .before .before .args .own) (c .before .before .args .table .now) (c .before .loop .set)
+
+  low : k < 64
+  low = over-lowest (tried (c .before .loop .set)) 64 (c .before .before .args .own) (c .before .loop .rest) skip (c .before .loop .inv) (c .loop-test .taken) .small
+
+  member : bitAt (c .before .before .args .own) k ≡ true
+  member = over-member (tried (c .before .loop .set)) 64 (c .before .before .args .own) (c .before .loop .rest) skip (c .before .loop .inv) (c .loop-test .taken)
+
+  here : tried (c .before .loop .set) k
+  here = over-here (tried (c .before .loop .set)) 64 (c .before .before .args .own) (c .before .loop .rest) skip (c .before .loop .inv) (c .loop-test .taken)
+
+  next : (set : ℕ) → tried set (suc k) → Over (tried set) 64 (c .before .before .args .own) (bitAnd (c .before .loop .rest) (c .before .loop .rest - 1))
+  next set = over-next (tried (c .before .loop .set)) 64 (c .before .before .args .own) (c .before .loop .rest) skip (c .before .loop .inv) (c .loop-test .taken) (tried set)
+
+
+--src/round.rt:100:17
+cast-k : tie.Need-cast-k Inv-loop μ-loop
+cast-k c = let l = low c in omega arith
+
+--src/round.rt:101:24
+sub-rest : tie.Need-sub-rest Inv-loop μ-loop
+sub-rest c = search needs
+
+--src/round.rt:102:21
+good-lanes-requires : tie.Need-good-lanes-requires Inv-loop μ-loop
+good-lanes-requires c κs = let l = low c in (omega arith, c .before .before .pre .1 (k c) l (member c), c .before .before .pre .2)
+
+--src/round.rt:99:5
+loop-less : tie.Need-loop-less Inv-loop μ-loop
+loop-less c = others-less (c .before .before .loop .rest) (c .before .loop-test .taken)
+
+--src/round.rt:99:5
+loop-again : tie.Need-loop-again Inv-loop μ-loop
+loop-again c =
+    let d = c .before in
+    let s = d .before .before .args in
+    next d _ (tried-next (s .rules .now) (s .arity) (s .own) (s .table .now) (d .before .loop .set) (k d) (c .good-lanes .result) (member d) (c .good-lanes .ensures) (here d))
+
+--src/round.rt:88:1
+returns : tie.Need-returns Inv-loop μ-loop
+returns c =
+    let s = c .before .before .args in
+    let l = c .before .loop in
+    over-end (Tried (s .rules .now) (s .arity) (s .own) (s .table .now) (l .set)) 64 (s .own) (l .rest)
+    (tried-skip (s .rules .now) (s .arity) (s .own) (s .table .now) (l .set)) (l .inv) (c .loop-test .left)
+
+pub good-patterns-spec : {M : Type 1} → statement M
+good-patterns-spec =
+    tie.close
+    (tie.spec
+    Inv-loop
+    μ-loop
+    mul-set
+    array-read-set
+    loop-holds
+    cast-k
+    sub-rest
+    good-lanes-requires
+    loop-less
+    loop-again
+    returns)
