@@ -1,3 +1,4 @@
 -- The laws of this crate's definitions and of its loops.
+pub mod Calls
 pub mod Trying
 pub mod Rounding

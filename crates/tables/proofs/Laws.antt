@@ -2,6 +2,7 @@
 pub mod Examples
 pub mod Sums
 pub mod Valid
+pub mod Own
 pub mod Round
 pub mod Rounds
 pub mod Held
