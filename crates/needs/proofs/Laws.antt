@@ -2,3 +2,4 @@
 pub mod Calls
 pub mod Trying
 pub mod Rounding
+pub mod Turns

@@ -39,10 +39,10 @@ calls-more n m h =
     all-mono (λ (s : Call). ltb (s .pred) n) (λ s. ltb (s .pred) m) (λ s t. let l = ltb-true (s .pred) n t in lt-ltb (s .pred) m (omega arith))
 
 module _ (B : Book) (arities rules own : List ℕ) (g : Given B arities rules own) where
-  few-predicates : length (B .arities) ≤ maxPredicates
+  pub few-predicates : length (B .arities) ≤ maxPredicates
   few-predicates = leb-true (length (B .arities)) maxPredicates (g .well .fewPredicates)
 
-  few-clauses : length (B .clauses) ≤ maxClauses
+  pub few-clauses : length (B .clauses) ≤ maxClauses
   few-clauses = leb-true (length (B .clauses)) maxClauses (g .well .fewClauses)
 
   pub given-arity : (p : ℕ) → defined (B .clauses) p ≡ true → getD arities p 0 ≤ maxArity
