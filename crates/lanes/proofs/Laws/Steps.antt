@@ -192,7 +192,7 @@ module _ (args : List ℕ) (r : ℕ) (before : List ℕ) where
         still = λ e. m e .1 ∙ g .still (m e .0);
       }
     where
-      -- a lane that is in r twice
+      -- in the lanes of r one variable more, elsewhere all as it was
       inside : (c : Bool) (b d : Bound) (v : ℕ) → cond c (bindVar (cond c d b) v) (cond c d b) ≡ cond c (bindVar d v) b
       inside true b d v = refl
       inside false b d v = refl

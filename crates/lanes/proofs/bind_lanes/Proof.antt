@@ -1,7 +1,7 @@
 -- `lanes::bind_lanes` meets its contract. The loop's invariant: the contract for the first i arguments. Assumes nothing.
 use mathlib.Core.Path.{sym, _∙_}
 use mathlib.Core.Logic.{⊎-elim}
-use Prim.Native.Nat.{_-_, _≤_}
+use Prim.Native.Nat.{_+_, _-_, _≤_}
 use native.Mathlib.Omega.{arith}
 use lib.ListN.{take, length-take}
 use borrow.Author.Needs.{needs}
@@ -23,8 +23,8 @@ arguments-requires c κs = search needs
 loop-holds : tie.Need-loop-holds Inv-loop μ-loop
 loop-holds c = let args = c .before .args in (omega arith, binding-start (args .t1 .args) (args .r) (args .vars .now))
 
-element-copy-out-v : tie.Need-element-copy-out-v Inv-loop μ-loop
-element-copy-out-v c = let n = c .before .before .arguments .ensures .1 in omega arith
+element-copy-out-w : tie.Need-element-copy-out-w Inv-loop μ-loop
+element-copy-out-w c = let n = c .before .before .arguments .ensures .1 in omega arith
 
 cast-w : tie.Need-cast-w Inv-loop μ-loop
 cast-w c = search needs
@@ -51,9 +51,11 @@ loop-again : tie.Need-loop-again Inv-loop μ-loop
 loop-again c =
     let l = c .before .before .before .loop in
     let args = c .before .before .before .before .before .args in
-    let n = c .before .before .before .before .arguments .ensures .0 in
+    let n = c .before .before .before .before .arguments in
+    let e = n .ensures .0 in
+    let most : l .i + 1 ≤ n .result = omega arith in
     let next = binding-next (args .t1 .args) (args .r) (args .vars .now) (l .i) (omega (arith, length-take (args .t1 .n) (args .t1 .args))) in (
-      omega arith,
+      most,
       ⊎-elim (λ u. next (one-var _ (args .r) (l .vars) (omega arith) (u .3)) (λ f. clash (u .4) f) (l .inv .1))
           (⊎-elim
           (λ u. next (one-var _ (args .r) (l .vars) (omega arith) (u .3)) (λ f. (sym (u .4) ∙ f, one-still _ (args .r) (l .vars) (u .3) (u .2 .left))) (l .inv .1))
@@ -76,7 +78,7 @@ bind-lanes-spec =
     μ-loop
     arguments-requires
     loop-holds
-    element-copy-out-v
+    element-copy-out-w
     cast-w
     mul-old
     element-copy-out-old
