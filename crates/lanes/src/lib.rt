@@ -184,8 +184,9 @@ fn bind_lanes(s: Call, r: u64, vars: &mut [u64; VARIABLES]) -> bool
     let mut moved = false;
     let mut i: usize = 0;
     while i < n {
-        let w = s.args[i] as usize;
-        if w < VARIABLES {
+        let v = s.args[i];
+        if v <= LAST_VARIABLE {
+            let w = v as usize;
             let old = vars[w];
             let new = old | r;
             vars[w] = new;

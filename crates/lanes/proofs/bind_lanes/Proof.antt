@@ -23,8 +23,8 @@ arguments-requires c κs = search needs
 loop-holds : tie.Need-loop-holds Inv-loop μ-loop
 loop-holds c = let args = c .before .args in (omega arith, binding-start (args .t1 .args) (args .r) (args .vars .now))
 
-element-copy-out-w : tie.Need-element-copy-out-w Inv-loop μ-loop
-element-copy-out-w c = let n = c .before .before .arguments .ensures .1 in omega arith
+element-copy-out-v : tie.Need-element-copy-out-v Inv-loop μ-loop
+element-copy-out-v c = let n = c .before .before .arguments .ensures .1 in omega arith
 
 cast-w : tie.Need-cast-w Inv-loop μ-loop
 cast-w c = search needs
@@ -78,7 +78,7 @@ bind-lanes-spec =
     μ-loop
     arguments-requires
     loop-holds
-    element-copy-out-w
+    element-copy-out-v
     cast-w
     mul-old
     element-copy-out-old
