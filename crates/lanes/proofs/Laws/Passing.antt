@@ -104,9 +104,10 @@ pub record Passing (T : Table) (c : Clause) (k : ℕ) (vars : List ℕ) : Type 0
   pub lanes : EachLane (λ a. lane a vars ≡ passes (readyAt T (c .body)) (afterAt (c .body)) (length (c .body)) done (headBound (c .head .args) a))
 
 module _ (T : Table) (c : Clause) where
-  pub passing-start : (head : Call) (vars : List ℕ) → head ≡ c .head → EachLane (λ a. lane a vars ≡ headBound (head .args) a) → Passing T c 1 vars
+  pub passing-start : {k : ℕ} {vars : List ℕ} (head : Call) → k ≡ 1 → head ≡ c .head → EachLane (λ a. lane a vars ≡ headBound (head .args) a)
+      → Passing T c k vars
   unfolding passes
-  passing-start head vars e f = record { done = 0; next = refl; lanes = λ a l. f a l ∙ ap (λ (h : Call). headBound (h .args) a) e }
+  passing-start head i e f = record { done = 0; next = i; lanes = λ a l. f a l ∙ ap (λ (h : Call). headBound (h .args) a) e }
 
   module _ {k : ℕ} {vars to : List ℕ} {r : Pass} (d : Passed T (c .body) vars to r) (g : Passing T c k vars) where
     abbrev n : ℕ

@@ -26,8 +26,8 @@ use Rattle.ordering.proofs.Laws.Steps.{var-set, var-skip}
 use Rattle.lanes.proofs.Laws.Words.{ones, bitAt-ones, column, bitAt-column, lane-at, lane-or, lane-zeros, pattern-at, pattern-past, asked, within-bits}
 
 -- of the first n of an array, all are done
-done : (n i : ℕ) (l : List ℕ) → i ≡ length (take n l) → take i l ≡ take n l
-done n i l e = ap (λ (k : ℕ). take k l) e ∙ take-front n l
+all-done : (n i : ℕ) (l : List ℕ) → i ≡ length (take n l) → take i l ≡ take n l
+all-done n i l e = ap (λ (k : ℕ). take k l) e ∙ take-front n l
 
 -- ---- an argument
 
@@ -78,9 +78,9 @@ module _ (vars args : List ℕ) where
         rest = λ j k. getD-set-other words i j w 0 (λ e. omega arith) ∙ g .rest j (omega arith);
       }
 
-  pub words-end : (n : ℕ) {i : ℕ} {words : List ℕ} → length (take n args) ≤ i → i ≤ length (take n args) → Words vars args i words
+  pub words-end : (n : ℕ) {i : ℕ} {words : List ℕ} → i ≡ length (take n args) → Words vars args i words
       → EachLane (λ a. Agrees words a (patternOf (lane a vars) (take n args)))
-  words-end n {i} {words} h k g a l j m =
+  words-end n {i} {words} e g a l j m =
       byBool (leb i j)
       (λ t.
       let o = leb-true i j t in
@@ -138,8 +138,7 @@ module _ (words masks : List ℕ) where
 
   pub tried-end : (n i r : ℕ) → i ≡ length (take n masks) → Tried words masks i r
       → EachLane (λ a. (p : ℕ) → Agrees words a p → bitAt r a ≡ admits (take n masks) p)
-  tried-end n i r e g a h p f =
-      g a h p f ∙ ap (λ (l : List ℕ). admits l p) (done n i masks e)
+  tried-end n i r e g a h p f = g a h p f ∙ ap (λ (l : List ℕ). admits l p) (all-done n i masks e)
 
 -- ---- an argument bound in the lanes of r
 
@@ -192,14 +191,14 @@ module _ (args : List ℕ) (r : ℕ) (before : List ℕ) where
         still = λ e. m e .1 ∙ g .still (m e .0);
       }
     where
-      -- a lane that is in r twice
+      -- in the lanes of r one variable more, elsewhere all as it was
       inside : (c : Bool) (b d : Bound) (v : ℕ) → cond c (bindVar (cond c d b) v) (cond c d b) ≡ cond c (bindVar d v) b
       inside true b d v = refl
       inside false b d v = refl
 
   pub binding-end : (n i : ℕ) {now : List ℕ} {moved : Bool} → i ≡ length (take n args) → Binds (take i args) r before now moved
       → Binds (take n args) r before now moved
-  binding-end n i {now} {moved} e g = subst (λ (l : List ℕ). Binds l r before now moved) (done n i args e) g
+  binding-end n i {now} {moved} e g = subst (λ (l : List ℕ). Binds l r before now moved) (all-done n i args e) g
 
 -- ---- the variables of a head: those of the first i positions are bound in the lanes that have its bit
 
@@ -232,4 +231,4 @@ module _ (args : List ℕ) where
       }
 
   pub headed-end : (n : ℕ) {i : ℕ} {vars : List ℕ} → i ≡ length (take n args) → Headed args i vars → EachLane (λ a. lane a vars ≡ headBound (take n args) a)
-  headed-end n {i} e g a h = g .lanes a h ∙ ap (λ (l : List ℕ). headBound l a) (done n i args e)
+  headed-end n {i} e g a h = g .lanes a h ∙ ap (λ (l : List ℕ). headBound l a) (all-done n i args e)

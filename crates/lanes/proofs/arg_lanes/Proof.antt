@@ -6,7 +6,7 @@ use Rattle.lanes.proofs.arg_lanes.Statement.{statement}
 use Rattle.lanes.proofs.arg_lanes.Tie as tie
 
 returns : tie.Need-returns
-returns c = let args = c .before .args in arg-literal (args .vars .now) (args .v) (c .if1 .taken)
+returns c = let args = c .before .args in arg-literal (args .vars .now) (args .v) (omega arith)
 
 mul-result : tie.Need-mul-result
 mul-result c = search needs

@@ -1,7 +1,7 @@
 -- `lanes::bind_lanes` meets its contract. The loop's invariant: the contract for the first i arguments. Assumes nothing.
 use mathlib.Core.Path.{sym, _∙_}
 use mathlib.Core.Logic.{⊎-elim}
-use Prim.Native.Nat.{_-_, _≤_}
+use Prim.Native.Nat.{_+_, _-_, _≤_}
 use native.Mathlib.Omega.{arith}
 use lib.ListN.{take, length-take}
 use borrow.Author.Needs.{needs}
@@ -51,9 +51,11 @@ loop-again : tie.Need-loop-again Inv-loop μ-loop
 loop-again c =
     let l = c .before .before .before .loop in
     let args = c .before .before .before .before .before .args in
-    let n = c .before .before .before .before .arguments .ensures .0 in
+    let n = c .before .before .before .before .arguments in
+    let e = n .ensures .0 in
+    let most : l .i + 1 ≤ n .result = omega arith in
     let next = binding-next (args .t1 .args) (args .r) (args .vars .now) (l .i) (omega (arith, length-take (args .t1 .n) (args .t1 .args))) in (
-      omega arith,
+      most,
       ⊎-elim (λ u. next (one-var _ (args .r) (l .vars) (omega arith) (u .3)) (λ f. clash (u .4) f) (l .inv .1))
           (⊎-elim
           (λ u. next (one-var _ (args .r) (l .vars) (omega arith) (u .3)) (λ f. (sym (u .4) ∙ f, one-still _ (args .r) (l .vars) (u .3) (u .2 .left))) (l .inv .1))

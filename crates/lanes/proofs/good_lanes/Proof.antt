@@ -30,8 +30,8 @@ loop-holds : tie.Need-loop-holds Inv-loop μ-loop
 loop-holds c =
     let head = c .before .head-at in
     let args = c .before .before .before .args in
-    passing-start (tableIn (args .table .now) maxPredicates) (clauseAt (args .rules .now) (args .k)) (callOf (head .result)) (c .head-lanes .result)
-    (head .ensures) (c .head-lanes .ensures)
+    passing-start (tableIn (args .table .now) maxPredicates) (clauseAt (args .rules .now) (args .k)) (callOf (head .result)) (omega arith) (head .ensures)
+    (c .head-lanes .ensures)
 
 one-pass-requires : tie.Need-one-pass-requires Inv-loop μ-loop
 one-pass-requires c κs = c .before .before .before .before .before .pre

@@ -56,11 +56,12 @@ loop-again : tie.Need-loop-again Inv-loop μ-loop
 loop-again c =
     let l = c .before .before .before .loop in
     let head = c .before .before .before .before .before .args .t1 in
-    let n = c .before .before .before .before .arguments .ensures in
-    let next = headed-next (head .args) (l .i) (omega (arith, length-take (head .n) (head .args))) (omega arith) in (
+    let n = c .before .before .before .before .arguments .ensures in (
       omega arith,
-      ⊎-elim (λ u. next (ap length (u .1) ∙ length-set (l .vars) _ _) (one-var _ (column (l .i)) (l .vars) (omega arith) (u .1)) (l .inv .1))
-          (λ u. next (ap length (u .1)) (one-other _ (column (l .i)) (l .vars) (omega arith) (u .1)) (l .inv .1)) (c .if1 .came),
+      headed-next (head .args) (l .i) (omega (arith, length-take (head .n) (head .args))) (omega arith)
+          (⊎-elim (λ u. ap length (u .1) ∙ length-set (l .vars) _ _) (λ u. ap length (u .1)) (c .if1 .came))
+          (⊎-elim (λ u. one-var _ (column (l .i)) (l .vars) (omega arith) (u .1)) (λ u. one-other _ (column (l .i)) (l .vars) (omega arith) (u .1)) (c .if1 .came))
+          (l .inv .1),
     )
 
 returns : tie.Need-returns Inv-loop μ-loop

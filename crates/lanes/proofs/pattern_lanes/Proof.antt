@@ -49,7 +49,7 @@ returns c =
     let l = c .before .loop in
     let args = c .before .before .before .args in
     let n = c .before .before .arguments .ensures .0 in
-    words-end (args .vars .now) (args .t1 .args) (args .t1 .n) (omega arith) (omega arith) (l .inv .1)
+    words-end (args .vars .now) (args .t1 .args) (args .t1 .n) (omega arith) (l .inv .1)
 
 pub pattern-lanes-spec : {M : Type 1} → statement M
 pattern-lanes-spec =
