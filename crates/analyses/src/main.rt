@@ -6,9 +6,6 @@
 // the table written, or `-`; where there is a table of at least one byte, then `short` with the number, value and rounds of the reply where the
 // room is one byte less. A reply that altered a byte it had to leave adds the word `spoiled`. It reads at most 262,144 bytes, and of a book at
 // most 8,192.
-ghost use Prim.Native.Nat.{_≤_};
-ghost use lib.ListN.{length};
-ghost use Rattle.io.specs.Counts.{Counts};
 use libc::STDIN_FILENO;
 use libc::STDOUT_FILENO;
 use masks::reply::Reply;
@@ -40,31 +37,65 @@ fn answer(line: &[u8]) {
     let mut out = [OLD; ROOM];
     let r = needs::analyse(bytes, &mut out);
     show(r);
-    let k = bytes_written(r, &out);
+    let k = lines::clip(bytes_written(r), &out);
     show_bytes(&out[..k]);
-    spoiled(&out[k..]);
+    show_spoiled(k, &out);
     if k != 0 {
-        show_short(bytes, k);
+        show_short(bytes, k - 1);
     }
     io::write_all(STDOUT_FILENO, b"\n");
 }
 
-// The same with room for one byte less than k.
+// The same with room for k bytes.
 fn show_short(bytes: &[u8], k: usize) {
     let mut out = [OLD; ROOM];
-    let n = less(k, &out);
+    let n = lines::clip(k, &out);
     let r = needs::analyse(bytes, &mut out[..n]);
     io::write_all(STDOUT_FILENO, b" short");
     show(r);
-    spoiled(&out);
+    show_spoiled(0, &out);
 }
 
 // A reply's number, value and rounds.
 fn show(r: Reply) {
+    show_number(r.number as u64);
+    show_number(r.value);
+    show_number(r.rounds);
+}
+
+fn show_number(n: u64) {
     io::write_all(STDOUT_FILENO, b" ");
-    io::print_decimal(STDOUT_FILENO, r.number as u64);
+    io::print_decimal(STDOUT_FILENO, n);
+}
+
+// How many bytes a reply says are written.
+fn bytes_written(r: Reply) -> usize {
+    if r.number == 0 { r.value as usize } else { 0 }
+}
+
+// Bytes as hexadecimal digits, or `-`.
+fn show_bytes(bytes: &[u8]) {
     io::write_all(STDOUT_FILENO, b" ");
-    io::print_decimal(STDOUT_FILENO, r.value);
-    io::write_all(STDOUT_FILENO, b" ");
-    io::print_decimal(STDOUT_FILENO, r.rounds);
+    if bytes.len() == 0 {
+        io::write_all(STDOUT_FILENO, b"-");
+    }
+    let mut i: usize = 0;
+    while i < bytes.len() {
+        let x = bytes[i];
+        let two = [lines::hex(x / 16), lines::hex(x % 16)];
+        io::write_all(STDOUT_FILENO, &two);
+        i += 1;
+    }
+}
+
+// Says so where a byte from `at` on is not as it was.
+fn show_spoiled(at: usize, out: &[u8]) {
+    let mut i = at;
+    while i < out.len() {
+        if out[i] != OLD {
+            io::write_all(STDOUT_FILENO, b" spoiled");
+            return;
+        }
+        i += 1;
+    }
 }

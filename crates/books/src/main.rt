@@ -35,7 +35,7 @@ fn main() {
 fn answer(line: &[u8]) {
     io::write_all(STDOUT_FILENO, lines::field(line, 0));
     let mut raw = [0u8; ROOM];
-    let n = unhex(lines::field(line, 1), &mut raw);
+    let n = lines::unhex(lines::field(line, 1), &mut raw);
     let bytes = &raw[..n];
     let r = reading::check(bytes);
     show(r);
@@ -108,40 +108,4 @@ fn one_less(bytes: &[u8], out: &[u8]) -> usize
     }
     let n = bytes.len() - 1;
     if n < out.len() { n } else { out.len() }
-}
-
-// The bytes of a word of hexadecimal digits, as many as there is room for.
-fn unhex(word: &[u8], to: &mut [u8]) -> usize
-    ensures { λ r. ⌜ Counts r (now (to .exit)) ⌝ }
-{
-    let mut n: usize = 0;
-    let mut at: usize = 0;
-    while n < to.len() {
-        if word.len() - at < 2 {
-            return n;
-        }
-        to[n] = digit(word[at]) * 16 + digit(word[at + 1]);
-        n += 1;
-        at += 2;
-    }
-    n
-}
-
-// The value of a hexadecimal digit; any other byte counts as 0.
-fn digit(x: u8) -> u8
-    ensures { λ r. ⌜ r ≤ 15 ⌝ }
-{
-    if x < b'0' {
-        return 0;
-    }
-    if x <= b'9' {
-        return x - b'0';
-    }
-    if x < b'a' {
-        return 0;
-    }
-    if x <= b'f' {
-        return x - b'a' + 10;
-    }
-    0
 }

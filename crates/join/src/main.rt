@@ -55,21 +55,13 @@ fn try_one(joint: bool, line: &[u8]) -> Tried {
     let mut ys = [0u8; 32];
     let ny = numbers(lines::field(line, 4), &mut ys);
     let mut out = [OLD; 64];
-    let k = clipped(number(lines::field(line, 5)), &out);
+    let k = lines::clip(number(lines::field(line, 5)) as usize, &out);
     if joint {
         let reply = masks::joint(arity, &xs[..nx], &ys[..ny], &mut out[..k]);
         return Tried { reply, out };
     }
     let reply = masks::choice(arity, &xs[..nx], &ys[..ny], &mut out[..k]);
     Tried { reply, out }
-}
-
-// The room asked for, as far as there is any.
-fn clipped(room: u8, out: &[u8]) -> usize
-    ensures { λ r. ⌜ Counts r (now (out .entry)) ⌝ }
-{
-    let k = room as usize;
-    if k < out.len() { k } else { out.len() }
 }
 
 // The reply, the masks written, and whether the bytes after them are as they were.

@@ -1,4 +1,4 @@
-// Lines and their fields, for the programs: fields are parted by single spaces, and lines end in a newline.
+// Lines and their fields, for the programs: fields are parted by single spaces, and lines end in a newline. Bytes stand in them as hexadecimal digits.
 ghost use mathlib.Core.Path.{_≡_};
 ghost use Prim.Native.Nat.{_+_, _≤_, min};
 ghost use lib.ListN.{length};
@@ -38,4 +38,52 @@ pub fn after(s: &[u8], at: usize) -> usize
     ensures { λ r. ⌜ r ≡ min (at + 1) (length (now (s .entry))) ⌝ }
 {
     if at < s.len() { at + 1 } else { s.len() }
+}
+
+// The bytes of a word of hexadecimal digits, as many as there is room for.
+pub fn unhex(word: &[u8], to: &mut [u8]) -> usize
+    ensures { λ r. ⌜ Counts r (now (to .exit)) ⌝ }
+{
+    let mut n: usize = 0;
+    let mut at: usize = 0;
+    while n < to.len() {
+        if word.len() - at < 2 {
+            return n;
+        }
+        to[n] = digit(word[at]) * 16 + digit(word[at + 1]);
+        n += 1;
+        at += 2;
+    }
+    n
+}
+
+// The value of a hexadecimal digit; any other byte counts as 0.
+fn digit(x: u8) -> u8
+    ensures { λ r. ⌜ r ≤ 15 ⌝ }
+{
+    if x < b'0' {
+        return 0;
+    }
+    if x <= b'9' {
+        return x - b'0';
+    }
+    if x < b'a' {
+        return 0;
+    }
+    if x <= b'f' {
+        return x - b'a' + 10;
+    }
+    0
+}
+
+// A number of bytes, as far as the slice has them.
+pub fn clip(n: usize, s: &[u8]) -> usize
+    ensures { λ r. ⌜ Counts r (now (s .entry)) ⌝ }
+{
+    if n < s.len() { n } else { s.len() }
+}
+
+// A hexadecimal digit of a value below 16.
+pub fn hex(x: u8) -> u8 {
+    if x < 10 { b'0' + x } else { x % 16 + 87 }
 }

@@ -58,7 +58,6 @@ module _ (c : tie.In-loop Inv-loop μ-loop) where
   next : (set : ℕ) → tried set (suc k) → Over (tried set) 64 (c .before .before .args .own) (bitAnd (c .before .loop .rest) (c .before .loop .rest - 1))
   next set = over-next (tried (c .before .loop .set)) 64 (c .before .before .args .own) (c .before .loop .rest) skip (c .before .loop .inv) (c .loop-test .taken) (tried set)
 
-
 --src/round.rt:100:17
 cast-k : tie.Need-cast-k Inv-loop μ-loop
 cast-k c = let l = low c in omega arith

@@ -83,7 +83,6 @@ module _ (c : tie.In-loop Inv-loop μ-loop) where
   arity-few : getD arities p 0 ≤ 6
   arity-few = let r = c .before .before .pre in given-arity (r .0) arities rules own (r .1) p (r .3 .defined· p member)
 
-
 -- src/round.rt:58:17
 cast-p : tie.Need-cast-p Inv-loop μ-loop
 cast-p c = let l = low c in omega arith

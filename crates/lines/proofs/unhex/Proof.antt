@@ -1,12 +1,12 @@
--- `books::unhex` meets its contract. The loop's invariant: the place and the count are within their slices; the room left falls. Assumes nothing.
+-- `lines::unhex` meets its contract. The loop's invariant: the place and the count are within their slices; the room left falls. Assumes nothing.
 use mathlib.Core.Path.{_≡_, refl, sym}
 use Prim.Native.Nat.{_-_, _≤_}
 use native.Mathlib.Omega.{arith}
 use lib.ListN.{length-set, length}
 use lib.Seq.{length-take-le}
 use borrow.Author.Needs.{needs}
-use Rattle.books.proofs.unhex.Statement.{statement}
-use Rattle.books.proofs.unhex.Tie as tie
+use Rattle.lines.proofs.unhex.Statement.{statement}
+use Rattle.lines.proofs.unhex.Tie as tie
 
 abbrev Inv-loop : tie.InvT-loop
 Inv-loop word to₀ n₀ at₀ to n at = (n ≤ length to) × (length to ≡ length to₀) × (at ≤ length word)
