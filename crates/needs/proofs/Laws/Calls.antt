@@ -15,7 +15,8 @@ use Rattle.masks.specs.Lists.{any, all}
 use Rattle.masks.specs.Set.{bitAt, Holds}
 use Rattle.book.specs.Limits.{maxPredicates, maxClauses}
 use Rattle.book.specs.Book.{Call, Clause}
-use Rattle.book.specs.Held.{clauseAt, clausesOf}
+use Rattle.book.specs.Held.{callOf, clauseAt, clausesOf}
+use Rattle.book.specs.declared.clause.Call as call
 use Rattle.ordering.specs.Adorn.{Table}
 use Rattle.ordering.specs.Good.{goodClause}
 use Rattle.ordering.specs.Held.{callsBelow}
@@ -66,6 +67,11 @@ ltb-suc i k =
     (same (ltb i (k + 1)) (ltb i k) (λ l. let h = ltb-true i (k + 1) l in lt-ltb i k (omega arith)) (λ l. let h = ltb-true i k l in lt-ltb i (k + 1) (omega arith))
     ∙ sym (or-false (ltb i k))))
 
+-- ---- the predicate of a call that is held by value
+
+pub head-low : {rules : List ℕ} {n : ℕ} (k : ℕ) (h : call.Call) → Known rules n → k < n → callOf h ≡ clauseAt rules k .head → h .pred < maxPredicates
+head-low k h s l e = let p = ap (λ (d : Call). d .pred) e in let r = s .heads k l in omega arith
+
 -- ---- the clauses of each predicate
 
 pub record Owning (rules : List ℕ) (n k : ℕ) (own : List ℕ) : Type 0 where
@@ -83,9 +89,11 @@ module _ (rules : List ℕ) (n : ℕ) where
       }
 
   module _ {k : ℕ} {own : List ℕ} (o : Owning rules n k own) where
-    pub owning-next : (p : ℕ) → k < n → p < maxPredicates → p ≡ clauseAt rules k .head .pred
-        → Owning rules n (k + 1) (set own p (bitOr (getD own p 0) (2 ^ k)))
-    owning-next p h l e =
+    pub owning-next : (h : call.Call) → Known rules n → k < n → callOf h ≡ clauseAt rules k .head
+        → Owning rules n (k + 1) (set own (h .pred) (bitOr (getD own (h .pred) 0) (2 ^ k)))
+    owning-next h known m e =
+        let p = h .pred in
+        let l = head-low k h known m e in
         let s = o .size in
         record {
           most = omega arith;
@@ -97,14 +105,14 @@ module _ (rules : List ℕ) (n : ℕ) where
               ∙ ap (λ (b : Bool). b && eqb (clauseAt rules i .head .pred) q) (sym (ltb-suc i k));
         }
       where
-        one : (q i : ℕ) → (eqb q p && eqb k i) ≡ (eqb k i && eqb (clauseAt rules i .head .pred) q)
+        one : (q i : ℕ) → (eqb q (h .pred) && eqb k i) ≡ (eqb k i && eqb (clauseAt rules i .head .pred) q)
         one q i =
             byBool (eqb k i)
             (λ t.
             rw t
-            (and-true (eqb q p)
-            ∙ eqb-comm q p ∙ ap (λ (x : ℕ). eqb x q) (e ∙ ap (λ (j : ℕ). clauseAt rules j .head .pred) (eqb-true k i t))))
-            (λ t. rw t (and-false (eqb q p)))
+            (and-true (eqb q (h .pred))
+            ∙ eqb-comm q (h .pred) ∙ ap (λ (d : Call). eqb (d .pred) q) (e ∙ ap (λ (j : ℕ). clauseAt rules j .head) (eqb-true k i t))))
+            (λ t. rw t (and-false (eqb q (h .pred))))
 
     pub owning-end : n ≤ k → Owns rules n own
     owning-end h = let m = o .most in let e : k ≡ n = omega arith in subst (λ (j : ℕ). Owns rules j own) e (o .owns)
@@ -121,14 +129,14 @@ module _ (rules : List ℕ) (n : ℕ) where
   heading-start = record { most = omega arith; holds = bitAt-zero }
 
   module _ {k set : ℕ} (o : Heading rules n k set) where
-    pub heading-next : (p : ℕ) → k < n → p ≡ clauseAt rules k .head .pred → Heading rules n (k + 1) (bitOr set (2 ^ p))
+    pub heading-next : (h : call.Call) → k < n → callOf h ≡ clauseAt rules k .head → Heading rules n (k + 1) (bitOr set (2 ^ h .pred))
     unfolding clausesOf
-    heading-next p h e =
+    heading-next h m e =
         record {
           most = omega arith;
           holds = λ q.
-              bitAt-more set p q
-              ∙ ap₂ (λ (a : Bool) (x : ℕ). a || eqb x q) (o .holds q) e
+              bitAt-more set (h .pred) q
+              ∙ ap₂ (λ (a : Bool) (d : Call). a || eqb (d .pred) q) (o .holds q) e
               ∙ rw add-one (sym (defined-snoc (clausesOf rules k) (clauseAt rules k) q));
         }
 
@@ -177,23 +185,24 @@ module _ (rules : List ℕ) (k : ℕ) (before : List ℕ) where
   adding-start e = record { most = omega arith; size = e; added = λ q h p. sym (or-false (bitAt (getD before q 0) p)) }
 
   module _ {j : ℕ} {words : List ℕ} (o : Adding rules k before j words) where
-    pub adding-next : (q m : ℕ) → j < length (clauseAt rules k .body) → q < maxPredicates
-        → q ≡ getD (clauseAt rules k .body) j (record { pred = 0; args = [] }) .pred → m ≡ clauseAt rules k .head .pred
-        → Adding rules k before (j + 1) (set words q (bitOr (getD words q 0) (2 ^ m)))
-    adding-next q m h l e f =
-        let s = o .size in
+    pub adding-next : (h s : call.Call) → j < length (clauseAt rules k .body) → s .pred < maxPredicates → callOf h ≡ clauseAt rules k .head
+        → callOf s ≡ getD (clauseAt rules k .body) j (record { pred = 0; args = [] })
+        → Adding rules k before (j + 1) (set words (s .pred) (bitOr (getD words (s .pred) 0) (2 ^ h .pred)))
+    adding-next h s m l e f =
+        let q = s .pred in
+        let z = o .size in
         record {
           most = omega arith;
-          size = length-set words q (bitOr (getD words q 0) (2 ^ m)) ∙ s;
+          size = length-set words q (bitOr (getD words q 0) (2 ^ h .pred)) ∙ z;
           added = λ r i p.
               let body = clauseAt rules k .body in
               let is = eqb (clauseAt rules k .head .pred) p in
-              stored-more words q m (omega arith) r p
-              ∙ ap₂ (λ (a b : Bool). a || b) (o .added r i p) (ap₂ (λ (x y : ℕ). eqb r x && eqb y p) e f)
+              stored-more words q (h .pred) (omega arith) r p
+              ∙ ap₂ (λ (a b : Bool). a || b) (o .added r i p) (ap₂ (λ (x y : Call). eqb r (x .pred) && eqb (y .pred) p) f e)
               ∙ or-assoc (bitAt (getD before r 0) p) (calledIn (take j body) r && is) _
               ∙ ap (λ (b : Bool). bitAt (getD before r 0) p || b)
               (sym (and-or-distrib-right (calledIn (take j body) r) _ is)
-              ∙ ap (λ (b : Bool). b && is) (sym (any-suc (λ (s : Call). eqb r (s .pred)) (record { pred = 0; args = [] }) body j h)));
+              ∙ ap (λ (b : Bool). b && is) (sym (any-suc (λ (s : Call). eqb r (s .pred)) (record { pred = 0; args = [] }) body j m)));
         }
 
     pub adding-end : length (clauseAt rules k .body) ≤ j → Added rules k before words

@@ -4,6 +4,7 @@ use Prim.Native.Nat.{ℕ, _+_, _-_, _*_, _≤_, _<_}
 use mathlib.Core.Path.{_≡_, refl, sym, ap, _∙_}
 use lib.ListN.{length, getD, take, drop}
 use mathlib.Core.Logic.{⊎-elim}
+use Rattle.needs.proofs.Laws.Calls.{Adding, adding-start, adding-next, adding-end}
 use Rattle.needs.proofs.calls.add_caller.Statement.{statement}
 use Rattle.needs.proofs.calls.add_caller.Tie as tie
 use Rattle.needs.proofs.calls.add_caller.Reads as reads
@@ -14,10 +15,10 @@ use Rattle.book.proofs.clause.subgoals_at.Reads as subgoals-at-reads
 use Rattle.masks.proofs.constraint.with_member.Reads as with-member-reads
 
 abbrev Inv-loop : tie.InvT-loop
-Inv-loop rules k words₀ h n j₀ words j = ?
+Inv-loop rules k words₀ h n j₀ words j = Adding rules k words₀ j words
 
 abbrev μ-loop : tie.MeasureT-loop
-μ-loop rules k words₀ h n j₀ words j = ?
+μ-loop rules k words₀ h n j₀ words j = n - j
 
 -- src/calls.rt:70:9
 head-at-requires : tie.Need-head-at-requires Inv-loop μ-loop
