@@ -18,7 +18,7 @@ use Rattle.book.specs.Book.{Call, Clause}
 use Rattle.book.specs.Held.{callOf, clauseAt, clausesOf}
 use Rattle.book.specs.declared.clause.Call as call
 use Rattle.ordering.specs.Adorn.{Table}
-use Rattle.ordering.specs.Good.{goodClause}
+use Rattle.ordering.specs.Good.{at, goodClause}
 use Rattle.ordering.specs.Held.{callsBelow}
 use Rattle.tables.specs.Calls.{calls, touched}
 use Rattle.tables.specs.Table.{own, defined, good}
@@ -171,6 +171,9 @@ module _ (rules : List ℕ) (n : ℕ) where
 
 -- ---- one clause's subgoals: its head's predicate calls those of the first j
 
+abbrev none : Call
+none = record { pred = 0; args = [] }
+
 abbrev calledIn : List Call → ℕ → Bool
 calledIn body q = any (λ s. eqb q (s .pred)) body
 
@@ -185,24 +188,33 @@ module _ (rules : List ℕ) (k : ℕ) (before : List ℕ) where
   adding-start e = record { most = omega arith; size = e; added = λ q h p. sym (or-false (bitAt (getD before q 0) p)) }
 
   module _ {j : ℕ} {words : List ℕ} (o : Adding rules k before j words) where
-    pub adding-next : (h s : call.Call) → j < length (clauseAt rules k .body) → s .pred < maxPredicates → callOf h ≡ clauseAt rules k .head
-        → callOf s ≡ getD (clauseAt rules k .body) j (record { pred = 0; args = [] })
-        → Adding rules k before (j + 1) (set words (s .pred) (bitOr (getD words (s .pred) 0) (2 ^ h .pred)))
-    adding-next h s m l e f =
-        let q = s .pred in
+    -- the word of the subgoal's predicate is there
+    pub adding-room : (s : call.Call) → callsBelow maxPredicates (clauseAt rules k .body) ≡ true → j < length (clauseAt rules k .body)
+        → callOf s ≡ getD (clauseAt rules k .body) j none → s .pred < length words
+    unfolding at
+    adding-room s low m e =
+        let p = ap (λ (d : Call). d .pred) e in
+        let l = callsBelow-at maxPredicates (clauseAt rules k .body) j low m in
         let z = o .size in
+        omega arith
+
+    pub adding-next : (h s : call.Call) → callsBelow maxPredicates (clauseAt rules k .body) ≡ true → j < length (clauseAt rules k .body)
+        → callOf h ≡ clauseAt rules k .head → callOf s ≡ getD (clauseAt rules k .body) j none
+        → Adding rules k before (j + 1) (set words (s .pred) (bitOr (getD words (s .pred) 0) (2 ^ h .pred)))
+    adding-next h s low m e f =
+        let q = s .pred in
         record {
           most = omega arith;
-          size = length-set words q (bitOr (getD words q 0) (2 ^ h .pred)) ∙ z;
+          size = length-set words q (bitOr (getD words q 0) (2 ^ h .pred)) ∙ o .size;
           added = λ r i p.
               let body = clauseAt rules k .body in
               let is = eqb (clauseAt rules k .head .pred) p in
-              stored-more words q (h .pred) (omega arith) r p
+              stored-more words q (h .pred) (adding-room s low m f) r p
               ∙ ap₂ (λ (a b : Bool). a || b) (o .added r i p) (ap₂ (λ (x y : Call). eqb r (x .pred) && eqb (y .pred) p) f e)
               ∙ or-assoc (bitAt (getD before r 0) p) (calledIn (take j body) r && is) _
               ∙ ap (λ (b : Bool). bitAt (getD before r 0) p || b)
               (sym (and-or-distrib-right (calledIn (take j body) r) _ is)
-              ∙ ap (λ (b : Bool). b && is) (sym (any-suc (λ (s : Call). eqb r (s .pred)) (record { pred = 0; args = [] }) body j m)));
+              ∙ ap (λ (b : Bool). b && is) (sym (any-suc (λ (s : Call). eqb r (s .pred)) none body j m)));
         }
 
     pub adding-end : length (clauseAt rules k .body) ≤ j → Added rules k before words
