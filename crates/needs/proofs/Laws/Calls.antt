@@ -15,9 +15,10 @@ use Rattle.masks.specs.Lists.{any, all}
 use Rattle.masks.specs.Set.{bitAt, Holds}
 use Rattle.book.specs.Limits.{maxPredicates, maxClauses}
 use Rattle.book.specs.Book.{Call, Clause}
-use Rattle.book.specs.Held.{clauseAt, clausesOf}
+use Rattle.book.specs.Held.{callOf, clauseAt, clausesOf}
+use Rattle.book.specs.declared.clause.Call as call
 use Rattle.ordering.specs.Adorn.{Table}
-use Rattle.ordering.specs.Good.{goodClause}
+use Rattle.ordering.specs.Good.{at, goodClause}
 use Rattle.ordering.specs.Held.{callsBelow}
 use Rattle.tables.specs.Calls.{calls, touched}
 use Rattle.tables.specs.Table.{own, defined, good}
@@ -66,6 +67,11 @@ ltb-suc i k =
     (same (ltb i (k + 1)) (ltb i k) (λ l. let h = ltb-true i (k + 1) l in lt-ltb i k (omega arith)) (λ l. let h = ltb-true i k l in lt-ltb i (k + 1) (omega arith))
     ∙ sym (or-false (ltb i k))))
 
+-- ---- the predicate of a call that is held by value
+
+pub head-low : {rules : List ℕ} {n : ℕ} (k : ℕ) (h : call.Call) → Known rules n → k < n → callOf h ≡ clauseAt rules k .head → h .pred < maxPredicates
+head-low k h s l e = let p = ap (λ (d : Call). d .pred) e in let r = s .heads k l in omega arith
+
 -- ---- the clauses of each predicate
 
 pub record Owning (rules : List ℕ) (n k : ℕ) (own : List ℕ) : Type 0 where
@@ -83,9 +89,11 @@ module _ (rules : List ℕ) (n : ℕ) where
       }
 
   module _ {k : ℕ} {own : List ℕ} (o : Owning rules n k own) where
-    pub owning-next : (p : ℕ) → k < n → p < maxPredicates → p ≡ clauseAt rules k .head .pred
-        → Owning rules n (k + 1) (set own p (bitOr (getD own p 0) (2 ^ k)))
-    owning-next p h l e =
+    pub owning-next : (h : call.Call) → Known rules n → k < n → callOf h ≡ clauseAt rules k .head
+        → Owning rules n (k + 1) (set own (h .pred) (bitOr (getD own (h .pred) 0) (2 ^ k)))
+    owning-next h known m e =
+        let p = h .pred in
+        let l = head-low k h known m e in
         let s = o .size in
         record {
           most = omega arith;
@@ -97,14 +105,14 @@ module _ (rules : List ℕ) (n : ℕ) where
               ∙ ap (λ (b : Bool). b && eqb (clauseAt rules i .head .pred) q) (sym (ltb-suc i k));
         }
       where
-        one : (q i : ℕ) → (eqb q p && eqb k i) ≡ (eqb k i && eqb (clauseAt rules i .head .pred) q)
+        one : (q i : ℕ) → (eqb q (h .pred) && eqb k i) ≡ (eqb k i && eqb (clauseAt rules i .head .pred) q)
         one q i =
             byBool (eqb k i)
             (λ t.
             rw t
-            (and-true (eqb q p)
-            ∙ eqb-comm q p ∙ ap (λ (x : ℕ). eqb x q) (e ∙ ap (λ (j : ℕ). clauseAt rules j .head .pred) (eqb-true k i t))))
-            (λ t. rw t (and-false (eqb q p)))
+            (and-true (eqb q (h .pred))
+            ∙ eqb-comm q (h .pred) ∙ ap (λ (d : Call). eqb (d .pred) q) (e ∙ ap (λ (j : ℕ). clauseAt rules j .head) (eqb-true k i t))))
+            (λ t. rw t (and-false (eqb q (h .pred))))
 
     pub owning-end : n ≤ k → Owns rules n own
     owning-end h = let m = o .most in let e : k ≡ n = omega arith in subst (λ (j : ℕ). Owns rules j own) e (o .owns)
@@ -121,14 +129,14 @@ module _ (rules : List ℕ) (n : ℕ) where
   heading-start = record { most = omega arith; holds = bitAt-zero }
 
   module _ {k set : ℕ} (o : Heading rules n k set) where
-    pub heading-next : (p : ℕ) → k < n → p ≡ clauseAt rules k .head .pred → Heading rules n (k + 1) (bitOr set (2 ^ p))
+    pub heading-next : (h : call.Call) → k < n → callOf h ≡ clauseAt rules k .head → Heading rules n (k + 1) (bitOr set (2 ^ h .pred))
     unfolding clausesOf
-    heading-next p h e =
+    heading-next h m e =
         record {
           most = omega arith;
           holds = λ q.
-              bitAt-more set p q
-              ∙ ap₂ (λ (a : Bool) (x : ℕ). a || eqb x q) (o .holds q) e
+              bitAt-more set (h .pred) q
+              ∙ ap₂ (λ (a : Bool) (d : Call). a || eqb (d .pred) q) (o .holds q) e
               ∙ rw add-one (sym (defined-snoc (clausesOf rules k) (clauseAt rules k) q));
         }
 
@@ -163,6 +171,9 @@ module _ (rules : List ℕ) (n : ℕ) where
 
 -- ---- one clause's subgoals: its head's predicate calls those of the first j
 
+abbrev none : Call
+none = record { pred = 0; args = [] }
+
 abbrev calledIn : List Call → ℕ → Bool
 calledIn body q = any (λ s. eqb q (s .pred)) body
 
@@ -177,23 +188,33 @@ module _ (rules : List ℕ) (k : ℕ) (before : List ℕ) where
   adding-start e = record { most = omega arith; size = e; added = λ q h p. sym (or-false (bitAt (getD before q 0) p)) }
 
   module _ {j : ℕ} {words : List ℕ} (o : Adding rules k before j words) where
-    pub adding-next : (q m : ℕ) → j < length (clauseAt rules k .body) → q < maxPredicates
-        → q ≡ getD (clauseAt rules k .body) j (record { pred = 0; args = [] }) .pred → m ≡ clauseAt rules k .head .pred
-        → Adding rules k before (j + 1) (set words q (bitOr (getD words q 0) (2 ^ m)))
-    adding-next q m h l e f =
-        let s = o .size in
+    -- the word of the subgoal's predicate is there
+    pub adding-room : (s : call.Call) → callsBelow maxPredicates (clauseAt rules k .body) ≡ true → j < length (clauseAt rules k .body)
+        → callOf s ≡ getD (clauseAt rules k .body) j none → s .pred < length words
+    unfolding at
+    adding-room s low m e =
+        let p = ap (λ (d : Call). d .pred) e in
+        let l = callsBelow-at maxPredicates (clauseAt rules k .body) j low m in
+        let z = o .size in
+        omega arith
+
+    pub adding-next : (h s : call.Call) → callsBelow maxPredicates (clauseAt rules k .body) ≡ true → j < length (clauseAt rules k .body)
+        → callOf h ≡ clauseAt rules k .head → callOf s ≡ getD (clauseAt rules k .body) j none
+        → Adding rules k before (j + 1) (set words (s .pred) (bitOr (getD words (s .pred) 0) (2 ^ h .pred)))
+    adding-next h s low m e f =
+        let q = s .pred in
         record {
           most = omega arith;
-          size = length-set words q (bitOr (getD words q 0) (2 ^ m)) ∙ s;
+          size = length-set words q (bitOr (getD words q 0) (2 ^ h .pred)) ∙ o .size;
           added = λ r i p.
               let body = clauseAt rules k .body in
               let is = eqb (clauseAt rules k .head .pred) p in
-              stored-more words q m (omega arith) r p
-              ∙ ap₂ (λ (a b : Bool). a || b) (o .added r i p) (ap₂ (λ (x y : ℕ). eqb r x && eqb y p) e f)
+              stored-more words q (h .pred) (adding-room s low m f) r p
+              ∙ ap₂ (λ (a b : Bool). a || b) (o .added r i p) (ap₂ (λ (x y : Call). eqb r (x .pred) && eqb (y .pred) p) f e)
               ∙ or-assoc (bitAt (getD before r 0) p) (calledIn (take j body) r && is) _
               ∙ ap (λ (b : Bool). bitAt (getD before r 0) p || b)
               (sym (and-or-distrib-right (calledIn (take j body) r) _ is)
-              ∙ ap (λ (b : Bool). b && is) (sym (any-suc (λ (s : Call). eqb r (s .pred)) (record { pred = 0; args = [] }) body j h)));
+              ∙ ap (λ (b : Bool). b && is) (sym (any-suc (λ (s : Call). eqb r (s .pred)) none body j m)));
         }
 
     pub adding-end : length (clauseAt rules k .body) ≤ j → Added rules k before words
@@ -219,3 +240,118 @@ module _ (callers : List ℕ) (called : ℕ) where
     pub callers-next : bitAt called n ≡ true → Callers callers called set n → Callers callers called (bitOr set (getD callers n 0)) (suc n)
     callers-next t f p =
         rw t (bitAt-or set (getD callers n 0) p ∙ ap (λ (b : Bool). b || bitAt (getD callers n 0) p) (f p))
+
+-- ---- some member of a set
+
+module _ (set : ℕ) where
+  someIn-none : (n : ℕ) → someIn set (λ q. false) n ≡ false
+  someIn-none zero = refl
+  someIn-none (suc n) = rw (someIn-none n) (go (bitAt set n))
+    where
+      go : (b : Bool) → cond b false false ≡ false
+      go true = refl
+      go false = refl
+
+  someIn-cong : (f g : ℕ → Bool) (n : ℕ) → ((q : ℕ) → q < n → f q ≡ g q) → someIn set f n ≡ someIn set g n
+  someIn-cong f g zero h = refl
+  someIn-cong f g (suc n) h =
+      ap₂ (λ (a b : Bool). a || cond (bitAt set n) b false) (someIn-cong f g n (λ q l. h q (omega arith))) (h n (omega arith))
+
+  someIn-or : (f g : ℕ → Bool) (n : ℕ) → someIn set (λ q. f q || g q) n ≡ (someIn set f n || someIn set g n)
+  someIn-or f g zero = refl
+  someIn-or f g (suc n) = rw (someIn-or f g n) (go (someIn set f n) (someIn set g n) (bitAt set n) (f n) (g n))
+    where
+      go : (a b c x y : Bool) → (a || b || cond c (x || y) false) ≡ (a || cond c x false || (b || cond c y false))
+      go true b c x y = refl
+      go false true true true y = refl
+      go false true true false y = refl
+      go false true false x y = refl
+      go false false true x y = refl
+      go false false false x y = refl
+
+  someIn-and : (f : ℕ → Bool) (e : Bool) (n : ℕ) → someIn set (λ q. f q && e) n ≡ (someIn set f n && e)
+  someIn-and f true n = someIn-cong (λ q. f q && true) f n (λ q l. and-true (f q)) ∙ sym (and-true (someIn set f n))
+  someIn-and f false n =
+      someIn-cong (λ q. f q && false) (λ q. false) n (λ q l. and-false (f q)) ∙ someIn-none n ∙ sym (and-false (someIn set f n))
+
+  -- m itself
+  someIn-eq : (m n : ℕ) → m < n → someIn set (λ q. eqb q m) n ≡ bitAt set m
+  someIn-eq m zero h = absurd (omega arith)
+  someIn-eq m (suc n) h =
+      byBool (eqb n m)
+      (λ t.
+      let e = eqb-true n m t in
+      let z = someIn-cong (λ q. eqb q m) (λ q. false) n (λ q l. ne-eqb q m (λ r. omega arith)) ∙ someIn-none n in
+      rw (z, t) (here (bitAt set n) ∙ ap (bitAt set) e))
+      (λ t.
+      let ne : n ≡ m → ⊥ = eqb-false n m t in
+      rw (someIn-eq m n (omega arith), t) (there (bitAt set n) (bitAt set m)))
+    where
+      here : (b : Bool) → cond b true false ≡ b
+      here true = refl
+      here false = refl
+
+      there : (b c : Bool) → (c || cond b false false) ≡ c
+      there true c = or-false c
+      there false c = or-false c
+
+-- ---- who calls one of a set has a clause that does
+
+calls-some : (set : ℕ) (body : List Call) → callsBelow maxPredicates body ≡ true
+    → someIn set (λ q. any (λ s. eqb q (s .pred)) body) maxPredicates ≡ any (λ s. bitAt set (s .pred)) body
+unfolding callsBelow
+calls-some set [] t = someIn-none set maxPredicates
+calls-some set (s ∷ body) t =
+    let l = ltb-true (s .pred) maxPredicates (and-left (ltb (s .pred) maxPredicates) (callsBelow maxPredicates body) t) in
+    someIn-or set (λ q. eqb q (s .pred)) (λ q. any (λ s. eqb q (s .pred)) body) maxPredicates
+    ∙ ap₂ (λ (a b : Bool). a || b) (someIn-eq set (s .pred) maxPredicates l)
+    (calls-some set body (and-right (ltb (s .pred) maxPredicates) (callsBelow maxPredicates body) t))
+
+touched-some : (rules : List ℕ) (set p n : ℕ) → ((k : ℕ) → k < n → callsBelow maxPredicates (clauseAt rules k .body) ≡ true)
+    → someIn set (λ q. touched (eqb q) (clausesOf rules n) p) maxPredicates ≡ touched (bitAt set) (clausesOf rules n) p
+unfolding touched own calls clausesOf
+touched-some rules set p zero h = someIn-none set maxPredicates
+touched-some rules set p (suc n) h =
+    let cs = clausesOf rules n in
+    let c = clauseAt rules n in
+    let is = eqb (c .head .pred) p in
+    someIn-cong set (λ q. touched (eqb q) (clausesOf rules (suc n)) p) (λ q. touched (eqb q) cs p || (calls (eqb q) c && is)) maxPredicates
+    (λ q l. touched-snoc cs c p (eqb q))
+    ∙ someIn-or set (λ q. touched (eqb q) cs p) (λ q. calls (eqb q) c && is) maxPredicates
+    ∙ ap₂ (λ (a b : Bool). a || b) (touched-some rules set p n (λ k l. h k (omega arith)))
+    (someIn-and set (λ q. calls (eqb q) c) is maxPredicates ∙ ap (λ (b : Bool). b && is) (calls-some set (c .body) (h n (omega arith))))
+    ∙ sym (touched-snoc cs c p (bitAt set))
+
+pub calling-touched : (rules : List ℕ) (n : ℕ) (callers : List ℕ) (changed due : ℕ) → Calling rules n callers → Known rules n
+    → Holds due (λ p. someIn changed (λ q. bitAt (getD callers q 0) p) maxPredicates) → Holds due (touched (bitAt changed) (clausesOf rules n))
+calling-touched rules n callers changed due f known h p =
+    h p
+    ∙ someIn-cong changed (λ q. bitAt (getD callers q 0) p) (λ q. touched (eqb q) (clausesOf rules n) p) maxPredicates (λ q l. f q l p)
+    ∙ touched-some rules changed p n (known .bodies)
+
+-- ---- the clauses of a set are good where the predicate's are
+
+eachIn-past : (set : ℕ) (f : ℕ → Bool) (n d : ℕ) → ((k : ℕ) → n ≤ k → bitAt set k ≡ false) → eachIn set f (n + d) ≡ eachIn set f n
+eachIn-past set f n zero h = let e : n + 0 ≡ n = omega arith in ap (eachIn set f) e
+eachIn-past set f n (suc d) h =
+    let e : n + suc d ≡ suc (n + d) = omega arith in
+    ap (eachIn set f) e ∙ rw (h (n + d) (omega arith)) (and-true (eachIn set f (n + d)) ∙ eachIn-past set f n d h)
+
+module _ (rules : List ℕ) (n word p : ℕ) (T : Table) (a : ℕ) where
+  own-good-below : Holds word (λ k. ltb k n && eqb (clauseAt rules k .head .pred) p)
+      → (m : ℕ) → m ≤ n → eachIn word (λ k. goodClause T (clauseAt rules k) a) m ≡ good T (clausesOf rules m) p a
+  unfolding good own clausesOf
+  own-good-below h zero l = refl
+  own-good-below h (suc m) l =
+      ap₂ (λ (x y : Bool). x && cond y (goodClause T (clauseAt rules m) a) true) (own-good-below h m (omega arith))
+      (h m ∙ ap (λ (b : Bool). b && eqb (clauseAt rules m .head .pred) p) (lt-ltb m n (omega arith)))
+      ∙ sym (good-snoc (clausesOf rules m) (clauseAt rules m) p T a)
+
+  pub own-good : n ≤ maxClauses → Holds word (λ k. ltb k n && eqb (clauseAt rules k .head .pred) p)
+      → eachIn word (λ k. goodClause T (clauseAt rules k) a) maxClauses ≡ good T (clausesOf rules n) p a
+  own-good l h =
+      let e : maxClauses ≡ n + (maxClauses - n) = omega arith in
+      ap (eachIn word (λ k. goodClause T (clauseAt rules k) a)) e
+      ∙ eachIn-past word (λ k. goodClause T (clauseAt rules k) a) n (maxClauses - n)
+      (λ k m. h k ∙ ap (λ (b : Bool). b && eqb (clauseAt rules k .head .pred) p) (le-ltb k n m))
+      ∙ own-good-below h n (omega arith)

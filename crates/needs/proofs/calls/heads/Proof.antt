@@ -1,53 +1,43 @@
-use borrow.Author.Needs.{needs}
+-- `needs::calls::heads` meets its contract. The loop's invariant: the set has the predicates of the first k heads. Assumes nothing.
+use mathlib.Core.Path.{_≡_, _∙_}
+use Prim.Native.Nat.{_+_, _-_, _*_, _≤_, _<_}
 use native.Mathlib.Omega.{arith}
-use Prim.Native.Nat.{ℕ, _+_, _-_, _*_, _≤_, _<_}
-use mathlib.Core.Path.{_≡_, refl, sym, ap, _∙_}
-use lib.ListN.{length, getD, take, drop}
-use mathlib.Core.Logic.{⊎-elim}
-use Rattle.needs.proofs.calls.heads.Statement.{statement}
-use Rattle.needs.proofs.calls.heads.Tie as tie
-use Rattle.needs.proofs.calls.heads.Reads as reads
-use Rattle.needs.proofs.calls.heads.Lts as lts
+use borrow.Author.Needs.{needs}
 use Rattle.book.proofs.clause.head_at.Reads as head-at-reads
 use Rattle.masks.proofs.constraint.with_member.Reads as with-member-reads
+use Rattle.needs.proofs.Laws.Calls.{head-low, Heading, heading-start, heading-next, heading-end}
+use Rattle.needs.proofs.calls.heads.Statement.{statement}
+use Rattle.needs.proofs.calls.heads.Tie as tie
 
 abbrev Inv-loop : tie.InvT-loop
-Inv-loop clauses rules set₀ k₀ set k = ?
+Inv-loop clauses rules set₀ k₀ set k = Heading rules clauses k set
 
 abbrev μ-loop : tie.MeasureT-loop
-μ-loop clauses rules set₀ k₀ set k = ?
+μ-loop clauses rules set₀ k₀ set k = clauses - k
 
--- src/calls.rt:42:5
 loop-holds : tie.Need-loop-holds Inv-loop μ-loop
-loop-holds c = search needs
+loop-holds c = heading-start (c .args .rules .now) (c .args .clauses)
 
--- src/calls.rt:43:32
 cast-head-at : tie.Need-cast-head-at Inv-loop μ-loop
 cast-head-at c = search needs
 
--- src/calls.rt:43:13
 head-at-requires : tie.Need-head-at-requires Inv-loop μ-loop
 head-at-requires c κs = search needs
 
--- src/calls.rt:44:9
 with-member-requires : tie.Need-with-member-requires Inv-loop μ-loop
-with-member-requires c κs = search needs
+with-member-requires c κs = head-low (c .before .before .loop .k) (c .head-at .result) (c .before .before .before .pre .1) (omega arith) (c .head-at .ensures)
 
--- src/calls.rt:45:9
 add-k : tie.Need-add-k Inv-loop μ-loop
 add-k c = search needs
 
--- src/calls.rt:42:5
 loop-less : tie.Need-loop-less Inv-loop μ-loop
 loop-less c = search needs
 
--- src/calls.rt:42:5
 loop-again : tie.Need-loop-again Inv-loop μ-loop
-loop-again c = search needs
+loop-again c = rw (c .with-member .ensures) (heading-next (c .before .before .before .before .args .rules .now) (c .before .before .before .before .args .clauses) (c .before .before .before .loop .inv) (c .before .head-at .result) (omega arith) (c .before .head-at .ensures))
 
--- src/calls.rt:36:1
 returns : tie.Need-returns Inv-loop μ-loop
-returns c = search needs
+returns c = heading-end (c .before .before .args .rules .now) (c .before .before .args .clauses) (c .before .loop .inv) (omega arith)
 
 pub heads-spec : {M : Type 1} → statement M
 heads-spec =
