@@ -3,3 +3,4 @@ pub mod Calls
 pub mod Trying
 pub mod Rounding
 pub mod Turns
+pub mod Settling

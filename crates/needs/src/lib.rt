@@ -22,8 +22,9 @@ use tables::image_length;
 use tables::put_image;
 ghost use mathlib.Core.Path.{_≡_};
 ghost use Prim.Native.Nat.{_≤_};
+ghost use lib.ListN.{length, take};
 ghost use Rattle.masks.specs.Outcome.{Answers};
-ghost use Rattle.book.specs.Limits.{maxPredicates, maxClauses};
+ghost use Rattle.book.specs.Limits.{maxClauses};
 ghost use Rattle.book.specs.Encode.{WellFormed};
 ghost use Rattle.book.specs.Held.{bookIn};
 ghost use Rattle.ordering.specs.Held.{tableIn};
@@ -68,7 +69,7 @@ pub fn settle<'a>(
     clauses: u8,
     rules: &'a [u8; RULES_SIZE],
 ) -> Needs
-    requires { ⌜ (preds ≤ maxPredicates) × (clauses ≤ maxClauses) × WellFormed (bookIn preds (now arities) (now modes) clauses (now rules)) ⌝ }
+    requires { ⌜ (length (take preds (now arities)) ≡ preds) × (clauses ≤ maxClauses) × WellFormed (bookIn preds (now arities) (now modes) clauses (now rules)) ⌝ }
     ensures { λ r. ⌜ tableIn (r .table .needs) preds ≡ final (bookIn preds (now (arities .entry)) (now (modes .entry)) clauses (now (rules .entry))) ⌝ }
     ensures { λ r. ⌜ r .rounds ≡ rounds (bookIn preds (now (arities .entry)) (now (modes .entry)) clauses (now (rules .entry))) ⌝ }
 {

@@ -33,7 +33,7 @@ use Rattle.needs.specs.Round.{Callable, allGood, Given, Due, Stepped}
 
 -- ---- what a book in the arrays gives
 
-calls-more : (n m : ℕ) → n ≤ m → (body : List Call) → callsBelow n body ≡ true → callsBelow m body ≡ true
+pub calls-more : (n m : ℕ) → n ≤ m → (body : List Call) → callsBelow n body ≡ true → callsBelow m body ≡ true
 unfolding callsBelow
 calls-more n m h =
     all-mono (λ (s : Call). ltb (s .pred) n) (λ s. ltb (s .pred) m) (λ s t. let l = ltb-true (s .pred) n t in lt-ltb (s .pred) m (omega arith))

@@ -13,6 +13,7 @@ use Rattle.masks.specs.Set.{bitAt}
 use Rattle.book.specs.Held.{StoredMode}
 use Rattle.masks.proofs.Laws.Held.{masksOf-packed}
 use Rattle.masks.proofs.Laws.Members.{others-less, Over, over-start, over-end, over-lowest, over-member, over-here, over-next}
+use Rattle.needs.proofs.Laws.Turns.{rounding-end}
 use Rattle.needs.proofs.Laws.Rounding.{given-arity, given-callable, gets, Rounding, rounding-start, rounding-skip, rounding-same, rounding-new}
 use borrow.Author.Needs.{needs}
 use native.Mathlib.Omega.{arith}
@@ -164,7 +165,7 @@ returns c =
     let l = c .before .loop in
     let r = over-end (Rounding (s .arities .now) (s .rules .now) (s .own .now) (s .t4 .needs) (s .due) (l .new .needs) (l .changed)) 64 (s .due) (l .rest)
     (rounding-skip (s .arities .now) (s .rules .now) (s .own .now) (s .t4 .needs) (s .due) (l .new .needs) (l .changed)) (l .inv) (c .loop-test .left) in
-    ?
+    λ B g d. rounding-end B (s .arities .now) (s .rules .now) (s .own .now) (s .t4 .needs) (s .due) g r d
 
 pub round-spec : {M : Type 1} → statement M
 round-spec =
