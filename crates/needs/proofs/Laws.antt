@@ -4,3 +4,4 @@ pub mod Trying
 pub mod Rounding
 pub mod Turns
 pub mod Settling
+pub mod Analysed

@@ -23,13 +23,13 @@ use tables::put_image;
 ghost use mathlib.Core.Path.{_≡_};
 ghost use Prim.Native.Nat.{_≤_};
 ghost use lib.ListN.{length, take};
-ghost use Rattle.masks.specs.Outcome.{Answers};
-ghost use Rattle.book.specs.Limits.{maxClauses};
+ghost use Rattle.masks.specs.Outcome.{Answers, done};
+ghost use Rattle.book.specs.Limits.{maxPredicates, maxClauses};
 ghost use Rattle.book.specs.Encode.{WellFormed};
 ghost use Rattle.book.specs.Held.{bookIn};
 ghost use Rattle.ordering.specs.Held.{tableIn};
 ghost use Rattle.tables.specs.Table.{rounds, final};
-ghost use Rattle.tables.specs.Image.{analysis};
+ghost use Rattle.tables.specs.Image.{rows, analysis};
 
 // The final table of a book, and its rounds.
 pub struct Needs {
@@ -48,12 +48,20 @@ pub fn analyse(book: &[u8], out: &mut [u8]) -> Reply
     }
     let b = r.book;
     let d = settle(b.preds, &b.arities, &b.modes, b.clauses, &b.rules);
+    give(b.preds, d, out)
+}
+
+// The image of a final table as the result of the analysis: written from the output's start, or 9 where the output is too short.
+fn give(preds: u8, d: Needs, out: &mut [u8]) -> Reply
+    requires { ⌜ preds ≤ maxPredicates ⌝ }
+    ensures { λ r. ⌜ Answers (done (d .rounds) (rows (tableIn (d .table .needs) preds) preds)) (now (out .entry)) r (now (out .exit)) ⌝ }
+{
     let t = d.table;
-    let n = image_length(b.preds, &t.needs);
+    let n = image_length(preds, &t.needs);
     if out.len() < n {
         return Reply::refused(9, n as u64);
     }
-    put_image(out, b.preds, &t.needs);
+    put_image(out, preds, &t.needs);
     Reply {
         number: 0,
         value: n as u64,
