@@ -1,13 +1,9 @@
 -- `needs::calls::add_caller` meets its contract. The loop's invariant: the contract for the first j subgoals. Assumes nothing.
-use mathlib.Core.Path.{_≡_, ap, _∙_}
-use Prim.Native.Nat.{_+_, _-_, _*_, _≤_, _<_}
+use mathlib.Core.Path.{ap}
+use Prim.Native.Nat.{_-_}
 use native.Mathlib.Omega.{arith}
 use borrow.Author.Needs.{needs}
 use Rattle.book.specs.Book.{Call}
-use Rattle.book.proofs.clause.head_at.Reads as head-at-reads
-use Rattle.book.proofs.clause.subgoal_at.Reads as subgoal-at-reads
-use Rattle.book.proofs.clause.subgoals_at.Reads as subgoals-at-reads
-use Rattle.masks.proofs.constraint.with_member.Reads as with-member-reads
 use Rattle.needs.proofs.Laws.Calls.{Adding, adding-start, adding-room, adding-next, adding-end}
 use Rattle.needs.proofs.calls.add_caller.Statement.{statement}
 use Rattle.needs.proofs.calls.add_caller.Tie as tie
@@ -25,7 +21,9 @@ subgoals-at-requires : tie.Need-subgoals-at-requires Inv-loop μ-loop
 subgoals-at-requires c κs = search needs
 
 loop-holds : tie.Need-loop-holds Inv-loop μ-loop
-loop-holds c = adding-start (c .before .before .before .args .rules .now) (c .before .before .before .args .k) (c .before .before .before .args .callers .now) (c .before .before .words .given .0 .1)
+loop-holds c =
+    let args = c .before .before .before .args in
+    adding-start (args .rules .now) (args .k) (args .callers .now) (c .before .before .words .given .0 .1)
 
 subgoal-at-requires : tie.Need-subgoal-at-requires Inv-loop μ-loop
 subgoal-at-requires c κs = let n = c .before .before .subgoals-at .ensures in (c .before .before .before .before .before .pre .0, omega arith)
@@ -37,16 +35,26 @@ mul-with-member : tie.Need-mul-with-member Inv-loop μ-loop
 mul-with-member c = search needs
 
 slice-read-with-member : tie.Need-slice-read-with-member Inv-loop μ-loop
-slice-read-with-member c = let n = c .before .before .before .before .before .subgoals-at .ensures in adding-room (c .before .before .before .before .before .before .before .before .args .rules .now) (c .before .before .before .before .before .before .before .before .args .k) (c .before .before .before .before .before .before .before .before .args .callers .now) (c .before .before .before .before .loop .inv) (c .before .before .subgoal-at .result) (c .before .before .before .before .before .before .before .before .pre .2) (omega arith) (c .before .before .subgoal-at .ensures)
+slice-read-with-member c =
+    let d = c .before .before in
+    let n = d .before .before .before .subgoals-at .ensures in
+    adding-room (d .before .before .loop .inv) (d .subgoal-at .result) (d .before .before .before .before .before .before .pre .2) (omega arith) (d .subgoal-at .ensures)
 
 with-member-requires : tie.Need-with-member-requires Inv-loop μ-loop
-with-member-requires c κs = let e = ap (λ (x : Call). x .pred) (c .before .before .before .before .before .before .head-at .ensures) in let l = c .before .before .before .before .before .before .before .before .pre .1 in omega arith
+with-member-requires c κs =
+    let h = c .before .before .before .before .before .before in
+    let e = ap (λ (x : Call). x .pred) (h .head-at .ensures) in
+    let l = h .before .before .pre .1 in
+    omega arith
 
 mul-words : tie.Need-mul-words Inv-loop μ-loop
 mul-words c = search needs
 
 slice-write-words : tie.Need-slice-write-words Inv-loop μ-loop
-slice-write-words c = let n = c .before .before .before .before .before .before .subgoals-at .ensures in adding-room (c .before .before .before .before .before .before .before .before .before .args .rules .now) (c .before .before .before .before .before .before .before .before .before .args .k) (c .before .before .before .before .before .before .before .before .before .args .callers .now) (c .before .before .before .before .before .loop .inv) (c .before .before .before .subgoal-at .result) (c .before .before .before .before .before .before .before .before .before .pre .2) (omega arith) (c .before .before .before .subgoal-at .ensures)
+slice-write-words c =
+    let d = c .before .before .before in
+    let n = d .before .before .before .subgoals-at .ensures in
+    adding-room (d .before .before .loop .inv) (d .subgoal-at .result) (d .before .before .before .before .before .before .pre .2) (omega arith) (d .subgoal-at .ensures)
 
 add-j : tie.Need-add-j Inv-loop μ-loop
 add-j c = search needs
@@ -55,10 +63,16 @@ loop-less : tie.Need-loop-less Inv-loop μ-loop
 loop-less c = search needs
 
 loop-again : tie.Need-loop-again Inv-loop μ-loop
-loop-again c = let n = c .before .before .before .before .before .before .subgoals-at .ensures in rw (c .with-member .ensures) (adding-next (c .before .before .before .before .before .before .before .before .before .args .rules .now) (c .before .before .before .before .before .before .before .before .before .args .k) (c .before .before .before .before .before .before .before .before .before .args .callers .now) (c .before .before .before .before .before .loop .inv) (c .before .before .before .before .before .before .before .head-at .result) (c .before .before .before .subgoal-at .result) (c .before .before .before .before .before .before .before .before .before .pre .2) (omega arith) (c .before .before .before .before .before .before .before .head-at .ensures) (c .before .before .before .subgoal-at .ensures))
+loop-again c =
+    let d = c .before .before .before in
+    let h = d .before .before .before .before in
+    let n = d .before .before .before .subgoals-at .ensures in
+    rw (c .with-member .ensures)
+    (adding-next (d .before .before .loop .inv) (h .head-at .result) (d .subgoal-at .result) (h .before .before .pre .2) (omega arith) (h .head-at .ensures)
+    (d .subgoal-at .ensures))
 
 returns : tie.Need-returns Inv-loop μ-loop
-returns c = let n = c .before .before .subgoals-at .ensures in adding-end (c .before .before .before .before .before .args .rules .now) (c .before .before .before .before .before .args .k) (c .before .before .before .before .before .args .callers .now) (c .before .loop .inv) (omega arith)
+returns c = let n = c .before .before .subgoals-at .ensures in adding-end (c .before .loop .inv) (omega arith)
 
 pub add-caller-spec : {M : Type 1} → statement M
 add-caller-spec =
