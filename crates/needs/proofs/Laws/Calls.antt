@@ -175,6 +175,12 @@ none = record { pred = 0; args = [] }
 abbrev calledIn : List Call → ℕ → Bool
 calledIn body q = any (λ s. eqb q (s .pred)) body
 
+-- the predicates of two calls, and the words there are
+pub record Room (h s : call.Call) (words : List ℕ) : Type 0 where
+  pub caller : h .pred < maxPredicates
+  pub called : s .pred < maxPredicates
+  pub size : length words ≡ maxPredicates
+
 pub record Adding (rules : List ℕ) (k : ℕ) (before : List ℕ) (j : ℕ) (words : List ℕ) : Type 0 where
   pub most : j ≤ length (clauseAt rules k .body)
   pub size : length words ≡ maxPredicates
@@ -185,28 +191,30 @@ pub adding-start : (rules : List ℕ) (k : ℕ) (before : List ℕ) → length b
 adding-start rules k before e = record { most = omega arith; size = e; added = λ q h p. sym (or-false (bitAt (getD before q 0) p)) }
 
 module _ {rules : List ℕ} {k : ℕ} {before : List ℕ} {j : ℕ} {words : List ℕ} (o : Adding rules k before j words) where
-  -- s is subgoal j: its predicate has a word
-  pub adding-room : (s : call.Call) → callsBelow maxPredicates (clauseAt rules k .body) ≡ true → j < length (clauseAt rules k .body)
-      → callOf s ≡ getD (clauseAt rules k .body) j none → s .pred < length words
+  -- h is the head and s is subgoal j: the predicates of both have a word
+  pub adding-room : (h s : call.Call) → clauseAt rules k .head .pred < maxPredicates → callsBelow maxPredicates (clauseAt rules k .body) ≡ true
+      → j < length (clauseAt rules k .body) → callOf h ≡ clauseAt rules k .head → callOf s ≡ getD (clauseAt rules k .body) j none → Room h s words
   unfolding at
-  adding-room s low m e =
+  adding-room h s first low m e f =
       let p = ap (λ (d : Call). d .pred) e in
+      let q = ap (λ (d : Call). d .pred) f in
       let l = callsBelow-at maxPredicates (clauseAt rules k .body) j low m in
-      let z = o .size in
-      omega arith
+      record { caller = omega arith; called = omega arith; size = o .size }
 
-  pub adding-next : (h s : call.Call) → callsBelow maxPredicates (clauseAt rules k .body) ≡ true → j < length (clauseAt rules k .body)
+  pub adding-next : (h s : call.Call) → Room h s words → j < length (clauseAt rules k .body)
       → callOf h ≡ clauseAt rules k .head → callOf s ≡ getD (clauseAt rules k .body) j none
       → Adding rules k before (j + 1) (set words (s .pred) (bitOr (getD words (s .pred) 0) (2 ^ h .pred)))
-  adding-next h s low m e f =
+  adding-next h s room m e f =
       let q = s .pred in
+      let l = room .called in
+      let z = o .size in
       record {
         most = omega arith;
-        size = length-set words q (bitOr (getD words q 0) (2 ^ h .pred)) ∙ o .size;
+        size = length-set words q (bitOr (getD words q 0) (2 ^ h .pred)) ∙ z;
         added = λ r i p.
             let body = clauseAt rules k .body in
             let is = eqb (clauseAt rules k .head .pred) p in
-            stored-more words q (h .pred) (adding-room s low m f) r p
+            stored-more words q (h .pred) (omega arith) r p
             ∙ ap₂ (λ (a b : Bool). a || b) (o .added r i p) (ap₂ (λ (x y : Call). eqb r (x .pred) && eqb (y .pred) p) f e)
             ∙ or-assoc (bitAt (getD before r 0) p) (calledIn (take j body) r && is) _
             ∙ ap (λ (b : Bool). bitAt (getD before r 0) p || b)
