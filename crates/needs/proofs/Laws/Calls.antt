@@ -73,7 +73,7 @@ ltb-suc i k =
 pub head-low : {rules : List ℕ} {n : ℕ} (k : ℕ) (h : call.Call) → Known rules n → k < n → callOf h ≡ clauseAt rules k .head → h .pred < maxPredicates
 head-low k h s l e = let p = ap (λ (d : Call). d .pred) e in let r = s .heads k l in omega arith
 
--- ---- the clauses of each predicate
+-- ---- the clauses of each predicate: of the first k clauses its own
 
 pub record Owning (rules : List ℕ) (n k : ℕ) (own : List ℕ) : Type 0 where
   pub most : k ≤ n
@@ -117,7 +117,7 @@ module _ {rules : List ℕ} {n k : ℕ} {own : List ℕ} (o : Owning rules n k o
   pub owning-end : n ≤ k → Owns rules n own
   owning-end h = let m = o .most in let e : k ≡ n = omega arith in subst (λ (j : ℕ). Owns rules j own) e (o .owns)
 
--- ---- the predicates that have clauses
+-- ---- the predicates that have clauses: those of the first k heads
 
 pub record Heading (rules : List ℕ) (n k set : ℕ) : Type 0 where
   pub most : k ≤ n
@@ -142,7 +142,7 @@ module _ {rules : List ℕ} {n k set : ℕ} (o : Heading rules n k set) where
   pub heading-end : n ≤ k → Holds set (defined (clausesOf rules n))
   heading-end h = let m = o .most in let e : k ≡ n = omega arith in subst (λ (j : ℕ). Holds set (defined (clausesOf rules j))) e (o .holds)
 
--- ---- the predicates that call each predicate
+-- ---- the predicates that call each predicate: those whose first k clauses do
 
 pub record Gathering (rules : List ℕ) (n k : ℕ) (callers : List ℕ) : Type 0 where
   pub most : k ≤ n

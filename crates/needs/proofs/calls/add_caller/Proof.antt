@@ -42,16 +42,16 @@ mul-with-member : tie.Need-mul-with-member Inv-loop μ-loop
 mul-with-member c = search needs
 
 slice-read-with-member : tie.Need-slice-read-with-member Inv-loop μ-loop
-slice-read-with-member c = let r = room (c .before .before) in let h = r .caller in let s = r .called in let z = r .size in omega arith
+slice-read-with-member c = let r = room (c .before .before) in omega arith
 
 with-member-requires : tie.Need-with-member-requires Inv-loop μ-loop
-with-member-requires c κs = let r = room (c .before .before) in let h = r .caller in let s = r .called in omega arith
+with-member-requires c κs = let r = room (c .before .before) in omega arith
 
 mul-words : tie.Need-mul-words Inv-loop μ-loop
 mul-words c = search needs
 
 slice-write-words : tie.Need-slice-write-words Inv-loop μ-loop
-slice-write-words c = let r = room (c .before .before .before) in let h = r .caller in let s = r .called in let z = r .size in omega arith
+slice-write-words c = let r = room (c .before .before .before) in omega arith
 
 add-j : tie.Need-add-j Inv-loop μ-loop
 add-j c = search needs

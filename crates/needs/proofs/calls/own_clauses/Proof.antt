@@ -30,8 +30,7 @@ mul-with-member c = search needs
 array-read-with-member : tie.Need-array-read-with-member Inv-loop μ-loop
 array-read-with-member c =
     let h = c .before .head-at in
-    let l = head-low (c .before .before .before .loop .k) (h .result) (c .before .before .before .before .pre .1) (omega arith) (h .ensures) in
-    omega arith
+    head-low (c .before .before .before .loop .k) (h .result) (c .before .before .before .before .pre .1) (omega arith) (h .ensures)
 
 with-member-requires : tie.Need-with-member-requires Inv-loop μ-loop
 with-member-requires c κs = search needs
@@ -42,8 +41,7 @@ mul-own c = search needs
 array-write-own : tie.Need-array-write-own Inv-loop μ-loop
 array-write-own c =
     let d = c .before .before in
-    let l = head-low (d .before .before .loop .k) (d .head-at .result) (d .before .before .before .pre .1) (omega arith) (d .head-at .ensures) in
-    omega arith
+    head-low (d .before .before .loop .k) (d .head-at .result) (d .before .before .before .pre .1) (omega arith) (d .head-at .ensures)
 
 add-k : tie.Need-add-k Inv-loop μ-loop
 add-k c = search needs
