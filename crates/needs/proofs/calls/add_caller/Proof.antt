@@ -1,14 +1,8 @@
 -- `needs::calls::add_caller` meets its contract. The loop's invariant: the contract for the first j subgoals. Assumes nothing.
-use mathlib.Core.Path.{_≡_, ap, _∙_}
-use Prim.Native.Nat.{_+_, _-_, _*_, _≤_, _<_}
+use Prim.Native.Nat.{_-_}
 use native.Mathlib.Omega.{arith}
 use borrow.Author.Needs.{needs}
-use Rattle.book.specs.Book.{Call}
-use Rattle.book.proofs.clause.head_at.Reads as head-at-reads
-use Rattle.book.proofs.clause.subgoal_at.Reads as subgoal-at-reads
-use Rattle.book.proofs.clause.subgoals_at.Reads as subgoals-at-reads
-use Rattle.masks.proofs.constraint.with_member.Reads as with-member-reads
-use Rattle.needs.proofs.Laws.Calls.{Adding, adding-start, adding-room, adding-next, adding-end}
+use Rattle.needs.proofs.Laws.Calls.{Room, Adding, adding-start, adding-room, adding-next, adding-end}
 use Rattle.needs.proofs.calls.add_caller.Statement.{statement}
 use Rattle.needs.proofs.calls.add_caller.Tie as tie
 
@@ -25,10 +19,21 @@ subgoals-at-requires : tie.Need-subgoals-at-requires Inv-loop μ-loop
 subgoals-at-requires c κs = search needs
 
 loop-holds : tie.Need-loop-holds Inv-loop μ-loop
-loop-holds c = adding-start (c .before .before .before .args .rules .now) (c .before .before .before .args .k) (c .before .before .before .args .callers .now) (c .before .before .words .given .0 .1)
+loop-holds c =
+    let args = c .before .before .before .args in
+    adding-start (args .rules .now) (args .k) (args .callers .now) (c .before .before .words .given .0 .1)
 
 subgoal-at-requires : tie.Need-subgoal-at-requires Inv-loop μ-loop
 subgoal-at-requires c κs = let n = c .before .before .subgoals-at .ensures in (c .before .before .before .before .before .pre .0, omega arith)
+
+-- in a turn: h is the head and s is subgoal j, and their predicates have words
+room : (c : tie.After-subgoal-at Inv-loop μ-loop)
+    → Room (c .before .before .before .before .head-at .result) (c .subgoal-at .result) (c .before .before .loop .words)
+room c =
+    let h = c .before .before .before .before in
+    let pre = h .before .before .pre in
+    let n = c .before .before .before .subgoals-at .ensures in
+    adding-room (c .before .before .loop .inv) (h .head-at .result) (c .subgoal-at .result) (pre .1) (pre .2) (omega arith) (h .head-at .ensures) (c .subgoal-at .ensures)
 
 cast-q : tie.Need-cast-q Inv-loop μ-loop
 cast-q c = search needs
@@ -37,16 +42,16 @@ mul-with-member : tie.Need-mul-with-member Inv-loop μ-loop
 mul-with-member c = search needs
 
 slice-read-with-member : tie.Need-slice-read-with-member Inv-loop μ-loop
-slice-read-with-member c = let n = c .before .before .before .before .before .subgoals-at .ensures in adding-room (c .before .before .before .before .before .before .before .before .args .rules .now) (c .before .before .before .before .before .before .before .before .args .k) (c .before .before .before .before .before .before .before .before .args .callers .now) (c .before .before .before .before .loop .inv) (c .before .before .subgoal-at .result) (c .before .before .before .before .before .before .before .before .pre .2) (omega arith) (c .before .before .subgoal-at .ensures)
+slice-read-with-member c = let r = room (c .before .before) in omega arith
 
 with-member-requires : tie.Need-with-member-requires Inv-loop μ-loop
-with-member-requires c κs = let e = ap (λ (x : Call). x .pred) (c .before .before .before .before .before .before .head-at .ensures) in let l = c .before .before .before .before .before .before .before .before .pre .1 in omega arith
+with-member-requires c κs = let r = room (c .before .before) in omega arith
 
 mul-words : tie.Need-mul-words Inv-loop μ-loop
 mul-words c = search needs
 
 slice-write-words : tie.Need-slice-write-words Inv-loop μ-loop
-slice-write-words c = let n = c .before .before .before .before .before .before .subgoals-at .ensures in adding-room (c .before .before .before .before .before .before .before .before .before .args .rules .now) (c .before .before .before .before .before .before .before .before .before .args .k) (c .before .before .before .before .before .before .before .before .before .args .callers .now) (c .before .before .before .before .before .loop .inv) (c .before .before .before .subgoal-at .result) (c .before .before .before .before .before .before .before .before .before .pre .2) (omega arith) (c .before .before .before .subgoal-at .ensures)
+slice-write-words c = let r = room (c .before .before .before) in omega arith
 
 add-j : tie.Need-add-j Inv-loop μ-loop
 add-j c = search needs
@@ -55,10 +60,15 @@ loop-less : tie.Need-loop-less Inv-loop μ-loop
 loop-less c = search needs
 
 loop-again : tie.Need-loop-again Inv-loop μ-loop
-loop-again c = let n = c .before .before .before .before .before .before .subgoals-at .ensures in rw (c .with-member .ensures) (adding-next (c .before .before .before .before .before .before .before .before .before .args .rules .now) (c .before .before .before .before .before .before .before .before .before .args .k) (c .before .before .before .before .before .before .before .before .before .args .callers .now) (c .before .before .before .before .before .loop .inv) (c .before .before .before .before .before .before .before .head-at .result) (c .before .before .before .subgoal-at .result) (c .before .before .before .before .before .before .before .before .before .pre .2) (omega arith) (c .before .before .before .before .before .before .before .head-at .ensures) (c .before .before .before .subgoal-at .ensures))
+loop-again c =
+    let d = c .before .before .before in
+    let h = d .before .before .before .before .head-at in
+    let n = d .before .before .before .subgoals-at .ensures in
+    rw (c .with-member .ensures)
+    (adding-next (d .before .before .loop .inv) (h .result) (d .subgoal-at .result) (room d) (omega arith) (h .ensures) (d .subgoal-at .ensures))
 
 returns : tie.Need-returns Inv-loop μ-loop
-returns c = let n = c .before .before .subgoals-at .ensures in adding-end (c .before .before .before .before .before .args .rules .now) (c .before .before .before .before .before .args .k) (c .before .before .before .before .before .args .callers .now) (c .before .loop .inv) (omega arith)
+returns c = let n = c .before .before .subgoals-at .ensures in adding-end (c .before .loop .inv) (omega arith)
 
 pub add-caller-spec : {M : Type 1} → statement M
 add-caller-spec =

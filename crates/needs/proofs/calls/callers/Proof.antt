@@ -1,9 +1,7 @@
--- `needs::calls::callers` meets its contract. The loop's invariant: each predicate's set has those that call it in the first k clauses. Assumes nothing.
-use mathlib.Core.Path.{_≡_, _∙_}
-use Prim.Native.Nat.{_+_, _-_, _*_, _≤_, _<_}
+-- `needs::calls::callers` meets its contract. The loop's invariant: each predicate's set has those whose first k clauses call it. Assumes nothing.
+use Prim.Native.Nat.{_-_}
 use native.Mathlib.Omega.{arith}
 use borrow.Author.Needs.{needs}
-use Rattle.needs.proofs.calls.add_caller.Reads as add-caller-reads
 use Rattle.needs.proofs.Laws.Calls.{Gathering, gathering-start, gathering-next, gathering-end}
 use Rattle.needs.proofs.calls.callers.Statement.{statement}
 use Rattle.needs.proofs.calls.callers.Tie as tie
@@ -21,7 +19,10 @@ cast-add-caller : tie.Need-cast-add-caller Inv-loop μ-loop
 cast-add-caller c = search needs
 
 add-caller-requires : tie.Need-add-caller-requires Inv-loop μ-loop
-add-caller-requires c κs = (omega arith, c .before .before .before .pre .1 .heads (c .before .before .loop .k) (omega arith), c .before .before .before .pre .1 .bodies (c .before .before .loop .k) (omega arith))
+add-caller-requires c κs =
+    let k = c .before .before .loop .k in
+    let known = c .before .before .before .pre .1 in
+    (omega arith, known .heads k (omega arith), known .bodies k (omega arith))
 
 add-k : tie.Need-add-k Inv-loop μ-loop
 add-k c = search needs
@@ -30,10 +31,10 @@ loop-less : tie.Need-loop-less Inv-loop μ-loop
 loop-less c = search needs
 
 loop-again : tie.Need-loop-again Inv-loop μ-loop
-loop-again c = gathering-next (c .before .before .before .before .args .rules .now) (c .before .before .before .before .args .clauses) (c .before .before .before .loop .inv) _ (omega arith) (c .add-caller .ensures)
+loop-again c = gathering-next (c .before .before .before .loop .inv) (omega arith) (c .add-caller .ensures)
 
 returns : tie.Need-returns Inv-loop μ-loop
-returns c = gathering-end (c .before .before .args .rules .now) (c .before .before .args .clauses) (c .before .loop .inv) (omega arith)
+returns c = gathering-end (c .before .loop .inv) (omega arith)
 
 pub callers-spec : {M : Type 1} → statement M
 callers-spec =

@@ -1,49 +1,29 @@
--- `needs::calls::calling` meets its contract. The loop goes over the members of the set called; its invariant: the set has who calls one of those passed. Assumes nothing.
-use mathlib.Core.Bool.{true}
-use mathlib.Core.List.{List}
-use mathlib.Core.Path.{_≡_, _∙_}
-use Prim.Native.Nat.{ℕ, _+_, _-_, _*_, _≤_, _<_}
+-- `needs::calls::calling` meets its contract. The loop goes over the members of `called`; its invariant: the set has the callers of those passed.
+-- Assumes nothing.
+use Prim.Native.Nat.{_<_}
 use native.Mathlib.Omega.{arith}
-use lib.Bits.{bitOr, bitAnd}
 use lib.Count.{trailingZeros}
-use lib.ListN.{getD}
 use borrow.Author.Needs.{needs}
-use Rattle.masks.specs.Set.{bitAt}
-use Rattle.masks.proofs.Laws.Members.{others-less, Over, over-start, over-end, over-lowest, over-member, over-here, over-next}
-use Rattle.needs.proofs.Laws.Calls.{Callers, callers-start, callers-absent, callers-next}
+use Rattle.masks.proofs.Laws.Members.{others-less}
+use Rattle.needs.proofs.Laws.Calls.{Passing, passing-start, passing-low, passing-next, passing-end}
 use Rattle.needs.proofs.calls.calling.Statement.{statement}
 use Rattle.needs.proofs.calls.calling.Tie as tie
 
 abbrev Inv-loop : tie.InvT-loop
-Inv-loop callers called set₀ rest₀ set rest = Over (Callers callers called set) 64 called rest
+Inv-loop callers called set₀ rest₀ set rest = Passing callers called set rest
 
 abbrev μ-loop : tie.MeasureT-loop
 μ-loop callers called set₀ rest₀ set rest = rest
 
 loop-holds : tie.Need-loop-holds Inv-loop μ-loop
-loop-holds c = over-start (Callers (c .args .callers .now) (c .args .called) 0) 64 (c .args .called) (search needs) (callers-start (c .args .callers .now) (c .args .called))
+loop-holds c = passing-start (c .args .callers .now) (c .args .called) (search needs)
 
-module _ (c : tie.In-loop Inv-loop μ-loop) where
-  abbrev callers : List ℕ
-  callers = c .before .before .args .callers .now
-
-  abbrev called : ℕ
-  called = c .before .before .args .called
-
-  abbrev q : ℕ
-  q = trailingZeros 64 (c .before .loop .rest)
-
-  low : q < 64
-  low = over-lowest (Callers callers called (c .before .loop .set)) 64 called (c .before .loop .rest) (callers-absent callers called (c .before .loop .set)) (c .before .loop .inv) (c .loop-test .taken) .small
-
-  here : Callers callers called (c .before .loop .set) q
-  here = over-here (Callers callers called (c .before .loop .set)) 64 called (c .before .loop .rest) (callers-absent callers called (c .before .loop .set)) (c .before .loop .inv) (c .loop-test .taken)
-
-  member : bitAt called q ≡ true
-  member = over-member (Callers callers called (c .before .loop .set)) 64 called (c .before .loop .rest) (callers-absent callers called (c .before .loop .set)) (c .before .loop .inv) (c .loop-test .taken)
-
-  next : Over (Callers callers called (bitOr (c .before .loop .set) (getD callers q 0))) 64 called (bitAnd (c .before .loop .rest) (c .before .loop .rest - 1))
-  next = over-next (Callers callers called (c .before .loop .set)) 64 called (c .before .loop .rest) (callers-absent callers called (c .before .loop .set)) (c .before .loop .inv) (c .loop-test .taken) (Callers callers called (bitOr (c .before .loop .set) (getD callers q 0))) (callers-next callers called (c .before .loop .set) q member here)
+-- in a turn: q is the lowest member of those left
+low : (c : tie.In-loop Inv-loop μ-loop) → trailingZeros 64 (c .before .loop .rest) < 64
+low c =
+    let args = c .before .before .args in
+    let l = c .before .loop in
+    passing-low (args .callers .now) (args .called) (l .set) (l .rest) (l .inv) (c .loop-test .taken)
 
 cast-q : tie.Need-cast-q Inv-loop μ-loop
 cast-q c = let l = low c in omega arith
@@ -61,10 +41,16 @@ loop-less : tie.Need-loop-less Inv-loop μ-loop
 loop-less c = others-less (c .before .before .loop .rest) (c .before .loop-test .taken)
 
 loop-again : tie.Need-loop-again Inv-loop μ-loop
-loop-again c = next (c .before)
+loop-again c =
+    let args = c .before .before .before .args in
+    let l = c .before .before .loop in
+    passing-next (args .callers .now) (args .called) (l .set) (l .rest) (l .inv) (c .before .loop-test .taken)
 
 returns : tie.Need-returns Inv-loop μ-loop
-returns c = over-end (Callers (c .before .before .args .callers .now) (c .before .before .args .called) (c .before .loop .set)) 64 (c .before .before .args .called) (c .before .loop .rest) (callers-absent (c .before .before .args .callers .now) (c .before .before .args .called) (c .before .loop .set)) (c .before .loop .inv) (c .loop-test .left)
+returns c =
+    let args = c .before .before .args in
+    let l = c .before .loop in
+    passing-end (args .callers .now) (args .called) (l .set) (l .rest) (l .inv) (c .loop-test .left)
 
 pub calling-spec : {M : Type 1} → statement M
 calling-spec =

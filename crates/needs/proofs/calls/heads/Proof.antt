@@ -1,10 +1,7 @@
 -- `needs::calls::heads` meets its contract. The loop's invariant: the set has the predicates of the first k heads. Assumes nothing.
-use mathlib.Core.Path.{_≡_, _∙_}
-use Prim.Native.Nat.{_+_, _-_, _*_, _≤_, _<_}
+use Prim.Native.Nat.{_-_}
 use native.Mathlib.Omega.{arith}
 use borrow.Author.Needs.{needs}
-use Rattle.book.proofs.clause.head_at.Reads as head-at-reads
-use Rattle.masks.proofs.constraint.with_member.Reads as with-member-reads
 use Rattle.needs.proofs.Laws.Calls.{head-low, Heading, heading-start, heading-next, heading-end}
 use Rattle.needs.proofs.calls.heads.Statement.{statement}
 use Rattle.needs.proofs.calls.heads.Tie as tie
@@ -25,7 +22,10 @@ head-at-requires : tie.Need-head-at-requires Inv-loop μ-loop
 head-at-requires c κs = search needs
 
 with-member-requires : tie.Need-with-member-requires Inv-loop μ-loop
-with-member-requires c κs = head-low (c .before .before .loop .k) (c .head-at .result) (c .before .before .before .pre .1) (omega arith) (c .head-at .ensures)
+with-member-requires c κs =
+    let h = c .head-at in
+    let l = head-low (c .before .before .loop .k) (h .result) (c .before .before .before .pre .1) (omega arith) (h .ensures) in
+    omega arith
 
 add-k : tie.Need-add-k Inv-loop μ-loop
 add-k c = search needs
@@ -34,10 +34,12 @@ loop-less : tie.Need-loop-less Inv-loop μ-loop
 loop-less c = search needs
 
 loop-again : tie.Need-loop-again Inv-loop μ-loop
-loop-again c = rw (c .with-member .ensures) (heading-next (c .before .before .before .before .args .rules .now) (c .before .before .before .before .args .clauses) (c .before .before .before .loop .inv) (c .before .head-at .result) (omega arith) (c .before .head-at .ensures))
+loop-again c =
+    let h = c .before .head-at in
+    rw (c .with-member .ensures) (heading-next (c .before .before .before .loop .inv) (h .result) (omega arith) (h .ensures))
 
 returns : tie.Need-returns Inv-loop μ-loop
-returns c = heading-end (c .before .before .args .rules .now) (c .before .before .args .clauses) (c .before .loop .inv) (omega arith)
+returns c = heading-end (c .before .loop .inv) (omega arith)
 
 pub heads-spec : {M : Type 1} → statement M
 heads-spec =

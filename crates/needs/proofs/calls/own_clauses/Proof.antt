@@ -1,10 +1,7 @@
 -- `needs::calls::own_clauses` meets its contract. The loop's invariant: each predicate's set has its own of the first k clauses. Assumes nothing.
-use mathlib.Core.Path.{_≡_, _∙_}
-use Prim.Native.Nat.{_+_, _-_, _*_, _≤_, _<_}
+use Prim.Native.Nat.{_-_}
 use native.Mathlib.Omega.{arith}
 use borrow.Author.Needs.{needs}
-use Rattle.book.proofs.clause.head_at.Reads as head-at-reads
-use Rattle.masks.proofs.constraint.with_member.Reads as with-member-reads
 use Rattle.needs.proofs.Laws.Calls.{head-low, Owning, owning-start, owning-next, owning-end}
 use Rattle.needs.proofs.calls.own_clauses.Statement.{statement}
 use Rattle.needs.proofs.calls.own_clauses.Tie as tie
@@ -31,7 +28,9 @@ mul-with-member : tie.Need-mul-with-member Inv-loop μ-loop
 mul-with-member c = search needs
 
 array-read-with-member : tie.Need-array-read-with-member Inv-loop μ-loop
-array-read-with-member c = head-low (c .before .before .before .loop .k) (c .before .head-at .result) (c .before .before .before .before .pre .1) (omega arith) (c .before .head-at .ensures)
+array-read-with-member c =
+    let h = c .before .head-at in
+    head-low (c .before .before .before .loop .k) (h .result) (c .before .before .before .before .pre .1) (omega arith) (h .ensures)
 
 with-member-requires : tie.Need-with-member-requires Inv-loop μ-loop
 with-member-requires c κs = search needs
@@ -40,7 +39,9 @@ mul-own : tie.Need-mul-own Inv-loop μ-loop
 mul-own c = search needs
 
 array-write-own : tie.Need-array-write-own Inv-loop μ-loop
-array-write-own c = head-low (c .before .before .before .before .loop .k) (c .before .before .head-at .result) (c .before .before .before .before .before .pre .1) (omega arith) (c .before .before .head-at .ensures)
+array-write-own c =
+    let d = c .before .before in
+    head-low (d .before .before .loop .k) (d .head-at .result) (d .before .before .before .pre .1) (omega arith) (d .head-at .ensures)
 
 add-k : tie.Need-add-k Inv-loop μ-loop
 add-k c = search needs
@@ -49,10 +50,13 @@ loop-less : tie.Need-loop-less Inv-loop μ-loop
 loop-less c = search needs
 
 loop-again : tie.Need-loop-again Inv-loop μ-loop
-loop-again c = rw (c .with-member .ensures) (owning-next (c .before .before .before .before .before .args .rules .now) (c .before .before .before .before .before .args .clauses) (c .before .before .before .before .loop .inv) (c .before .before .head-at .result) (c .before .before .before .before .before .pre .1) (omega arith) (c .before .before .head-at .ensures))
+loop-again c =
+    let d = c .before .before in
+    rw (c .with-member .ensures)
+    (owning-next (d .before .before .loop .inv) (d .head-at .result) (d .before .before .before .pre .1) (omega arith) (d .head-at .ensures))
 
 returns : tie.Need-returns Inv-loop μ-loop
-returns c = owning-end (c .before .before .args .rules .now) (c .before .before .args .clauses) (c .before .loop .inv) (omega arith)
+returns c = owning-end (c .before .loop .inv) (omega arith)
 
 pub own-clauses-spec : {M : Type 1} → statement M
 own-clauses-spec =
