@@ -13,6 +13,11 @@ use Rattle.book.specs.declared.fault.Fault.{Fault}
 use Rattle.book.proofs.Laws.Trip.{judge-inv}
 use Rattle.ordering.specs.Adorn.{Table}
 use Rattle.ordering.specs.Held.{tableIn}
+use Rattle.book.specs.Held.{bookOf}
+use Rattle.records.specs.declared.field.Found.{Found}
+use Rattle.records.specs.declared.field.Found.the-variants.{Next, Bad}
+use Rattle.reading.specs.Judged.{judgement, found}
+use Rattle.reading.specs.declared.Reading.{Reading}
 use Rattle.tables.specs.Table.{rounds, final}
 use Rattle.tables.specs.Image.{rows, image, analysis}
 
@@ -31,3 +36,11 @@ module _ (s out : List ℕ) {r : Reply} {after : List ℕ} where
 -- a book that was read is well formed
 pub read-well : (s : List ℕ) (B : Book) → book B ≡ judge s → WellFormed B
 read-well s B e = judge-inv s B (sym e) .1
+
+-- what reading found
+module _ (s : List ℕ) (r : Reading) (h : found r ≡ judge s) where
+  pub read-fault : {v : Fault} {at : ℕ} → r .found ≡ Bad v at → fault v at ≡ judge s
+  read-fault e = subst (λ (f : Found). judgement f (bookOf (r .book)) ≡ judge s) e h
+
+  pub read-book : {at n : ℕ} → r .found ≡ Next at n → book (bookOf (r .book)) ≡ judge s
+  read-book e = subst (λ (f : Found). judgement f (bookOf (r .book)) ≡ judge s) e h

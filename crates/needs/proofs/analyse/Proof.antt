@@ -1,3 +1,7 @@
+use Rattle.needs.proofs.Laws.Analysed.{analysed-fault, analysed-book, read-well, read-fault, read-book}
+use Rattle.masks.proofs.Laws.Outcome.{answers-refused}
+use Rattle.book.specs.Held.{bookIn, bookOf}
+use lib.Seq.{length-take-le}
 use borrow.Author.Needs.{needs}
 use native.Mathlib.Omega.{arith}
 use Prim.Native.Nat.{ℕ, _+_, _-_, _*_, _≤_, _<_}
@@ -32,18 +36,34 @@ refused-requires c κs = search needs
 
 -- src/lib.rt:47:9
 returns : tie.Need-returns
-returns c = search needs
+returns c =
+    let s = c .before .before .before .before .before .before .before .before .args in
+    let f = read-fault (s .book .now) (c .before .before .before .before .before .read-book .result) (c .before .before .before .before .before .read-book .ensures .0) (c .before .before .before .f .given .1) in
+    analysed-fault (s .book .now) (s .out .now) _ _ f (answers-refused _ _ (s .out .now) (c .refused .ensures ∙ rw (c .before .number .ensures)))
 
 enum-told : tie.Need-enum-told
 enum-told c = search needs
 
+-- there are as many arities as predicates
+as-many : (c : tie.After-settle-arg3) → length (take (c .before .before .before .before .before .before .before .read-book .result .book .preds) (c .before .before .before .before .before .before .before .read-book .result .book .arities)) ≡ c .before .before .before .before .before .before .before .read-book .result .book .preds
+as-many c =
+    let b = c .before .before .before .before .before .before .before .read-book .result .book in
+    let e : length (b .arities) ≡ 64 = search needs in
+    let n = c .before .before .before .before .before .before .before .read-book .ensures .1 in
+    length-take-le (b .preds) (b .arities) (omega arith)
+
+
 -- src/lib.rt:50:9
 settle-requires : tie.Need-settle-requires
-settle-requires c κs = search needs
+settle-requires c κs =
+    let b = c .before .before .before .before .before .before .before .read-book .result .book in
+    let n = c .before .before .before .before .before .before .before .read-book .ensures .1 in
+    let f = read-book (c .before .before .before .before .before .before .before .before .before .before .args .book .now) (c .before .before .before .before .before .before .before .read-book .result) (c .before .before .before .before .before .before .before .read-book .ensures .0) (c .before .before .before .before .before .enum-told .given .1) in
+    (as-many c, n .1, read-well (c .before .before .before .before .before .before .before .before .before .before .args .book .now) (bookOf b) f)
 
 -- src/lib.rt:51:5
 give-requires : tie.Need-give-requires
-give-requires c κs = search needs
+give-requires c κs = c .before .before .before .before .before .before .before .before .before .read-book .ensures .1 .0
 
 -- src/lib.rt:41:1
 same-length : tie.Need-same-length
@@ -51,7 +71,11 @@ same-length c = search needs
 
 -- src/lib.rt:41:1
 returns-2 : tie.Need-returns-2
-returns-2 c = search needs
+returns-2 c =
+    let s = c .before .before .before .before .before .before .before .before .before .before .before .before .before .before .before .args in
+    let b = c .before .before .before .before .before .before .before .before .before .before .before .before .read-book .result .book in
+    let f = read-book (s .book .now) (c .before .before .before .before .before .before .before .before .before .before .before .before .read-book .result) (c .before .before .before .before .before .before .before .before .before .before .before .before .read-book .ensures .0) (c .before .before .before .before .before .before .before .before .before .before .enum-told .given .1) in
+    analysed-book (s .book .now) (s .out .now) (bookOf b) (b .preds) (c .before .before .before .before .settle .result .table .needs) (c .before .before .before .before .settle .result .rounds) f (unfold bookIn in as-many (c .before .before .before .before .before)) (c .before .before .before .before .settle .ensures .0) (c .before .before .before .before .settle .ensures .1) (c .before .before .give .ensures)
 
 pub analyse-spec : {M : Type 1} → statement M
 analyse-spec =
