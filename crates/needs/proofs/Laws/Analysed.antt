@@ -1,17 +1,15 @@
 -- What the analysis comes to: a fault of the book, or the image of its final table. Assumes nothing.
-use mathlib.Core.Path.{_≡_, sym, ap, _∙_, subst}
+use mathlib.Core.Path.{_≡_, sym, subst}
 use mathlib.Core.List.{List}
-use Prim.Native.Nat.{ℕ, _≤_}
-use lib.ListN.{length, take}
-use lib.Seq.{length-take-le}
-use Rattle.masks.specs.Outcome.{Outcome, Answers, refused, done}
+use Prim.Native.Nat.{ℕ}
+use lib.ListN.{length}
+use Rattle.masks.specs.Outcome.{Answers, refused, done}
 use Rattle.masks.specs.declared.reply.Reply.{Reply}
 use Rattle.book.specs.Book.{Book}
 use Rattle.book.specs.Format.{number, fault, book, judge}
 use Rattle.book.specs.Encode.{WellFormed}
 use Rattle.book.specs.declared.fault.Fault.{Fault}
 use Rattle.book.proofs.Laws.Trip.{judge-inv}
-use Rattle.ordering.specs.Adorn.{Table}
 use Rattle.ordering.specs.Held.{tableIn}
 use Rattle.book.specs.Held.{bookOf}
 use Rattle.records.specs.declared.field.Found.{Found}

@@ -1,35 +1,30 @@
 -- A round, predicate by predicate: those due get the written form of their good patterns, the others keep what they have, and those marked are the
 -- ones whose constraint is another. Since the others would get what they have, that is a step. Assumes nothing.
 use mathlib.Core.Path.{_≡_, refl, sym, ap, _∙_, subst}
-use mathlib.Core.Bool.{Bool, true, false, not, _&&_, _||_, or-false, or-true}
-use mathlib.Core.List.{List, []}
+use mathlib.Core.Bool.{Bool, true, false, not, _||_, or-false, or-true}
+use mathlib.Core.List.{List}
 use Prim.Native.Nat.{ℕ, suc, _^_, _≤_, _<_}
-use native.Mathlib.Nat.{pow-le-pow-right}
 use native.Mathlib.Omega.{arith}
 use lib.Bits.{bitOr}
-use lib.Dec.{eqb, ltb, leb}
+use lib.Dec.{eqb, ltb}
 use lib.ListN.{length, getD}
-use borrow.Author.Tests.{eqb-true, eqb-false, eq-eqb, ne-eqb, ltb-true, lt-ltb, leb-true}
+use borrow.Author.Tests.{eqb-true, eqb-false, ltb-true, lt-ltb, leb-true}
 use Rattle.masks.specs.Limits.{maxArity, allPatterns}
-use Rattle.masks.specs.Lists.{all, values}
 use Rattle.masks.specs.Set.{bitAt}
-use Rattle.masks.specs.Constraint.{inRange, written, sameMasks}
+use Rattle.masks.specs.Constraint.{written, sameMasks}
 use Rattle.masks.proofs.Laws.Logic.{byBool, clash, and-left}
-use Rattle.masks.proofs.Laws.Lists.{all-mono, values-cong}
+use Rattle.masks.proofs.Laws.Lists.{all-mono}
 use Rattle.masks.proofs.Laws.Set.{bitAt-zero, bitAt-or, bitAt-power}
-use Rattle.masks.proofs.Laws.Constraint.{inRange-mono, written-inRange, written-isWritten, written-cong, sameMasks-true, sameMasks-refl}
+use Rattle.masks.proofs.Laws.Constraint.{inRange-mono, written-inRange, written-isWritten, sameMasks-true, sameMasks-refl}
 use Rattle.book.specs.Limits.{maxPredicates, maxClauses}
 use Rattle.book.specs.Book.{Call, Clause, Book}
-use Rattle.book.specs.Held.{clauseAt, clausesOf, StoredMode}
+use Rattle.book.specs.Held.{clauseAt, StoredMode}
 use Rattle.book.proofs.Laws.Held.{clausesOf-at}
-use Rattle.ordering.specs.Held.{entryIn, tableIn, Low, callsBelow}
-use Rattle.ordering.proofs.Laws.Held.{tableIn-at}
-use Rattle.tables.specs.Table.{entry, defined, good, next, step}
-use Rattle.tables.proofs.Laws.Valid.{arity-low, bodies-known, defined-known, clause-calls}
-use Rattle.tables.proofs.Laws.Round.{good-cut, step-at, step-defined}
+use Rattle.ordering.specs.Held.{entryIn, Low, callsBelow}
+use Rattle.tables.specs.Table.{defined}
+use Rattle.tables.proofs.Laws.Valid.{arity-low, defined-known, clause-calls}
 use Rattle.tables.proofs.Laws.Held.{stored-entry, stored-other, stored-low}
-use Rattle.needs.specs.Sets.{Owns}
-use Rattle.needs.specs.Round.{Callable, allGood, Given, Due, Stepped}
+use Rattle.needs.specs.Round.{Callable, allGood, Given}
 
 -- ---- what a book in the arrays gives
 

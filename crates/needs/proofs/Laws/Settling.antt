@@ -1,23 +1,21 @@
 -- What a book that was read gives the rounds: its predicates, modes and clauses as they are lent. Assumes nothing.
-use mathlib.Core.Path.{_≡_, refl, sym, ap, _∙_, subst}
-use mathlib.Core.Bool.{true, cond}
-use mathlib.Core.List.{List, []}
-use mathlib.Core.Option.{none, some}
+use mathlib.Core.Path.{_≡_, sym, ap, _∙_, subst}
+use mathlib.Core.Bool.{true}
+use mathlib.Core.List.{List}
+use mathlib.Core.Option.{some}
 use Prim.Native.Nat.{ℕ, _^_, _≤_, _<_, min}
 use native.Mathlib.Nat.{pow-le-pow-right}
 use native.Mathlib.Omega.{arith}
-use lib.Dec.{leb}
 use lib.ListN.{length, getD, take}
 use lib.Seq.{getD-take}
 use borrow.Author.Tests.{leb-true}
 use Rattle.masks.specs.Limits.{allPatterns}
 use Rattle.masks.specs.Set.{bitAt, Holds}
-use Rattle.masks.specs.Constraint.{inRange}
 use Rattle.masks.proofs.Laws.Constraint.{inRange-mono}
 use Rattle.book.specs.Limits.{maxPredicates, maxClauses}
 use Rattle.book.specs.Book.{Clause, Book}
 use Rattle.book.specs.Encode.{WellFormed}
-use Rattle.book.specs.Held.{clauseAt, clausesOf, modesOf, hasIn, masksIn, modeBytes, bookIn}
+use Rattle.book.specs.Held.{clauseAt, clausesOf, modesOf, masksIn, modeBytes, bookIn}
 use Rattle.book.proofs.Laws.Held.{clausesOf-at, clausesOf-length}
 use Rattle.ordering.specs.Held.{tableIn, callsBelow, entryIn}
 use Rattle.tables.specs.Table.{modeOf, firstNeeds, start, defined}

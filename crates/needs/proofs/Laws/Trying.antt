@@ -1,8 +1,8 @@
 -- The clauses of a predicate, tried one after the other: a pattern stays in the set while each clause tried is good under it. The written form of
 -- a set of patterns of an arity looks at no others. Assumes nothing.
 use mathlib.Core.Path.{_≡_, refl, sym, ap, ap₂, _∙_}
-use mathlib.Core.Bool.{Bool, true, false, not, cond, _&&_, Bool·beq, and-assoc, and-true}
-use mathlib.Core.List.{List, [], _∷_, _++_, append-nil}
+use mathlib.Core.Bool.{Bool, true, false, not, _&&_, Bool·beq, and-assoc, and-true}
+use mathlib.Core.List.{List, [], _∷_, append-nil}
 use Prim.Native.Nat.{ℕ, zero, suc, _+_, _-_, _^_, _≤_, _<_}
 use native.Mathlib.Omega.{arith}
 use lib.Bits.{bitAnd}
@@ -15,14 +15,13 @@ use Rattle.masks.specs.Constraint.{admits, written}
 use Rattle.masks.proofs.Laws.Lists.{allBelow, allBelow-at}
 use Rattle.masks.proofs.Laws.Constraint.{written-suc, written-cong}
 use Rattle.masks.proofs.Laws.Members.{bitAt-and}
-use Rattle.book.specs.Limits.{maxPredicates, maxClauses}
+use Rattle.book.specs.Limits.{maxPredicates}
 use Rattle.book.specs.Held.{clauseAt}
 use Rattle.ordering.specs.Good.{goodClause}
 use Rattle.ordering.specs.Held.{tableIn}
 use Rattle.lanes.specs.Lanes.{EachLane}
 use Rattle.lanes.proofs.Laws.Words.{beq-same}
 use Rattle.needs.specs.Sets.{eachIn}
-use Rattle.needs.specs.Round.{allGood}
 
 -- ---- all patterns of an arity
 

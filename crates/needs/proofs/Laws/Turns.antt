@@ -2,36 +2,33 @@
 -- whose clauses calls one that changed would get what it has, so those that call one are all that is due next. A round that marks no predicate has
 -- changed nothing, and the table is final. Assumes nothing.
 use mathlib.Core.Path.{_≡_, refl, sym, ap, _∙_, subst}
-use mathlib.Core.Bool.{Bool, true, false, not, cond, _&&_, _||_, false≢true}
+use mathlib.Core.Bool.{Bool, true, false, not, cond, _||_, false≢true}
 use mathlib.Core.List.{List, [], _∷_}
 use Prim.Native.Nat.{ℕ, suc, _^_, _≤_, _<_}
 use native.Mathlib.Omega.{arith}
 use lib.Count.{trailingZeros}
-use lib.Dec.{eqb, ltb, leb}
+use lib.Dec.{eqb}
 use lib.ListN.{length, getD, List·getD-eq-default}
-use borrow.Author.Tests.{leb-true, not-true, not-false}
-use Rattle.masks.specs.Limits.{allPatterns}
-use Rattle.masks.specs.Lists.{any, values}
+use borrow.Author.Tests.{leb-true, not-false}
+use Rattle.masks.specs.Lists.{any}
 use Rattle.masks.specs.Set.{bitAt, Holds}
 use Rattle.masks.specs.Constraint.{written, sameMasks}
-use Rattle.masks.proofs.Laws.Logic.{byBool, clash, or-case, or-right, or-left}
+use Rattle.masks.proofs.Laws.Logic.{byBool, clash}
 use Rattle.masks.proofs.Laws.Lists.{values-cong}
 use Rattle.masks.proofs.Laws.Set.{bitAt-zero}
 use Rattle.masks.proofs.Laws.Members.{lowest}
 use Rattle.masks.proofs.Laws.Constraint.{written-cong, sameMasks-true, sameMasks-refl}
-use Rattle.book.specs.Limits.{maxPredicates, maxClauses}
+use Rattle.book.specs.Limits.{maxPredicates}
 use Rattle.book.specs.Book.{Clause, Book}
 use Rattle.book.specs.Encode.{WellFormed}
-use Rattle.book.specs.Held.{clausesOf}
 use Rattle.ordering.specs.Adorn.{Table}
 use Rattle.ordering.specs.Held.{entryIn, tableIn, Low}
 use Rattle.ordering.proofs.Laws.Held.{tableIn-at, tableIn-length}
 use Rattle.tables.specs.Table.{entry, own, defined, good, next, step, start, table, rounds, final}
 use Rattle.tables.specs.Calls.{touched, calls}
 use Rattle.tables.proofs.Laws.Valid.{bodies-known, defined-known}
-use Rattle.tables.proofs.Laws.Round.{byRange, good-cut, next-same, step-at, step-defined, step-outside, step-length}
-use Rattle.tables.proofs.Laws.Rounds.{Going, going-start, going-next, going-less, going-rounds, going-final, rounds-few}
-use Rattle.needs.specs.Sets.{Owns}
+use Rattle.tables.proofs.Laws.Round.{byRange, good-cut, next-same, step-at, step-defined, step-outside}
+use Rattle.tables.proofs.Laws.Rounds.{Going, going-start, going-next, going-less, going-rounds, going-final}
 use Rattle.needs.specs.Round.{allGood, Given, Due, Stepped}
 use Rattle.needs.proofs.Laws.Calls.{own-good}
 use Rattle.needs.proofs.Laws.Rounding.{few-predicates, few-clauses, gets, Rounding}

@@ -1,40 +1,27 @@
+-- `needs::analyse` meets its contract. A fault is the book's; else the book is well formed, and what is given is the image of its final table with its rounds. Assumes nothing.
+use mathlib.Core.Path.{_≡_, _∙_}
+use native.Mathlib.Omega.{arith}
+use lib.Seq.{length-take-le}
+use lib.ListN.{length, take}
+use borrow.Author.Needs.{needs}
+use Rattle.book.specs.Held.{bookIn, bookOf}
 use Rattle.needs.proofs.Laws.Analysed.{analysed-fault, analysed-book, read-well, read-fault, read-book}
 use Rattle.masks.proofs.Laws.Outcome.{answers-refused}
-use Rattle.book.specs.Held.{bookIn, bookOf}
-use lib.Seq.{length-take-le}
-use borrow.Author.Needs.{needs}
-use native.Mathlib.Omega.{arith}
-use Prim.Native.Nat.{ℕ, _+_, _-_, _*_, _≤_, _<_}
-use mathlib.Core.Path.{_≡_, refl, sym, ap, _∙_}
-use lib.ListN.{length, getD, take, drop}
-use mathlib.Core.Logic.{⊎-elim}
 use Rattle.needs.proofs.analyse.Statement.{statement}
 use Rattle.needs.proofs.analyse.Tie as tie
-use Rattle.needs.proofs.analyse.Reads as reads
-use Rattle.needs.proofs.analyse.Lts as lts
-use Rattle.book.proofs.fault.number.Reads as number-reads
-use Rattle.masks.proofs.reply.Reply.refused.Reads as refused-reads
-use Rattle.needs.proofs.give.Reads as give-reads
-use Rattle.needs.proofs.settle.Reads as settle-reads
-use Rattle.reading.proofs.read_book.Reads as read-book-reads
 
--- src/lib.rt:44:9
 read-book-requires : tie.Need-read-book-requires
 read-book-requires c κs = search needs
 
--- src/lib.rt:46:23
 enum-known-f : tie.Need-enum-known-f
 enum-known-f c = search needs
 
--- src/lib.rt:47:31
 number-requires : tie.Need-number-requires
 number-requires c κs = search needs
 
--- src/lib.rt:47:9
 refused-requires : tie.Need-refused-requires
 refused-requires c κs = search needs
 
--- src/lib.rt:47:9
 returns : tie.Need-returns
 returns c =
     let s = c .before .before .before .before .before .before .before .before .args in
@@ -44,7 +31,6 @@ returns c =
 enum-told : tie.Need-enum-told
 enum-told c = search needs
 
--- there are as many arities as predicates
 as-many : (c : tie.After-settle-arg3) → length (take (c .before .before .before .before .before .before .before .read-book .result .book .preds) (c .before .before .before .before .before .before .before .read-book .result .book .arities)) ≡ c .before .before .before .before .before .before .before .read-book .result .book .preds
 as-many c =
     let b = c .before .before .before .before .before .before .before .read-book .result .book in
@@ -52,8 +38,6 @@ as-many c =
     let n = c .before .before .before .before .before .before .before .read-book .ensures .1 in
     length-take-le (b .preds) (b .arities) (omega arith)
 
-
--- src/lib.rt:50:9
 settle-requires : tie.Need-settle-requires
 settle-requires c κs =
     let b = c .before .before .before .before .before .before .before .read-book .result .book in
@@ -61,15 +45,12 @@ settle-requires c κs =
     let f = read-book (c .before .before .before .before .before .before .before .before .before .before .args .book .now) (c .before .before .before .before .before .before .before .read-book .result) (c .before .before .before .before .before .before .before .read-book .ensures .0) (c .before .before .before .before .before .enum-told .given .1) in
     (as-many c, n .1, read-well (c .before .before .before .before .before .before .before .before .before .before .args .book .now) (bookOf b) f)
 
--- src/lib.rt:51:5
 give-requires : tie.Need-give-requires
 give-requires c κs = c .before .before .before .before .before .before .before .before .before .read-book .ensures .1 .0
 
--- src/lib.rt:41:1
 same-length : tie.Need-same-length
 same-length c = search needs
 
--- src/lib.rt:41:1
 returns-2 : tie.Need-returns-2
 returns-2 c =
     let s = c .before .before .before .before .before .before .before .before .before .before .before .before .before .before .before .args in

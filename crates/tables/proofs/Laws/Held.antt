@@ -1,20 +1,20 @@
 -- Tables as they are held: a store at a predicate changes its constraint and no other. And their image, row by row. Assumes nothing.
-use mathlib.Core.Path.{_≡_, refl, sym, ap, ap₂, _∙_}
+use mathlib.Core.Path.{_≡_, refl, ap, ap₂, _∙_}
 use mathlib.Core.Bool.{Bool, true, false, cond}
 use mathlib.Core.List.{List, [], _∷_, _++_}
 use mathlib.Core.Option.{Option, none, some}
 use Prim.Native.Nat.{ℕ, zero, suc, _+_, _*_, _≤_, _<_}
 use native.Mathlib.Numerals.{add-one}
 use native.Mathlib.Omega.{arith}
-use lib.Dec.{eqb, leb}
+use lib.Dec.{eqb}
 use lib.ListN.{length, getD, take, drop, replicate, getD-replicate, length-take}
-use borrow.Author.Tests.{eqb-true, eqb-false, eq-eqb, ne-eqb, leb-true, leb-false}
+use borrow.Author.Tests.{eqb-true, eqb-false, eq-eqb, ne-eqb}
 use Rattle.masks.specs.Limits.{maxMasks, allPatterns}
 use Rattle.masks.specs.Constraint.{trivial, inRange, minimise}
 use Rattle.masks.specs.Held.{masksOf}
 use Rattle.masks.specs.Lists.{values}
 use Rattle.masks.specs.declared.constraint.Constraint.{Constraint}
-use Rattle.masks.proofs.Laws.Logic.{byBool, clash}
+use Rattle.masks.proofs.Laws.Logic.{byBool}
 use Rattle.masks.proofs.Laws.Lists.{values-cong, getD-values}
 use Rattle.book.specs.Limits.{maxPredicates}
 use Rattle.book.specs.Book.{Mode}
@@ -23,7 +23,7 @@ use Rattle.book.proofs.Laws.Windows.{getD-window}
 use Rattle.ordering.specs.Adorn.{Table}
 use Rattle.ordering.specs.Held.{entryIn, tableIn, Low}
 use Rattle.writing.proofs.Laws.Chunks.{Chunks}
-use Rattle.tables.specs.Table.{entry, modeOf, firstNeed, firstNeeds}
+use Rattle.tables.specs.Table.{modeOf, firstNeed, firstNeeds}
 use Rattle.tables.specs.Image.{row, rows}
 
 -- ---- a store

@@ -2,20 +2,19 @@
 -- from a predicate with clauses, so the rounds end within the number of their patterns; and the table they end in is the greatest whose patterns
 -- are good under itself. Assumes nothing.
 use mathlib.Core.Path.{_≡_, refl, sym, ap, ap₂, _∙_, subst}
-use mathlib.Core.Bool.{Bool, true, false, cond, _&&_, false≢true}
+use mathlib.Core.Bool.{Bool, true, false, cond, false≢true}
 use mathlib.Core.List.{List, [], _∷_}
 use mathlib.Core.Option.{Option, none, some}
 use Prim.Native.Nat.{ℕ, zero, suc, _+_, _*_, _^_, _≤_, _<_}
-use native.Mathlib.Nat.{pow-le-pow-right, le-trans, mul-le-mul-right}
+use native.Mathlib.Nat.{pow-le-pow-right}
 use native.Mathlib.Omega.{arith}
-use lib.Dec.{eqb, ltb, leb, lit<}
+use lib.Dec.{eqb}
 use lib.ListN.{length, getD}
 use lib.Pow.{pow-pos}
 use lib.Seq.{ext-getD}
-use borrow.Author.Tests.{eqb-true, eqb-false, eq-eqb, lt-ltb, leb-true}
-use Rattle.masks.specs.Limits.{maxArity}
+use borrow.Author.Tests.{eqb-true, eqb-false, lt-ltb, leb-true}
 use Rattle.masks.specs.Mask.{within}
-use Rattle.masks.specs.Constraint.{admits, trivial, inRange, isWritten, written, minimise, sameMasks}
+use Rattle.masks.specs.Constraint.{admits, trivial, inRange, isWritten, sameMasks}
 use Rattle.masks.proofs.Laws.Logic.{byBool, clash, false-of, same, and-intro, and-left, and-right, or-left}
 use Rattle.masks.proofs.Laws.Lists.{length-values, getD-values}
 use Rattle.masks.proofs.Laws.Mask.{within-zero}

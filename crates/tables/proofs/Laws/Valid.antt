@@ -1,6 +1,6 @@
 -- What a well-formed book says of its predicates: their arities and masks are in range, none has both clauses and MO, and every clause is of a
 -- predicate of the book and calls such only. Assumes nothing.
-use mathlib.Core.Path.{_≡_, refl, sym, ap, _∙_}
+use mathlib.Core.Path.{_≡_, refl}
 use mathlib.Core.Bool.{Bool, true, false, cond, _||_}
 use mathlib.Core.List.{List, [], _∷_}
 use mathlib.Core.Option.{none, some, Option·none-ne-some, Option·some-injective}
@@ -11,9 +11,9 @@ use borrow.Author.Tests.{eqb-true, ltb-true}
 use Rattle.masks.specs.Limits.{maxArity}
 use Rattle.masks.specs.Lists.{any, all}
 use Rattle.masks.specs.Constraint.{inRange}
-use Rattle.masks.proofs.Laws.Logic.{byBool, clash, and-left, and-right, or-case, or-right}
+use Rattle.masks.proofs.Laws.Logic.{clash, and-left, and-right, or-case}
 use Rattle.masks.proofs.Laws.Lists.{all-mono, all-at}
-use Rattle.book.specs.Book.{Call, Mode, Clause, Book}
+use Rattle.book.specs.Book.{Mode, Clause, Book}
 use Rattle.book.specs.Format.{within, hasMode}
 use Rattle.book.specs.Encode.{callFits, modeFits, clauseFits, WellFormed}
 use Rattle.book.specs.declared.range.Range.the-variants.{Argument, HeadArgument}

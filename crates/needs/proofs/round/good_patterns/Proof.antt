@@ -1,21 +1,17 @@
+-- `needs::round::good_patterns` meets its contract. The loop goes over the clauses of the set; its invariant: a pattern of the arity is in the set
+-- while each clause tried is good under it. Assumes nothing.
 use mathlib.Core.Bool.{true, false}
-use Prim.Native.Nat.{suc}
+use mathlib.Core.Path.{_≡_}
+use Prim.Native.Nat.{suc, ℕ, _-_, _<_}
+use native.Mathlib.Omega.{arith}
 use lib.Bits.{bitAnd}
 use lib.Count.{trailingZeros}
+use borrow.Author.Needs.{needs}
 use Rattle.masks.specs.Set.{bitAt}
 use Rattle.masks.proofs.Laws.Members.{others-less, Over, over-start, over-end, over-lowest, over-member, over-here, over-next}
 use Rattle.needs.proofs.Laws.Trying.{Tried, tried-start, tried-skip, tried-next}
-use borrow.Author.Needs.{needs}
-use native.Mathlib.Omega.{arith}
-use Prim.Native.Nat.{ℕ, _+_, _-_, _*_, _≤_, _<_}
-use mathlib.Core.Path.{_≡_, refl, sym, ap, _∙_}
-use lib.ListN.{length, getD, take, drop}
-use mathlib.Core.Logic.{⊎-elim}
 use Rattle.needs.proofs.round.good_patterns.Statement.{statement}
 use Rattle.needs.proofs.round.good_patterns.Tie as tie
-use Rattle.needs.proofs.round.good_patterns.Reads as reads
-use Rattle.needs.proofs.round.good_patterns.Lts as lts
-use Rattle.lanes.proofs.good_lanes.Reads as good-lanes-reads
 
 abbrev Inv-loop : tie.InvT-loop
 Inv-loop arity rules own table set₀ rest₀ set rest = Over (Tried rules arity own table set) 64 own rest
@@ -23,15 +19,12 @@ Inv-loop arity rules own table set₀ rest₀ set rest = Over (Tried rules arity
 abbrev μ-loop : tie.MeasureT-loop
 μ-loop arity rules own table set₀ rest₀ set rest = rest
 
---src/round.rt:97:19
 mul-set : tie.Need-mul-set Inv-loop μ-loop
 mul-set c = search needs
 
---src/round.rt:97:19
 array-read-set : tie.Need-array-read-set Inv-loop μ-loop
 array-read-set c = search needs
 
---src/round.rt:99:5
 loop-holds : tie.Need-loop-holds Inv-loop μ-loop
 loop-holds c = over-start (Tried (c .args .rules .now) (c .args .arity) (c .args .own) (c .args .table .now) _) 64 (c .args .own) (search needs) (tried-start (c .args .rules .now) (c .args .arity) (c .args .own) (c .args .table .now) (c .pre .0))
 
@@ -58,30 +51,24 @@ module _ (c : tie.In-loop Inv-loop μ-loop) where
   next : (set : ℕ) → tried set (suc k) → Over (tried set) 64 (c .before .before .args .own) (bitAnd (c .before .loop .rest) (c .before .loop .rest - 1))
   next set = over-next (tried (c .before .loop .set)) 64 (c .before .before .args .own) (c .before .loop .rest) skip (c .before .loop .inv) (c .loop-test .taken) (tried set)
 
---src/round.rt:100:17
 cast-k : tie.Need-cast-k Inv-loop μ-loop
 cast-k c = let l = low c in omega arith
 
---src/round.rt:101:24
 sub-rest : tie.Need-sub-rest Inv-loop μ-loop
 sub-rest c = search needs
 
---src/round.rt:102:21
 good-lanes-requires : tie.Need-good-lanes-requires Inv-loop μ-loop
 good-lanes-requires c κs = let l = low c in (omega arith, c .before .before .pre .1 (k c) l (member c), c .before .before .pre .2)
 
---src/round.rt:99:5
 loop-less : tie.Need-loop-less Inv-loop μ-loop
 loop-less c = others-less (c .before .before .loop .rest) (c .before .loop-test .taken)
 
---src/round.rt:99:5
 loop-again : tie.Need-loop-again Inv-loop μ-loop
 loop-again c =
     let d = c .before in
     let s = d .before .before .args in
     next d _ (tried-next (s .rules .now) (s .arity) (s .own) (s .table .now) (d .before .loop .set) (k d) (c .good-lanes .result) (member d) (c .good-lanes .ensures) (here d))
 
---src/round.rt:88:1
 returns : tie.Need-returns Inv-loop μ-loop
 returns c =
     let s = c .before .before .args in

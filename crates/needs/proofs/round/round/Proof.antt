@@ -1,35 +1,25 @@
-use mathlib.Core.Path.{ap₂, subst}
+-- `needs::round::round` meets its contract. The loop goes over the predicates due; its invariant: those passed have what the round gives them, the
+-- others what they had, and those marked are the ones whose constraint is another. Assumes nothing.
+use mathlib.Core.Path.{ap₂, _≡_, sym, ap, _∙_}
 use mathlib.Core.Bool.{true, false}
 use mathlib.Core.List.{List}
-use Prim.Native.Nat.{suc, _^_}
+use Prim.Native.Nat.{suc, _^_, ℕ, _-_, _≤_, _<_}
 use native.Mathlib.Nat.{pow-le-pow-right}
+use native.Mathlib.Omega.{arith}
 use lib.Bits.{bitAnd}
 use lib.Count.{trailingZeros}
 use lib.ListN.{getD}
 use borrow.Author.Tests.{not-true, not-false}
+use borrow.Author.Needs.{needs}
 use Rattle.masks.specs.Constraint.{sameMasks}
 use Rattle.masks.specs.Held.{masksOf}
 use Rattle.masks.specs.Set.{bitAt}
-use Rattle.book.specs.Held.{StoredMode}
 use Rattle.masks.proofs.Laws.Held.{masksOf-packed}
 use Rattle.masks.proofs.Laws.Members.{others-less, Over, over-start, over-end, over-lowest, over-member, over-here, over-next}
 use Rattle.needs.proofs.Laws.Turns.{rounding-end}
 use Rattle.needs.proofs.Laws.Rounding.{given-arity, given-callable, gets, Rounding, rounding-start, rounding-skip, rounding-same, rounding-new}
-use borrow.Author.Needs.{needs}
-use native.Mathlib.Omega.{arith}
-use Prim.Native.Nat.{ℕ, _+_, _-_, _*_, _≤_, _<_}
-use mathlib.Core.Path.{_≡_, refl, sym, ap, _∙_}
-use lib.ListN.{length, getD, take, drop}
-use mathlib.Core.Logic.{⊎-elim}
 use Rattle.needs.proofs.round.round.Statement.{statement}
 use Rattle.needs.proofs.round.round.Tie as tie
-use Rattle.needs.proofs.round.round.Reads as reads
-use Rattle.needs.proofs.round.round.Lts as lts
-use Rattle.book.proofs.mode.mode_at.Reads as mode-at-reads
-use Rattle.book.proofs.mode.put_mode.Reads as put-mode-reads
-use Rattle.masks.proofs.constraint.same.Reads as same-reads
-use Rattle.masks.proofs.constraint.with_member.Reads as with-member-reads
-use Rattle.needs.proofs.round.next_need.Reads as next-need-reads
 
 abbrev Inv-loop : tie.InvT-loop
 Inv-loop arities rules own due old new₀ changed₀ rest₀ new changed rest = Over (Rounding arities rules own (old .needs) due (new .needs) changed) 64 due rest
@@ -37,7 +27,6 @@ Inv-loop arities rules own due old new₀ changed₀ rest₀ new changed rest = 
 abbrev μ-loop : tie.MeasureT-loop
 μ-loop arities rules own due old new₀ changed₀ rest₀ new changed rest = rest
 
--- src/round.rt:57:5
 loop-holds : tie.Need-loop-holds Inv-loop μ-loop
 loop-holds c = over-start (Rounding (c .args .arities .now) (c .args .rules .now) (c .args .own .now) (c .args .t4 .needs) (c .args .due) _ 0) 64 (c .args .due) (search needs) (rounding-start (c .args .arities .now) (c .args .rules .now) (c .args .own .now) (c .args .t4 .needs) (c .args .due) (c .pre .2))
 
@@ -84,58 +73,45 @@ module _ (c : tie.In-loop Inv-loop μ-loop) where
   arity-few : getD arities p 0 ≤ 6
   arity-few = let r = c .before .before .pre in given-arity (r .0) arities rules own (r .1) p (r .3 .defined· p member)
 
--- src/round.rt:58:17
 cast-p : tie.Need-cast-p Inv-loop μ-loop
 cast-p c = let l = low c in omega arith
 
--- src/round.rt:59:24
 sub-rest : tie.Need-sub-rest Inv-loop μ-loop
 sub-rest c = search needs
 
--- src/round.rt:60:17
 cast-q : tie.Need-cast-q Inv-loop μ-loop
 cast-q c = let l = low c in omega arith
 
--- src/round.rt:61:27
 element-copy-out-next-need : tie.Need-element-copy-out-next-need Inv-loop μ-loop
 element-copy-out-next-need c = let l = low c in omega arith
 
--- src/round.rt:61:46
 mul-next-need : tie.Need-mul-next-need Inv-loop μ-loop
 mul-next-need c = let l = low (c .before) in omega arith
 
--- src/round.rt:61:46
 element-copy-out-next-need-2 : tie.Need-element-copy-out-next-need-2 Inv-loop μ-loop
 element-copy-out-next-need-2 c = let l = low (c .before) in omega arith
 
--- src/round.rt:61:13
 next-need-requires : tie.Need-next-need-requires Inv-loop μ-loop
 next-need-requires c κs =
     let d = c .before .before .before .before in
     let r = d .before .before .pre in
     (arity-few d, given-callable (r .0) (arities d) (rules d) (own d) (r .1) (p d) (low d), r .2)
 
--- src/round.rt:62:13
 mode-at-requires : tie.Need-mode-at-requires Inv-loop μ-loop
 mode-at-requires c κs = let l = low (c .before .before .before .before .before .before .before) in omega arith
 
--- src/round.rt:63:13
 same-requires : tie.Need-same-requires Inv-loop μ-loop
 same-requires c κs = search needs
 
--- src/round.rt:64:13
 put-mode-requires : tie.Need-put-mode-requires Inv-loop μ-loop
 put-mode-requires c κs = let l = low (c .before .before .before .before .before .before .before .before .before .before .before) in omega arith
 
--- src/round.rt:65:13
 with-member-requires : tie.Need-with-member-requires Inv-loop μ-loop
 with-member-requires c κs = let l = low (c .before .before .before .before .before .before .before .before .before .before .before .before) in omega arith
 
--- src/round.rt:57:5
 loop-less : tie.Need-loop-less Inv-loop μ-loop
 loop-less c = others-less (c .before .before .before .before .before .before .before .before .before .before .before .before .before .before .loop .rest) (c .before .before .before .before .before .before .before .before .before .before .before .before .before .loop-test .taken)
 
--- src/round.rt:57:5
 loop-again : tie.Need-loop-again Inv-loop μ-loop
 loop-again c =
     let d = c .before .before .before .before .before .before .before .before .before .before .before .before .before in
@@ -146,11 +122,9 @@ loop-again c =
     (rounding-new (arities d) (rules d) (own d) (old d) (due d) (d .before .loop .new .needs) (d .before .loop .changed) (p d) (member d) (here d) h differ
     gives (c .before .put-mode .ensures) (c .with-member .ensures))
 
--- src/round.rt:57:5
 loop-less-2 : tie.Need-loop-less-2 Inv-loop μ-loop
 loop-less-2 c = others-less (c .before .before .before .before .before .before .before .before .before .before .before .loop .rest) (c .before .before .before .before .before .before .before .before .before .before .loop-test .taken)
 
--- src/round.rt:57:5
 loop-again-2 : tie.Need-loop-again-2 Inv-loop μ-loop
 loop-again-2 c =
     let d = c .before .before .before .before .before .before .before .before .before .before in
@@ -158,7 +132,6 @@ loop-again-2 c =
     let equal = sym (ap₂ sameMasks gives (c .before .before .mode-at .ensures)) ∙ sym (c .before .same .ensures) ∙ not-false _ (c .if1 .left) in
     next d _ _ (rounding-same (arities d) (rules d) (own d) (old d) (due d) (d .before .loop .new .needs) (d .before .loop .changed) (p d) (member d) (here d) equal)
 
--- src/round.rt:44:1
 returns : tie.Need-returns Inv-loop μ-loop
 returns c =
     let s = c .before .before .args in
