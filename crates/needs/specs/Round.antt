@@ -2,11 +2,10 @@
 use mathlib.Core.Path.{_≡_}
 use mathlib.Core.Bool.{Bool, true, false, not}
 use mathlib.Core.List.{List}
-use Prim.Native.Nat.{ℕ, _^_, _≤_, _<_}
+use Prim.Native.Nat.{ℕ, _<_}
 use lib.ListN.{length, getD}
-use Rattle.masks.specs.Limits.{maxArity, allPatterns}
 use Rattle.masks.specs.Set.{bitAt}
-use Rattle.masks.specs.Constraint.{written, sameMasks}
+use Rattle.masks.specs.Constraint.{sameMasks}
 use Rattle.book.specs.Limits.{maxPredicates, maxClauses}
 use Rattle.book.specs.Book.{Book}
 use Rattle.book.specs.Encode.{WellFormed}

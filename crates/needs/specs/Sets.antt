@@ -6,7 +6,7 @@ use Prim.Native.Nat.{ℕ, zero, suc, _<_}
 use lib.Dec.{eqb, ltb}
 use lib.ListN.{getD}
 use Rattle.masks.specs.Set.{bitAt, Holds}
-use Rattle.book.specs.Limits.{maxPredicates, maxClauses}
+use Rattle.book.specs.Limits.{maxPredicates}
 use Rattle.book.specs.Held.{clauseAt, clausesOf}
 use Rattle.ordering.specs.Held.{callsBelow}
 use Rattle.tables.specs.Calls.{calls, touched}
