@@ -89,13 +89,20 @@ fn show_bytes(bytes: &[u8]) {
 }
 
 // Says so where a byte from `at` on is not as it was.
-fn show_spoiled(at: usize, out: &[u8]) {
+fn show_spoiled(at: usize, out: &[u8; ROOM]) {
+    if spoiled(at, out) {
+        io::write_all(STDOUT_FILENO, b" spoiled");
+    }
+}
+
+// A byte from `at` on is not as it was.
+fn spoiled(at: usize, out: &[u8; ROOM]) -> bool {
     let mut i = at;
-    while i < out.len() {
+    while i < ROOM {
         if out[i] != OLD {
-            io::write_all(STDOUT_FILENO, b" spoiled");
-            return;
+            return true;
         }
         i += 1;
     }
+    false
 }
