@@ -82,7 +82,7 @@ fn show_bytes(bytes: &[u8]) {
     let mut i: usize = 0;
     while i < bytes.len() {
         let x = bytes[i];
-        let two = [lines::hex(x / 16), lines::hex(x % 16)];
+        let two = [hex(x / 16), hex(x % 16)];
         io::write_all(STDOUT_FILENO, &two);
         i += 1;
     }
@@ -105,4 +105,9 @@ fn spoiled(at: usize, out: &[u8; ROOM]) -> bool {
         i += 1;
     }
     false
+}
+
+// A hexadecimal digit of a value below 16.
+fn hex(x: u8) -> u8 {
+    if x < 10 { b'0' + x } else { x % 16 + 87 }
 }

@@ -6,8 +6,6 @@
 // valid book it writes again: `written` and the number of bytes, where they are the book's own and no byte after them changed; then `short` with
 // the number and value of the reply where the room is one byte less, and no byte of it changed. Else it prints `differs`. It reads at most
 // 262,144 bytes, and of a book at most 8,192.
-ghost use Prim.Native.Nat.{_≤_};
-ghost use lib.ListN.{length};
 ghost use Rattle.io.specs.Counts.{Counts};
 use book::Book;
 use libc::STDIN_FILENO;

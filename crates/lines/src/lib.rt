@@ -82,8 +82,3 @@ pub fn clip(n: usize, s: &[u8]) -> usize
 {
     if n < s.len() { n } else { s.len() }
 }
-
-// A hexadecimal digit of a value below 16.
-pub fn hex(x: u8) -> u8 {
-    if x < 10 { b'0' + x } else { x % 16 + 87 }
-}
