@@ -1,11 +1,11 @@
 // The analysis of a book, for each line of standard input:
 //
-//     NAME BYTES
+//     NAME BYTES [ROOM]
 //
-// Bytes are hexadecimal digits, two a byte; `-` is the empty string. For each line it prints NAME, the number, value and rounds of the reply, and
-// the table written, or `-`; where there is a table of at least one byte, then `short` with the number, value and rounds of the reply where the
-// room is one byte less. A reply that altered a byte it had to leave adds the word `spoiled`. It reads at most 262,144 bytes, and of a book at
-// most 8,192.
+// Bytes are hexadecimal digits, two a byte; `-` is the empty string. ROOM is decimal. For each line it prints NAME, the number, value and rounds of
+// the reply, and the table written, or `-`. Without ROOM there is more than any table takes; then, where the table has a byte at all, it goes on with
+// `short` and the same for a room of one byte less than the table. A reply that altered a byte it had to leave adds the word `spoiled`. It reads at
+// most 262,144 bytes, and of a book at most 8,192.
 use libc::STDIN_FILENO;
 use libc::STDOUT_FILENO;
 use masks::reply::Reply;
@@ -34,26 +34,60 @@ fn answer(line: &[u8]) {
     let mut raw = [0u8; 8192];
     let n = lines::unhex(lines::field(line, 1), &mut raw);
     let bytes = &raw[..n];
-    let mut out = [OLD; ROOM];
-    let r = needs::analyse(bytes, &mut out);
-    show(r);
-    let k = lines::clip(bytes_written(r), &out);
-    show_bytes(&out[..k]);
-    show_spoiled(k, &out);
-    if k != 0 {
-        show_short(bytes, k - 1);
+    let word = lines::field(line, 2);
+    if word.len() == 0 {
+        show_both(bytes);
+    } else {
+        show_in(room(word), bytes);
     }
     io::write_all(STDOUT_FILENO, b"\n");
 }
 
-// The same with room for k bytes.
-fn show_short(bytes: &[u8], k: usize) {
+// The analysis in a room that is large enough, and in one that is a byte short.
+fn show_both(bytes: &[u8]) {
+    let k = show_in(ROOM, bytes);
+    if k != 0 {
+        io::write_all(STDOUT_FILENO, b" short");
+        show_in(k - 1, bytes);
+    }
+}
+
+// The analysis in a room of n bytes; how many it wrote.
+fn show_in(n: usize, bytes: &[u8]) -> usize {
     let mut out = [OLD; ROOM];
-    let n = lines::clip(k, &out);
-    let r = needs::analyse(bytes, &mut out[..n]);
-    io::write_all(STDOUT_FILENO, b" short");
+    let m = lines::clip(n, &out);
+    let r = needs::analyse(bytes, &mut out[..m]);
+    show_all(r, &out)
+}
+
+// A reply, and what the room holds after it; how many bytes were written.
+fn show_all(r: Reply, out: &[u8; ROOM]) -> usize {
     show(r);
-    show_spoiled(0, &out);
+    let bytes: &[u8] = out;
+    let k = lines::clip(bytes_written(r), bytes);
+    show_bytes(&bytes[..k]);
+    show_spoiled(k, out);
+    k
+}
+
+// The decimal number of a word; more than the room counts as the room.
+fn room(word: &[u8]) -> usize {
+    let mut n: usize = 0;
+    let mut i: usize = 0;
+    while i < word.len() {
+        n = with_digit(n, lines::digit(word[i]));
+        i += 1;
+    }
+    n
+}
+
+// A number with one more digit.
+fn with_digit(n: usize, digit: u8) -> usize {
+    if n < 200 {
+        n * 10 + digit as usize
+    } else {
+        ROOM
+    }
 }
 
 // A reply's number, value and rounds.

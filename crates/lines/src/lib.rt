@@ -58,7 +58,7 @@ pub fn unhex(word: &[u8], to: &mut [u8]) -> usize
 }
 
 // The value of a hexadecimal digit; any other byte counts as 0.
-fn digit(x: u8) -> u8
+pub fn digit(x: u8) -> u8
     ensures { λ r. ⌜ r ≤ 15 ⌝ }
 {
     if x < b'0' {
