@@ -1,5 +1,6 @@
 -- Document 01's examples K1 to K10 that speak of constraints and rounds, as rows of one table, computed from the definitions. (K6 is in the crate
--- `masks`.) Where document 01 gives no numbers to predicates and variables, they are numbered as they are first named. Assumes nothing.
+-- `masks`.) Where document 01 gives no numbers to predicates and variables, they are numbered as they are first named. Behind them stand two books of
+-- this file's own, for what document 01 says and none of its examples shows, and the image of K1. Assumes nothing.
 use mathlib.Core.Path.{_≡_, refl}
 use mathlib.Core.List.{List, [], _∷_}
 use Prim.Native.Nat.{ℕ}
@@ -12,6 +13,7 @@ use Rattle.ordering.specs.Orders.{find, without, each, ordersOf, count, orders}
 use Rattle.ordering.specs.Turns as turns
 use Rattle.ordering.specs.Good.{at, goodClause}
 use Rattle.tables.specs.Table.{modeOf, firstNeeds, start, own, defined, good, next, step, table, settled, patternsOf, seek, rounds, final}
+use Rattle.tables.specs.Image.{image}
 
 compute : Unit {0}
 unfolding within admits drops least written minimise bench nothing isBound patternOf bindVar bindAll bindHead headBound ready after find without each ordersOf count orders turns.goodFrom turns.firstGood at goodClause modeOf firstNeeds start own defined good next step table settled patternsOf seek rounds final
@@ -105,3 +107,35 @@ pub examples : EachHolds rows
 unfolding compute rows
 examples =
     ((refl, refl), ((refl, refl), ((refl, refl), ((refl, refl), ((refl, refl), ((refl, refl), ((refl, refl), ((refl, refl), ((refl, refl), tt)))))))))
+
+-- ---- books that are none of document 01's
+
+pub others : List Row
+others =
+    -- "A predicate's pattern is good when all its clauses are good under it." r(X,Y) :- f(X) and r(X,Y) :- g(Y), each needing {1}: masks 3
+    record {
+      book = rules (2 ∷ 1 ∷ 1 ∷ []) (needs 1 (1 ∷ []) ∷ needs 2 (1 ∷ []) ∷ [])
+          (clause (call 0 (0 ∷ 1 ∷ [])) (call 1 (0 ∷ []) ∷ []) ∷ clause (call 0 (0 ∷ 1 ∷ [])) (call 2 (1 ∷ []) ∷ []) ∷ []);
+      rounds = 1;
+      needs = (3 ∷ []) ∷ (1 ∷ []) ∷ (1 ∷ []) ∷ [];
+    }
+    -- "One with MO and n = 0 has no alternative: it is ill, and no call of it is good." a(X) :- f(X) and b(X) :- g(X), f with MO and n = 0, g with no
+    -- MO: a and f ill, b and g trivial
+    ∷ record {
+      book = rules (1 ∷ 1 ∷ 1 ∷ 1 ∷ []) (needs 1 [] ∷ [])
+          (clause (call 0 (0 ∷ [])) (call 1 (0 ∷ []) ∷ []) ∷ clause (call 2 (0 ∷ [])) (call 3 (0 ∷ []) ∷ []) ∷ []);
+      rounds = 1;
+      needs = [] ∷ [] ∷ (0 ∷ []) ∷ (0 ∷ []) ∷ [];
+    }
+    ∷ []
+
+pub others-hold : EachHolds others
+unfolding compute others
+others-hold = ((refl, refl), ((refl, refl), tt))
+
+-- ---- an image
+
+-- "for each predicate in turn CN, predicate, n, n masks"
+pub k1-image : image bench ≡ 67 ∷ 78 ∷ 0 ∷ 1 ∷ 0 ∷ 67 ∷ 78 ∷ 1 ∷ 1 ∷ 1 ∷ 67 ∷ 78 ∷ 2 ∷ 1 ∷ 1 ∷ 67 ∷ 78 ∷ 3 ∷ 1 ∷ 1 ∷ []
+unfolding compute image
+k1-image = refl

@@ -95,7 +95,7 @@ next-need-requires : tie.Need-next-need-requires Inv-loop μ-loop
 next-need-requires c κs =
     let d = c .before .before .before .before in
     let r = d .before .before .pre in
-    (arity-few d, given-callable (r .0) (arities d) (rules d) (own d) (r .1) (p d) (low d), r .2)
+    (arity-few d, given-callable (r .0) (arities d) (rules d) (own d) (r .1) (p d) (low d), search (r .2, here d .low))
 
 mode-at-requires : tie.Need-mode-at-requires Inv-loop μ-loop
 mode-at-requires c κs = let l = low (c .before .before .before .before .before .before .before) in omega arith
