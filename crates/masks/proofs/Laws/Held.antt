@@ -3,10 +3,11 @@ use mathlib.Core.Path.{_≡_, refl, sym, ap, _∙_}
 use mathlib.Core.List.{List, [], _∷_, _++_}
 use Prim.Native.Nat.{ℕ, suc, _-_, _≤_, _<_}
 use native.Mathlib.Omega.{arith}
-use lib.ListN.{length, set, replicate, length-append, length-replicate}
+use lib.ListN.{length, set, replicate, length-append, length-replicate, length-take}
 use lib.Seq.{set-at, append-snoc, take-at}
 use Rattle.masks.specs.Limits.{maxMasks}
 use Rattle.masks.specs.Held.{masksOf, padded, packed}
+use Rattle.masks.specs.declared.constraint.Constraint.{Constraint}
 
 pub masksOf-packed : (l : List ℕ) → masksOf (packed l) ≡ l
 unfolding padded
@@ -23,3 +24,7 @@ padded-snoc l m h =
     ap (λ (k : ℕ). set (l ++ replicate k 0) (length l) m) e
     ∙ set-at l 0 (replicate (maxMasks - length (l ++ (m ∷ []))) 0) m (length l) refl
     ∙ sym (append-snoc l m (replicate (maxMasks - length (l ++ (m ∷ []))) 0))
+
+-- a constraint has at most as many masks as its array
+pub masksOf-few : (c : Constraint) → length (c .masks) ≡ maxMasks → length (masksOf c) ≤ maxMasks
+masksOf-few c e = let l = length-take (c .n) (c .masks) in omega arith

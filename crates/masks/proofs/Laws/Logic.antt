@@ -1,11 +1,18 @@
 -- Tests, of type Bool, as facts: `t ≡ true` and `t ≡ false`. Assumes nothing.
 use mathlib.Core.Path.{_≡_, refl, sym, _∙_}
 use mathlib.Core.Bool.{Bool, true, false, not, _&&_, _||_, false≢true}
+use Prim.Native.Nat.{ℕ, _≤_, _<_}
+use lib.Dec.{ltb}
+use borrow.Author.Tests.{ltb-true, ltb-false}
 
 -- by cases on a test, with its equation in hand
 pub byBool : {P : Type 0} (b : Bool) → (b ≡ true → P) → (b ≡ false → P) → P
 byBool true f g = f refl
 byBool false f g = g refl
+
+-- by cases on whether a number is below another
+pub byRange : {P : Type 0} (p n : ℕ) → (p < n → P) → (n ≤ p → P) → P
+byRange p n f g = byBool (ltb p n) (λ t. f (ltb-true p n t)) (λ t. g (ltb-false p n t))
 
 pub clash : {P : Type 0} {b : Bool} → b ≡ true → b ≡ false → P
 clash p q = absurd (false≢true (sym q ∙ p))

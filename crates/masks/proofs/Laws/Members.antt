@@ -11,7 +11,7 @@ use lib.Dec.{eqb, leb}
 use borrow.Author.Tests.{eq-eqb, ne-eqb, eqb-true, eqb-false, leb-true, leb-false}
 use Rattle.masks.specs.Set.{bitAt}
 use Rattle.masks.proofs.Laws.Logic.{byBool, clash, same, and-intro, and-left, and-right}
-use Rattle.masks.proofs.Laws.Set.{bitAt-zero}
+use Rattle.masks.proofs.Laws.Set.{bitAt-zero, eqb-suc}
 
 -- ---- the bits in common
 
@@ -45,11 +45,6 @@ even-lowest k w e = rw e
 
 half-of : (n h r : ℕ) → n ≡ h * 2 + r → r < 2 → n / 2 ≡ h
 half-of n h r e l = omega arith
-
-eqb-suc : (a b : ℕ) → eqb (suc a) (suc b) ≡ eqb a b
-eqb-suc a b =
-    same (eqb (suc a) (suc b)) (eqb a b)
-    (λ t. let e = eqb-true (suc a) (suc b) t in eq-eqb a b (omega arith)) (λ t. let e = eqb-true a b t in eq-eqb (suc a) (suc b) (omega arith))
 
 -- a word of k bits that is not 0: its lowest member, and that there is none below it
 pub record Lowest (k w m : ℕ) : Type 0 where

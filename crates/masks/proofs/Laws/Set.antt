@@ -44,6 +44,11 @@ bitAt-or x y (suc k) =
     let e : bitOr x y / 2 ≡ bitOr (x / 2) (y / 2) = omega arith in
     ap (λ (z : ℕ). bitAt z k) e ∙ bitAt-or (x / 2) (y / 2) k
 
+pub eqb-suc : (a b : ℕ) → eqb (suc a) (suc b) ≡ eqb a b
+eqb-suc a b =
+    same (eqb (suc a) (suc b)) (eqb a b)
+    (λ t. let e = eqb-true (suc a) (suc b) t in eq-eqb a b (omega arith)) (λ t. let e = eqb-true a b t in eq-eqb (suc a) (suc b) (omega arith))
+
 pub bitAt-power : (u k : ℕ) → bitAt (2 ^ u) k ≡ eqb k u
 unfolding bitAt
 bitAt-power zero zero = refl
@@ -52,11 +57,13 @@ bitAt-power (suc u) zero = let p = pow-suc 2 u in ne-eqb (2 ^ suc u % 2) 1 (λ e
 bitAt-power (suc u) (suc k) =
     let p = pow-suc 2 u in
     let e : 2 ^ suc u / 2 ≡ 2 ^ u = omega arith in
-    ap (λ (z : ℕ). bitAt z k) e ∙ bitAt-power u k ∙ same-suc (eqb k u) refl
-  where
-    same-suc : (b : Bool) → eqb k u ≡ b → eqb k u ≡ eqb (suc k) (suc u)
-    same-suc true e = e ∙ sym (eq-eqb (suc k) (suc u) (ap suc (eqb-true k u e)))
-    same-suc false e = e ∙ sym (ne-eqb (suc k) (suc u) (λ q. eqb-false k u e (omega arith)))
+    ap (λ (z : ℕ). bitAt z k) e ∙ bitAt-power u k ∙ sym (eqb-suc k u)
+
+pub eqb-comm : (a b : ℕ) → eqb a b ≡ eqb b a
+eqb-comm a b = same (eqb a b) (eqb b a) (λ t. eq-eqb b a (sym (eqb-true a b t))) (λ t. eq-eqb a b (sym (eqb-true b a t)))
+
+pub bitAt-more : (word m k : ℕ) → bitAt (bitOr word (2 ^ m)) k ≡ (bitAt word k || eqb m k)
+bitAt-more word m k = bitAt-or word (2 ^ m) k ∙ ap (λ (b : Bool). bitAt word k || b) (bitAt-power m k ∙ eqb-comm k m)
 
 -- ---- one mask more
 

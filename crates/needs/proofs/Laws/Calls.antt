@@ -11,7 +11,7 @@ use lib.Count.{trailingZeros}
 use lib.Dec.{eqb, ltb}
 use lib.ListN.{length, getD, take, set, replicate, length-set, length-replicate, getD-replicate}
 use lib.Seq.{take-all, getD-set-same, getD-set-other}
-use borrow.Author.Tests.{eqb-true, eqb-false, eq-eqb, ne-eqb, ltb-true, lt-ltb, le-ltb}
+use borrow.Author.Tests.{eqb-true, eqb-false, ne-eqb, ltb-true, lt-ltb, le-ltb}
 use Rattle.masks.specs.Lists.{any}
 use Rattle.masks.specs.Set.{bitAt, Holds}
 use Rattle.book.specs.Limits.{maxPredicates, maxClauses}
@@ -26,18 +26,12 @@ use Rattle.tables.specs.Table.{own, defined, good}
 use Rattle.needs.specs.Sets.{eachIn, someIn, Owns, Calling, Known, Added}
 use Rattle.masks.proofs.Laws.Logic.{byBool, same, and-left, and-right}
 use Rattle.masks.proofs.Laws.Lists.{any-suc}
-use Rattle.masks.proofs.Laws.Set.{bitAt-zero, bitAt-or, bitAt-power}
+use Rattle.masks.proofs.Laws.Set.{bitAt-zero, bitAt-or, eqb-comm, bitAt-more}
 use Rattle.masks.proofs.Laws.Members.{Over, over-start, over-end, over-lowest, over-member, over-here, over-next}
 use Rattle.ordering.proofs.Laws.Held.{callsBelow-at}
 use Rattle.tables.proofs.Laws.Own.{defined-snoc, touched-snoc, good-snoc}
 
 -- ---- one member more, in a word and in a word of an array
-
-eqb-comm : (a b : ℕ) → eqb a b ≡ eqb b a
-eqb-comm a b = same (eqb a b) (eqb b a) (λ t. eq-eqb b a (sym (eqb-true a b t))) (λ t. eq-eqb a b (sym (eqb-true b a t)))
-
-bitAt-more : (word m k : ℕ) → bitAt (bitOr word (2 ^ m)) k ≡ (bitAt word k || eqb m k)
-bitAt-more word m k = bitAt-or word (2 ^ m) k ∙ ap (λ (b : Bool). bitAt word k || b) (bitAt-power m k ∙ eqb-comm k m)
 
 stored-more : (words : List ℕ) (p m : ℕ) → p < length words
     → (q k : ℕ) → bitAt (getD (set words p (bitOr (getD words p 0) (2 ^ m))) q 0) k ≡ (bitAt (getD words q 0) k || (eqb q p && eqb m k))

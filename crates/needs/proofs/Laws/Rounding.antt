@@ -8,16 +8,15 @@ use native.Mathlib.Omega.{arith}
 use lib.Bits.{bitOr}
 use lib.Dec.{eqb, ltb}
 use lib.ListN.{length, getD}
-use borrow.Author.Tests.{eqb-true, eqb-false, ltb-true, lt-ltb, leb-true}
+use borrow.Author.Tests.{eqb-true, eqb-false, ltb-true, leb-true}
 use Rattle.masks.specs.Limits.{maxArity, allPatterns}
 use Rattle.masks.specs.Set.{bitAt}
 use Rattle.masks.specs.Constraint.{written, sameMasks}
 use Rattle.masks.proofs.Laws.Logic.{byBool, clash, and-left}
-use Rattle.masks.proofs.Laws.Lists.{all-mono}
 use Rattle.masks.proofs.Laws.Set.{bitAt-zero, bitAt-or, bitAt-power}
 use Rattle.masks.proofs.Laws.Constraint.{inRange-mono, written-inRange, written-isWritten, sameMasks-true, sameMasks-refl}
 use Rattle.book.specs.Limits.{maxPredicates, maxClauses}
-use Rattle.book.specs.Book.{Call, Clause, Book}
+use Rattle.book.specs.Book.{Clause, Book}
 use Rattle.book.specs.Held.{clauseAt, StoredMode}
 use Rattle.book.proofs.Laws.Held.{clausesOf-at}
 use Rattle.ordering.specs.Held.{entryIn, Low, callsBelow}
@@ -25,13 +24,9 @@ use Rattle.tables.specs.Table.{defined}
 use Rattle.tables.proofs.Laws.Valid.{arity-low, defined-known, clause-calls}
 use Rattle.tables.proofs.Laws.Held.{stored-entry, stored-other, stored-low}
 use Rattle.needs.specs.Round.{Callable, allGood, Given}
+use Rattle.ordering.proofs.Laws.Held.{callsBelow-mono}
 
 -- ---- what a book in the arrays gives
-
-pub calls-more : (n m : ℕ) → n ≤ m → (body : List Call) → callsBelow n body ≡ true → callsBelow m body ≡ true
-unfolding callsBelow
-calls-more n m h =
-    all-mono (λ (s : Call). ltb (s .pred) n) (λ s. ltb (s .pred) m) (λ s t. let l = ltb-true (s .pred) n t in lt-ltb (s .pred) m (omega arith))
 
 module _ (B : Book) (arities rules own : List ℕ) (g : Given B arities rules own) where
   pub few-predicates : length (B .arities) ≤ maxPredicates
@@ -52,7 +47,7 @@ module _ (B : Book) (arities rules own : List ℕ) (g : Given B arities rules ow
       let m = ltb-true k n (and-left (ltb k n) (eqb (clauseAt rules k .head .pred) p) (sym (g .owns p h k) ∙ e)) in
       let c = clauseAt rules k in
       let q : getD (B .clauses) k c ≡ clauseAt rules k = ap (λ (cs : List Clause). getD cs k c) (sym (g .clauses·)) ∙ clausesOf-at rules c n k m in
-      calls-more (length (B .arities)) maxPredicates few-predicates (clauseAt rules k .body)
+      callsBelow-mono (length (B .arities)) maxPredicates few-predicates (clauseAt rules k .body)
       (subst (λ (d : Clause). callsBelow (length (B .arities)) (d .body) ≡ true) q (clause-calls B (g .well) c k m))
 
 -- ---- the loop over the predicates due: those below n are done

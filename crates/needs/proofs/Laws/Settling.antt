@@ -26,7 +26,7 @@ use Rattle.tables.proofs.Laws.Held.{modeOf-modesOf}
 use Rattle.needs.specs.Sets.{someIn, Owns, Calling, Known}
 use Rattle.needs.specs.Round.{Given}
 use Rattle.needs.proofs.Laws.Calls.{calling-touched}
-use Rattle.needs.proofs.Laws.Rounding.{calls-more}
+use Rattle.ordering.proofs.Laws.Held.{callsBelow-mono}
 
 module _ (preds : ℕ) (arities modes : List ℕ) (clauses : ℕ) (rules : List ℕ) (as-many : length (take preds arities) ≡ preds) (few : clauses ≤ maxClauses)
     (w : WellFormed (bookIn preds arities modes clauses rules))
@@ -63,7 +63,7 @@ module _ (preds : ℕ) (arities modes : List ℕ) (clauses : ℕ) (rules : List 
               let l = subst (λ (c : Clause). c .head .pred < length (B .arities)) (clause-is k h) (clause-own B w (clauseAt rules k) k (omega arith)) in
               omega arith;
           bodies = λ k h.
-              calls-more (length (B .arities)) maxPredicates (omega arith) (clauseAt rules k .body)
+              callsBelow-mono (length (B .arities)) maxPredicates (omega arith) (clauseAt rules k .body)
               (subst (λ (c : Clause). callsBelow (length (B .arities)) (c .body) ≡ true) (clause-is k h) (clause-calls B w (clauseAt rules k) k (omega arith)));
         }
 

@@ -1,19 +1,16 @@
--- The clauses of a predicate, tried one after the other: a pattern stays in the set while each clause tried is good under it. The written form of
--- a set of patterns of an arity looks at no others. Assumes nothing.
+-- The clauses of a predicate, tried one after the other: a pattern of its arity stays in the set while each clause tried is good under it. Assumes
+-- nothing.
 use mathlib.Core.Path.{_≡_, refl, sym, ap, ap₂, _∙_}
-use mathlib.Core.Bool.{Bool, true, false, not, _&&_, Bool·beq, and-assoc, and-true}
-use mathlib.Core.List.{List, [], _∷_, append-nil}
-use Prim.Native.Nat.{ℕ, zero, suc, _+_, _-_, _^_, _≤_, _<_}
+use mathlib.Core.Bool.{Bool, true, false, _&&_, Bool·beq, and-assoc, and-true}
+use mathlib.Core.List.{List, [], _∷_}
+use Prim.Native.Nat.{ℕ, suc, _^_, _≤_}
 use native.Mathlib.Omega.{arith}
 use lib.Bits.{bitAnd}
 use lib.Dec.{ltb}
 use lib.ListN.{getD}
-use borrow.Author.Tests.{lt-ltb, le-ltb}
 use Rattle.masks.specs.Limits.{maxArity, allPatterns}
 use Rattle.masks.specs.Set.{bitAt}
-use Rattle.masks.specs.Constraint.{admits, written}
 use Rattle.masks.proofs.Laws.Lists.{allBelow, allBelow-at}
-use Rattle.masks.proofs.Laws.Constraint.{written-suc, written-cong}
 use Rattle.masks.proofs.Laws.Members.{bitAt-and}
 use Rattle.book.specs.Limits.{maxPredicates}
 use Rattle.book.specs.Held.{clauseAt}
@@ -57,20 +54,3 @@ module _ (rules : List ℕ) (arity own : ℕ) (table : List ℕ) where
       bitAt-and set good a
       ∙ ap₂ (λ (x y : Bool). x && y) (t a l) (g a l)
       ∙ rw e (and-assoc (ltb a (2 ^ arity)) (eachIn own (goodAt a) k) (goodAt a k))
-
--- ---- the written form
-
--- past the patterns of a set there is nothing to write
-written-past : (g : ℕ → Bool) (n d : ℕ) → ((a : ℕ) → n ≤ a → a < n + d → g a ≡ false) → written g (n + d) ≡ written g n
-written-past g n zero h = let e : n + 0 ≡ n = omega arith in ap (written g) e
-written-past g n (suc d) h =
-    let e : n + suc d ≡ suc (n + d) = omega arith in
-    let z : (g (n + d) && not (admits (written g (n + d)) (n + d))) ≡ false = rw (h (n + d) (omega arith) (omega arith)) in
-    ap (written g) e ∙ written-suc g (n + d) ∙ rw z (append-nil (written g (n + d))) ∙ written-past g n d (λ a l k. h a l (omega arith))
-
-pub written-cut : (f g : ℕ → Bool) (n m : ℕ) → n ≤ m → ((a : ℕ) → a < m → g a ≡ (ltb a n && f a)) → written g m ≡ written f n
-written-cut f g n m h e =
-    let q : m ≡ n + (m - n) = omega arith in
-    ap (written g) q
-    ∙ written-past g n (m - n) (λ a l k. e a (omega arith) ∙ rw (le-ltb a n l))
-    ∙ written-cong g f n (λ a l. e a (omega arith) ∙ rw (lt-ltb a n l))

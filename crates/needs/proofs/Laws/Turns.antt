@@ -1,19 +1,17 @@
 -- From round to round. What a round made is a step, since the predicates that were not due would have got what they have; and a predicate none of
 -- whose clauses calls one that changed would get what it has, so those that call one are all that is due next. A round that marks no predicate has
 -- changed nothing, and the table is final. Assumes nothing.
-use mathlib.Core.Path.{_≡_, refl, sym, ap, _∙_, subst}
-use mathlib.Core.Bool.{Bool, true, false, not, cond, _||_, false≢true}
-use mathlib.Core.List.{List, [], _∷_}
+use mathlib.Core.Path.{_≡_, sym, ap, _∙_, subst}
+use mathlib.Core.Bool.{true, false, not, false≢true}
+use mathlib.Core.List.{List, []}
 use Prim.Native.Nat.{ℕ, suc, _^_, _≤_, _<_}
 use native.Mathlib.Omega.{arith}
 use lib.Count.{trailingZeros}
-use lib.Dec.{eqb}
 use lib.ListN.{length, getD, List·getD-eq-default}
 use borrow.Author.Tests.{leb-true, not-false}
-use Rattle.masks.specs.Lists.{any}
 use Rattle.masks.specs.Set.{bitAt, Holds}
 use Rattle.masks.specs.Constraint.{written, sameMasks}
-use Rattle.masks.proofs.Laws.Logic.{byBool, clash}
+use Rattle.masks.proofs.Laws.Logic.{byBool, clash, byRange}
 use Rattle.masks.proofs.Laws.Lists.{values-cong}
 use Rattle.masks.proofs.Laws.Set.{bitAt-zero}
 use Rattle.masks.proofs.Laws.Members.{lowest}
@@ -24,14 +22,15 @@ use Rattle.book.specs.Encode.{WellFormed}
 use Rattle.ordering.specs.Adorn.{Table}
 use Rattle.ordering.specs.Held.{entryIn, tableIn, Low}
 use Rattle.ordering.proofs.Laws.Held.{tableIn-at, tableIn-length}
-use Rattle.tables.specs.Table.{entry, own, defined, good, next, step, start, table, rounds, final}
-use Rattle.tables.specs.Calls.{touched, calls}
+use Rattle.tables.specs.Table.{entry, defined, good, next, step, start, table, rounds, final}
+use Rattle.tables.specs.Calls.{touched}
 use Rattle.tables.proofs.Laws.Valid.{bodies-known, defined-known}
-use Rattle.tables.proofs.Laws.Round.{byRange, good-cut, next-same, step-at, step-defined, step-outside}
+use Rattle.tables.proofs.Laws.Round.{good-cut, next-same, step-at, step-defined, step-outside}
 use Rattle.tables.proofs.Laws.Rounds.{Going, going-start, going-next, going-less, going-rounds, going-final}
 use Rattle.needs.specs.Round.{allGood, Given, Due, Stepped}
 use Rattle.needs.proofs.Laws.Calls.{own-good}
 use Rattle.needs.proofs.Laws.Rounding.{few-predicates, few-clauses, gets, Rounding}
+use Rattle.tables.proofs.Laws.Own.{touched-defined}
 
 -- ---- what a round made is a step
 
@@ -71,18 +70,6 @@ module _ (B : Book) (arities rules own· old : List ℕ) (due : ℕ) (g : Given 
           (λ e. r .done p l e ∙ gets-next p h (d .defined· p e))
           (λ e. r .kept p (λ t. clash t e) ∙ sym (tableIn-at old size p h) ∙ sym (d .others p h e))
           ∙ step-at (B .arities) (B .clauses) (tableIn old size) p h
-
--- ---- what is due next
-
-touched-defined : (x : ℕ → Bool) (cs : List Clause) (p : ℕ) → touched x cs p ≡ true → defined cs p ≡ true
-unfolding touched own defined
-touched-defined x [] p t = t
-touched-defined x (c ∷ cs) p t = go (eqb (c .head .pred) p) (touched-defined x cs p) t
-  where
-    go : (b : Bool) → (any (calls x) (own cs p) ≡ true → any (λ c. eqb (c .head .pred) p) cs ≡ true)
-        → any (calls x) (cond b (c ∷ own cs p) (own cs p)) ≡ true → (b || any (λ c. eqb (c .head .pred) p) cs) ≡ true
-    go true r e = refl
-    go false r e = r e
 
 -- ---- the loop: table k, with what is due
 

@@ -155,7 +155,7 @@ pub bit-small : (c : Bool) → bit c < 2
 bit-small true = omega arith
 bit-small false = omega arith
 
-bit-mono : (c d : Bool) → (c ≡ true → d ≡ true) → bit c ≤ bit d
+pub bit-mono : (c d : Bool) → (c ≡ true → d ≡ true) → bit c ≤ bit d
 bit-mono true true h = omega arith
 bit-mono true false h = clash (h refl) refl
 bit-mono false d h = omega arith

@@ -7,13 +7,11 @@ use Prim.Native.Nat.{ℕ, zero, suc, _+_, _*_, _≤_, _<_}
 use native.Mathlib.Numerals.{add-one}
 use native.Mathlib.Omega.{arith}
 use lib.Dec.{eqb}
-use lib.ListN.{length, getD, take, drop, replicate, getD-replicate, length-take}
+use lib.ListN.{length, getD, take, drop, replicate, getD-replicate}
 use borrow.Author.Tests.{eqb-true, eqb-false, eq-eqb, ne-eqb}
-use Rattle.masks.specs.Limits.{maxMasks, allPatterns}
+use Rattle.masks.specs.Limits.{allPatterns}
 use Rattle.masks.specs.Constraint.{trivial, inRange, minimise}
-use Rattle.masks.specs.Held.{masksOf}
 use Rattle.masks.specs.Lists.{values}
-use Rattle.masks.specs.declared.constraint.Constraint.{Constraint}
 use Rattle.masks.proofs.Laws.Logic.{byBool}
 use Rattle.masks.proofs.Laws.Lists.{values-cong, getD-values}
 use Rattle.book.specs.Limits.{maxPredicates}
@@ -155,7 +153,3 @@ rows-chunks table n =
       next = λ i h. rw add-one (ap (λ (c : List ℕ). rows (values (entryIn table) n) i ++ row i c) (getD-values (entryIn table) [] n i h));
       whole = refl;
     }
-
--- a constraint has at most twenty masks
-pub masks-few : (c : Constraint) → length (c .masks) ≡ maxMasks → length (masksOf c) ≤ maxMasks
-masks-few c e = let l = length-take (c .n) (c .masks) in omega arith

@@ -49,3 +49,14 @@ module _ (cs : List Clause) (c : Clause) (p : ℕ) where
       go : (b : Bool) → all (λ (d : Clause). goodClause T d a) (cond b (c ∷ []) []) ≡ cond b (goodClause T c a) true
       go true = and-true (goodClause T c a)
       go false = refl
+
+-- a predicate with a clause that calls has a clause
+pub touched-defined : (x : ℕ → Bool) (cs : List Clause) (p : ℕ) → touched x cs p ≡ true → defined cs p ≡ true
+unfolding touched own defined
+touched-defined x [] p t = t
+touched-defined x (c ∷ cs) p t = go (eqb (c .head .pred) p) (touched-defined x cs p) t
+  where
+    go : (b : Bool) → (any (calls x) (own cs p) ≡ true → any (λ c. eqb (c .head .pred) p) cs ≡ true)
+        → any (calls x) (cond b (c ∷ own cs p) (own cs p)) ≡ true → (b || any (λ c. eqb (c .head .pred) p) cs) ≡ true
+    go true r e = refl
+    go false r e = r e

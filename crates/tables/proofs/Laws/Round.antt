@@ -7,11 +7,11 @@ use Prim.Native.Nat.{ℕ, _^_, _≤_, _<_}
 use native.Mathlib.Omega.{arith}
 use lib.Dec.{eqb, ltb}
 use lib.ListN.{length, getD, List·getD-eq-default}
-use borrow.Author.Tests.{ltb-true, ltb-false, not-false}
+use borrow.Author.Tests.{ltb-true, not-false}
 use Rattle.masks.specs.Lists.{any, all}
 use Rattle.masks.specs.Mask.{within}
 use Rattle.masks.specs.Constraint.{admits, written}
-use Rattle.masks.proofs.Laws.Logic.{byBool, and-left, and-right}
+use Rattle.masks.proofs.Laws.Logic.{and-left, and-right}
 use Rattle.masks.proofs.Laws.Lists.{all-mono, all-same, length-values, getD-values}
 use Rattle.masks.proofs.Laws.Mask.{within-refl}
 use Rattle.masks.proofs.Laws.Constraint.{Up, written-cong}
@@ -26,9 +26,6 @@ use Rattle.tables.specs.Calls.{calls, touched}
 use Rattle.tables.specs.Table.{entry, own, defined, good, next, step}
 
 -- ---- tables
-
-pub byRange : {P : Type 0} (p n : ℕ) → (p < n → P) → (n ≤ p → P) → P
-byRange p n f g = byBool (ltb p n) (λ t. f (ltb-true p n t)) (λ t. g (ltb-false p n t))
 
 -- nothing is admitted past the end of a table
 pub past-none : {P : Type 0} (T : Table) (p a : ℕ) → length T ≤ p → admits (entry T p) a ≡ true → P

@@ -15,7 +15,7 @@ use lib.Seq.{ext-getD}
 use borrow.Author.Tests.{eqb-true, eqb-false, lt-ltb, leb-true}
 use Rattle.masks.specs.Mask.{within}
 use Rattle.masks.specs.Constraint.{admits, trivial, inRange, isWritten, sameMasks}
-use Rattle.masks.proofs.Laws.Logic.{byBool, clash, false-of, same, and-intro, and-left, and-right, or-left}
+use Rattle.masks.proofs.Laws.Logic.{byBool, clash, false-of, same, and-intro, and-left, and-right, or-left, byRange}
 use Rattle.masks.proofs.Laws.Lists.{length-values, getD-values}
 use Rattle.masks.proofs.Laws.Mask.{within-zero}
 use Rattle.masks.proofs.Laws.Constraint.{sameMasks-true, sameMasks-refl, canonical, written-isWritten, written-sound, written-mono, written-admits, minimise-isWritten-at}
@@ -27,7 +27,7 @@ use Rattle.ordering.proofs.Laws.Adorn.{More, more-refl}
 use Rattle.tables.specs.Table.{entry, modeOf, firstNeed, firstNeeds, start, defined, good, step, table, sameTable, settled, sumBelow, patternsOf, seek, rounds, final}
 use Rattle.tables.proofs.Laws.Sums.{sum-le, sum-stuck, sum-most, howMany, howMany-le, howMany-most, howMany-stuck}
 use Rattle.tables.proofs.Laws.Valid.{arity-low, masks-low, defined-apart}
-use Rattle.tables.proofs.Laws.Round.{byRange, past-none, more-trans, good-up, good-more, step-length, step-defined, step-outside}
+use Rattle.tables.proofs.Laws.Round.{past-none, more-trans, good-up, good-more, step-length, step-defined, step-outside}
 
 -- ---- equal tables, by the test
 

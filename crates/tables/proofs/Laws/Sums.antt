@@ -1,6 +1,6 @@
 -- Sums over the numbers below n: where no term is larger, the sum is not, and where the sum is no smaller the terms are the same. Assumes nothing.
 use mathlib.Core.Path.{_≡_, refl, sym, ap, _∙_}
-use mathlib.Core.Bool.{Bool, true, false, cond}
+use mathlib.Core.Bool.{Bool, true, false}
 use Prim.Native.Nat.{ℕ, zero, suc, _*_, _≤_, _<_}
 use native.Mathlib.Nat.{suc-mul}
 use native.Mathlib.Omega.{arith}
@@ -8,6 +8,8 @@ use lib.Dec.{eqb}
 use borrow.Author.Tests.{eqb-true, eqb-false}
 use Rattle.masks.proofs.Laws.Logic.{byBool}
 use Rattle.tables.specs.Table.{sumBelow}
+use Rattle.ordering.specs.Adorn.{bit}
+use Rattle.ordering.proofs.Laws.Adorn.{bit-mono}
 
 pub sum-le : (f g : ℕ → ℕ) (n : ℕ) → ((i : ℕ) → i < n → f i ≤ g i) → sumBelow f n ≤ sumBelow g n
 sum-le f g zero h = omega arith
@@ -35,15 +37,8 @@ sum-most f m (suc n) h = omega (arith, h n, sum-most f m n h, suc-mul n m)
 
 -- ---- how many numbers below n pass a test
 
-abbrev pub bit : Bool → ℕ
-bit b = cond b 1 0
-
 pub howMany : (ℕ → Bool) → ℕ → ℕ
 howMany q n = sumBelow (λ a. bit (q a)) n
-
-bit-le : (a b : Bool) → (a ≡ true → b ≡ true) → bit a ≤ bit b
-bit-le true b h = rw (h refl) (omega arith)
-bit-le false b h = omega arith
 
 bit-inj : (a b : Bool) → bit a ≡ bit b → a ≡ b
 bit-inj true true e = refl
@@ -53,14 +48,14 @@ bit-inj false false e = refl
 
 pub howMany-le : (q r : ℕ → Bool) (n : ℕ) → ((a : ℕ) → q a ≡ true → r a ≡ true) → howMany q n ≤ howMany r n
 unfolding howMany
-howMany-le q r n h = sum-le (λ a. bit (q a)) (λ a. bit (r a)) n (λ a l. bit-le (q a) (r a) (h a))
+howMany-le q r n h = sum-le (λ a. bit (q a)) (λ a. bit (r a)) n (λ a l. bit-mono (q a) (r a) (h a))
 
 pub howMany-most : (q : ℕ → Bool) (n : ℕ) → howMany q n ≤ n
 unfolding howMany
 howMany-most q zero = omega arith
-howMany-most q (suc n) = omega (arith, howMany-most q n, bit-le (q n) true (λ e. refl))
+howMany-most q (suc n) = omega (arith, howMany-most q n, bit-mono (q n) true (λ e. refl))
 
 pub howMany-stuck : (q r : ℕ → Bool) (n : ℕ) → ((a : ℕ) → q a ≡ true → r a ≡ true) → howMany r n ≤ howMany q n → (a : ℕ) → a < n → q a ≡ r a
 unfolding howMany
 howMany-stuck q r n h e a l =
-    bit-inj (q a) (r a) (sum-stuck (λ a. bit (q a)) (λ a. bit (r a)) n (λ x m. bit-le (q x) (r x) (h x)) e a l)
+    bit-inj (q a) (r a) (sum-stuck (λ a. bit (q a)) (λ a. bit (r a)) n (λ x m. bit-mono (q x) (r x) (h x)) e a l)

@@ -6,10 +6,11 @@ use lib.ListN.{length}
 use borrow.Author.Needs.{needs}
 use Rattle.tables.specs.Image.{row, rows}
 use Rattle.ordering.specs.Held.{entryIn, tableIn}
-use Rattle.tables.proofs.Laws.Held.{rows-chunks, masks-few}
+use Rattle.tables.proofs.Laws.Held.{rows-chunks}
 use Rattle.writing.proofs.Laws.Chunks.{Measuring, measuring-start, measuring-next, measuring-end}
 use Rattle.tables.proofs.image_length.Statement.{statement}
 use Rattle.tables.proofs.image_length.Tie as tie
+use Rattle.masks.proofs.Laws.Held.{masksOf-few}
 
 abbrev Inv-loop : tie.InvT-loop
 Inv-loop preds table total₀ p₀ total p = Measuring preds (rows (tableIn table preds)) (λ i. row i (entryIn table i)) (rows (tableIn table preds) preds) 24 p total
@@ -27,10 +28,10 @@ count-requires : tie.Need-count-requires Inv-loop μ-loop
 count-requires c κs = search needs
 
 add-total : tie.Need-add-total Inv-loop μ-loop
-add-total c = let m = c .before .before .before .loop .inv .small in let q = c .before .before .before .loop .inv .most in let n = c .count .ensures in let few = masks-few (c .before .mode-at .result) (search needs) in omega arith
+add-total c = let m = c .before .before .before .loop .inv .small in let q = c .before .before .before .loop .inv .most in let n = c .count .ensures in let few = masksOf-few (c .before .mode-at .result) (search needs) in omega arith
 
 add-total-2 : tie.Need-add-total-2 Inv-loop μ-loop
-add-total-2 c = let m = c .before .before .before .loop .inv .small in let q = c .before .before .before .loop .inv .most in let n = c .count .ensures in let few = masks-few (c .before .mode-at .result) (search needs) in omega arith
+add-total-2 c = let m = c .before .before .before .loop .inv .small in let q = c .before .before .before .loop .inv .most in let n = c .count .ensures in let few = masksOf-few (c .before .mode-at .result) (search needs) in omega arith
 
 add-p : tie.Need-add-p Inv-loop μ-loop
 add-p c = omega arith
@@ -39,7 +40,7 @@ loop-less : tie.Need-loop-less Inv-loop μ-loop
 loop-less c = omega arith
 
 loop-again : tie.Need-loop-again Inv-loop μ-loop
-loop-again c = let n = c .count .ensures in let few = masks-few (c .before .mode-at .result) (search needs) in let e = ap length (c .before .mode-at .ensures) in measuring-next (c .before .before .before .loop .inv) (omega arith) (omega arith) (omega arith)
+loop-again c = let n = c .count .ensures in let few = masksOf-few (c .before .mode-at .result) (search needs) in let e = ap length (c .before .mode-at .ensures) in measuring-next (c .before .before .before .loop .inv) (omega arith) (omega arith) (omega arith)
 
 returns : tie.Need-returns Inv-loop μ-loop
 returns c = measuring-end (c .before .loop .inv) (omega arith)

@@ -14,6 +14,7 @@ use Rattle.masks.proofs.Laws.Lists.{take-front}
 use Rattle.masks.proofs.Laws.Constraint.{sameMasks-other, sameMasks-equal}
 use Rattle.masks.proofs.constraint.same.Statement.{statement}
 use Rattle.masks.proofs.constraint.same.Tie as tie
+use Rattle.masks.proofs.Laws.Held.{masksOf-few}
 
 abbrev Inv-loop : tie.InvT-loop
 Inv-loop c d n i₀ i = (i ≤ n) × (take i (c .masks) ≡ take i (d .masks))
@@ -28,10 +29,6 @@ each c d i h e =
     let k = length-take (d .n) (d .masks) in
     let m = ap length e in
     sym (getD-take (c .n) (c .masks) i 0 (omega arith)) ∙ ap (λ (s : List ℕ). getD s i 0) e ∙ getD-take (d .n) (d .masks) i 0 (omega arith)
-
--- the number of masks is at most that of the array
-room : (c : Constraint) → length (c .masks) ≡ 20 → length (masksOf c) ≤ 20
-room c e = let l = length-take (c .n) (c .masks) in omega arith
 
 count-requires : tie.Need-count-requires Inv-loop μ-loop
 count-requires c κs = search needs
@@ -50,13 +47,13 @@ loop-holds c = (omega arith, refl)
 
 element-copy-out-if2 : tie.Need-element-copy-out-if2 Inv-loop μ-loop
 element-copy-out-if2 c =
-    let r = room (c .before .before .before .before .before .args .t1) (search needs) in
+    let r = masksOf-few (c .before .before .before .before .before .args .t1) (search needs) in
     let n = c .before .before .before .before .count .ensures in
     omega arith
 
 element-copy-out-if2-2 : tie.Need-element-copy-out-if2-2 Inv-loop μ-loop
 element-copy-out-if2-2 c =
-    let r = room (c .before .before .before .before .before .before .args .t1) (search needs) in
+    let r = masksOf-few (c .before .before .before .before .before .before .args .t1) (search needs) in
     let n = c .before .before .before .before .before .count .ensures in
     omega arith
 
@@ -69,7 +66,7 @@ returns-2 c =
 
 add-i : tie.Need-add-i Inv-loop μ-loop
 add-i c =
-    let r = room (c .before .before .before .before .before .before .before .before .args .t1) (search needs) in
+    let r = masksOf-few (c .before .before .before .before .before .before .before .before .args .t1) (search needs) in
     let n = c .before .before .before .before .before .before .before .count .ensures in
     omega arith
 
@@ -82,7 +79,7 @@ loop-again c =
     let l = c .before .before .before .before .loop in
     let e : length (s .t1 .masks) ≡ 20 = search needs in
     let f : length (s .t2 .masks) ≡ 20 = search needs in
-    let r = room (s .t1) e in
+    let r = masksOf-few (s .t1) e in
     let n = c .before .before .before .before .before .before .before .count .ensures in
     let same : getD (s .t1 .masks) (l .i) 0 ≡ getD (s .t2 .masks) (l .i) 0 = c .if2 .left in (
       omega arith,

@@ -7,9 +7,9 @@ use borrow.Author.Needs.{needs}
 use Rattle.needs.specs.Round.{allGood}
 use Rattle.masks.specs.Set.{bitAt}
 use Rattle.masks.specs.Held.{packed}
-use Rattle.needs.proofs.Laws.Trying.{written-cut}
 use Rattle.needs.proofs.round.next_need.Statement.{statement}
 use Rattle.needs.proofs.round.next_need.Tie as tie
+use Rattle.masks.proofs.Laws.Constraint.{written-cut}
 
 good-patterns-requires : tie.Need-good-patterns-requires
 good-patterns-requires c κs = c .pre
