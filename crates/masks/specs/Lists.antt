@@ -20,6 +20,11 @@ abbrev pub values : {A : Type 0} → (ℕ → A) → ℕ → List A
 values f zero = []
 values f (suc n) = values f n ++ (f n ∷ [])
 
+-- the lists f 0, f 1, .. one after the other: the first n
+abbrev pub joined : {A : Type 0} → (ℕ → List A) → ℕ → List A
+joined f zero = []
+joined f (suc n) = joined f n ++ f n
+
 -- p holds of some number below n
 abbrev pub anyBelow : (ℕ → Bool) → ℕ → Bool
 anyBelow p zero = false

@@ -1,7 +1,7 @@
 -- How the code holds a table and an order. Assumes nothing.
 use mathlib.Core.Path.{_≡_}
 use mathlib.Core.Bool.{Bool, true, false, not, cond, _&&_}
-use mathlib.Core.List.{List}
+use mathlib.Core.List.{List, []}
 use mathlib.Core.Option.{Option, none, some}
 use Prim.Native.Nat.{ℕ, _<_}
 use lib.Dec.{ltb}
@@ -35,6 +35,14 @@ callsBelow n body = all (λ c. ltb (c .pred) n) body
 -- an order, if one was found: the first n of its places
 abbrev pub orderOf : Order → Option (List ℕ)
 orderOf o = cond (o .found) (some (take (o .n) (o .places))) none
+
+-- the places of an order, if there is one
+abbrev pub orNone : Option (List ℕ) → List ℕ
+orNone none = []
+orNone (some σ) = σ
+
+abbrev pub placesOf : Order → List ℕ
+placesOf o = orNone (orderOf o)
 
 -- the first of n places that is not used and passes, or n
 abbrev pub orElse : ℕ → Option ℕ → ℕ

@@ -1,7 +1,8 @@
--- What a reader has to believe of this crate: adornment, the orders of so many places, a good order and a good clause, and how the code holds a
--- table and an order.
+-- What a reader has to believe of this crate: adornment, the orders of so many places, a good order and a good clause, the calls that a body makes
+-- in an order, and how the code holds a table and an order.
 pub mod Adorn
 pub mod Orders
 pub mod Turns
 pub mod Good
+pub mod Asks
 pub mod Held

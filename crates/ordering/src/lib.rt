@@ -1,4 +1,4 @@
-// A body's first good order. What is bound is a flag for each variable; a table is lent as it is held.
+// A body's first good order, and what is bound on the way. What is bound is a flag for each variable; a table is lent as it is held.
 use book::clause::Call;
 use book::clause::arguments;
 use book::clause::subgoal_at;
@@ -15,11 +15,11 @@ ghost use mathlib.Core.Path.{_≡_};
 ghost use mathlib.Core.Bool.{true};
 ghost use Prim.Native.Nat.{_≤_};
 ghost use lib.ListN.{length};
-ghost use Rattle.book.specs.Limits.{maxPredicates, maxClauses};
+ghost use Rattle.book.specs.Limits.{maxPredicates, maxClauses, maxSubgoals};
 ghost use Rattle.book.specs.Held.{callOf, clauseAt};
-ghost use Rattle.ordering.specs.Adorn.{isBound, bit, patternOf, bindAll};
+ghost use Rattle.ordering.specs.Adorn.{isBound, bit, patternOf, bindVar, bindAll, headBound};
 ghost use Rattle.ordering.specs.Good.{readyAt, firstGood};
-ghost use Rattle.ordering.specs.Held.{tableIn, callsBelow, orderOf, picked};
+ghost use Rattle.ordering.specs.Held.{tableIn, callsBelow, orderOf, placesOf, picked};
 
 // An order of the subgoals of a body, if one was found: the first n places of the array.
 pub struct Order {
@@ -94,8 +94,39 @@ fn first_ready<'a>(
     n
 }
 
+// How many places an order has: none where no order was found.
+pub fn placed(o: Order) -> usize
+    ensures { λ r. ⌜ r ≡ length (placesOf o) ⌝ }
+    ensures { λ r. ⌜ r ≤ maxSubgoals ⌝ }
+{
+    if !o.found {
+        return 0;
+    }
+    let n = o.n as usize;
+    if n < MAX_SUBGOALS { n } else { MAX_SUBGOALS }
+}
+
+// What is bound under a head pattern: "variables at bound head positions start as bound". Bit i of the pattern is that of position i.
+pub fn head_bound(head: Call, pattern: u8) -> [bool; VARIABLES]
+    ensures { λ r. ⌜ r ≡ headBound (callOf head .args) pattern ⌝ }
+{
+    let n = arguments(head);
+    let mut b = [false; VARIABLES];
+    let mut rest = pattern;
+    let mut i: usize = 0;
+    while i < n {
+        if rest % 2 == 1 {
+            let then = bind_var(b, head.args[i]);
+            b = then;
+        }
+        rest = rest / 2;
+        i += 1;
+    }
+    b
+}
+
 // The pattern of a call: bit i is set where argument i is bound.
-fn pattern(bound: [bool; VARIABLES], s: Call) -> u8
+pub fn pattern(bound: [bool; VARIABLES], s: Call) -> u8
     ensures { λ r. ⌜ r ≡ patternOf bound (callOf s .args) ⌝ }
 {
     let mut a: u8 = 0;
@@ -121,18 +152,27 @@ fn bound_bit(bound: [bool; VARIABLES], v: u8) -> u8
 }
 
 // "After the whole subgoal all its variables become bound".
-fn bind_all(bound: [bool; VARIABLES], s: Call) -> [bool; VARIABLES]
+pub fn bind_all(bound: [bool; VARIABLES], s: Call) -> [bool; VARIABLES]
     ensures { λ r. ⌜ r ≡ bindAll bound (callOf s .args) ⌝ }
 {
     let n = arguments(s);
     let mut b = bound;
     let mut i: usize = 0;
     while i < n {
-        let v = s.args[i];
-        if v <= LAST_VARIABLE {
-            b[v as usize] = true;
-        }
+        let then = bind_var(b, s.args[i]);
+        b = then;
         i += 1;
+    }
+    b
+}
+
+// A variable is bound from now on; a literal is none, and a wildcard "binds nothing".
+fn bind_var(bound: [bool; VARIABLES], v: u8) -> [bool; VARIABLES]
+    ensures { λ r. ⌜ r ≡ bindVar bound v ⌝ }
+{
+    let mut b = bound;
+    if v <= LAST_VARIABLE {
+        b[v as usize] = true;
     }
     b
 }

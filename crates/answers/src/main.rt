@@ -1,11 +1,11 @@
-// The analysis of a book, for each line of standard input:
+// What the operations that write answer about a book, for each line of standard input:
 //
-//     NAME BYTES [ROOM]
+//     NAME BYTES [analyse|plan ROOM]
 //
-// Bytes are hexadecimal digits, two a byte; `-` is the empty string. ROOM is decimal. For each line it prints NAME, the number, value and rounds of
-// the reply, and the table written, or `-`. Without ROOM there is more than any table takes; then, where the table has a byte at all, it goes on with
-// `short` and the same for a room of one byte less than the table. A reply that altered a byte it had to leave adds the word `spoiled`. It reads at
-// most 262,144 bytes, and of a book at most 8,192.
+// Bytes are hexadecimal digits, two a byte; `-` is the empty string. ROOM is decimal. For each line it prints NAME, and of each operation its name, the
+// number, value and rounds of its reply, and the bytes written, or `-`. Without ROOM there is more than any output takes; then, where a byte was
+// written at all, it goes on with `short` and the same for a room of one byte less. A reply that altered a byte it had to leave adds the word
+// `spoiled`. It reads at most 262,144 bytes, and of a book at most 8,192.
 use libc::STDIN_FILENO;
 use libc::STDOUT_FILENO;
 use masks::reply::Reply;
@@ -13,8 +13,13 @@ use masks::reply::Reply;
 // What the room holds before a call.
 const OLD: u8 = 238;
 
-// More than any table takes.
-const ROOM: usize = 2048;
+// More than any table or plan takes.
+const ROOM: usize = 53260;
+
+enum Operation {
+    Analyse,
+    Plan,
+}
 
 fn main() {
     let mut text = [0u8; 262144];
@@ -36,28 +41,59 @@ fn answer(line: &[u8]) {
     let bytes = &raw[..n];
     let word = lines::field(line, 2);
     if word.len() == 0 {
-        show_both(bytes);
+        show_both(Operation::Analyse, bytes);
+        show_both(Operation::Plan, bytes);
     } else {
-        show_in(room(word), bytes);
+        let op = operation(word);
+        show_name(op);
+        show_in(op, room(lines::field(line, 3)), bytes);
     }
     io::write_all(STDOUT_FILENO, b"\n");
 }
 
-// The analysis in a room that is large enough, and in one that is a byte short.
-fn show_both(bytes: &[u8]) {
-    let k = show_in(ROOM, bytes);
-    if k != 0 {
-        io::write_all(STDOUT_FILENO, b" short");
-        show_in(k - 1, bytes);
+// The operation that a word names; a word that is none counts as the analysis.
+fn operation(word: &[u8]) -> Operation {
+    if check::same(word, b"plan") {
+        Operation::Plan
+    } else {
+        Operation::Analyse
     }
 }
 
-// The analysis in a room of n bytes; how many it wrote.
-fn show_in(n: usize, bytes: &[u8]) -> usize {
+// An operation in a room that is large enough, and in one that is a byte short.
+fn show_both(op: Operation, bytes: &[u8]) {
+    show_name(op);
+    let k = show_in(op, ROOM, bytes);
+    if k != 0 {
+        io::write_all(STDOUT_FILENO, b" short");
+        show_in(op, k - 1, bytes);
+    }
+}
+
+// An operation in a room of n bytes; how many it wrote.
+fn show_in(op: Operation, n: usize, bytes: &[u8]) -> usize {
     let mut out = [OLD; ROOM];
     let m = lines::clip(n, &out);
-    let r = needs::analyse(bytes, &mut out[..m]);
+    let r = call(op, bytes, &mut out[..m]);
     show_all(r, &out)
+}
+
+fn call(op: Operation, bytes: &[u8], out: &mut [u8]) -> Reply {
+    match op {
+        Operation::Analyse => needs::analyse(bytes, out),
+        Operation::Plan => plan::plan(bytes, out),
+    }
+}
+
+fn show_name(op: Operation) {
+    match op {
+        Operation::Analyse => {
+            io::write_all(STDOUT_FILENO, b" analyse");
+        }
+        Operation::Plan => {
+            io::write_all(STDOUT_FILENO, b" plan");
+        }
+    }
 }
 
 // A reply, and what the room holds after it; how many bytes were written.
@@ -83,7 +119,7 @@ fn room(word: &[u8]) -> usize {
 
 // A number with one more digit.
 fn with_digit(n: usize, digit: u8) -> usize {
-    if n < 200 {
+    if n < 5326 {
         n * 10 + digit as usize
     } else {
         ROOM

@@ -1,0 +1,67 @@
+// The plan of a book: the orders of what its query leads to, and the public operation `plan`.
+pub mod image;
+
+use crate::image::plan_length;
+use crate::image::put_plan;
+use book::fault::number;
+use book::limits::MAX_CLAUSES;
+use book::limits::MODES_SIZE;
+use book::limits::RULES_SIZE;
+use book::limits::VARIABLES;
+use masks::reply::Reply;
+use needs::calls::own_clauses;
+use needs::settle;
+use ordering::first_order;
+use reach::reach;
+use reading::read_book;
+use records::field::Found;
+ghost use Rattle.masks.specs.Outcome.{Answers};
+ghost use Rattle.choices.specs.Plan.{planning};
+ghost use Rattle.plan.specs.Lent.{SomeLent, Gives};
+
+// The plan of a book, written into the output: an order for the query, and one for each clause under each pattern that the query leads to. 7 where
+// no orders give every outside call what it must have.
+pub fn plan(book: &[u8], out: &mut [u8]) -> Reply
+    ensures { λ r. ⌜ Answers (planning (now (book .entry))) (now (out .entry)) r (now (out .exit)) ⌝ }
+{
+    let r = read_book(book);
+    let f = r.found;
+    if let Found::Bad(v, at) = f {
+        return Reply::refused(number(v), at as u64);
+    }
+    let b = r.book;
+    let d = settle(b.preds, &b.arities, &b.modes, b.clauses, &b.rules);
+    let t = d.table;
+    give(b.preds, b.clauses, &b.rules, &t.needs, out)
+}
+
+// The plan of a valid book with its final table: written from the output's start, or 7 where the query has no good order, or 9 where the output is
+// too short.
+fn give<'a>(
+    preds: u8,
+    clauses: u8,
+    rules: &'a [u8; RULES_SIZE],
+    table: &'a [u8; MODES_SIZE],
+    out: &mut [u8],
+) -> Reply
+    requires { ⌜ SomeLent preds clauses (now rules) (now table) ⌝ }
+    ensures { λ r. ⌜ Gives preds clauses (now (rules .entry)) (now (table .entry)) (now (out .entry)) r (now (out .exit)) ⌝ }
+{
+    let nothing = [false; VARIABLES];
+    let query = first_order(rules, MAX_CLAUSES, table, nothing);
+    if !query.found {
+        return Reply::refused(7, 0);
+    }
+    let own = own_clauses(clauses, rules);
+    let reached = reach(rules, table, &own, clauses);
+    let n = plan_length(preds, rules, &own, &reached);
+    if out.len() < n {
+        return Reply::refused(9, n as u64);
+    }
+    put_plan(out, query, preds, rules, table, &own, &reached);
+    Reply {
+        number: 0,
+        value: n as u64,
+        rounds: 0,
+    }
+}

@@ -1,0 +1,60 @@
+-- Patterns marked in words, one for each predicate: a pattern is marked where its bit is set. Every definition but the last computes. Assumes nothing.
+use mathlib.Core.Path.{_≡_}
+use mathlib.Core.Bool.{Bool, true, cond, _||_}
+use mathlib.Core.Logic.{_↔_}
+use mathlib.Core.List.{List, []}
+use Prim.Native.Nat.{ℕ}
+use lib.Dec.{eqb}
+use lib.ListN.{getD}
+use Rattle.masks.specs.Limits.{allPatterns}
+use Rattle.masks.specs.Lists.{any, joined}
+use Rattle.masks.specs.Set.{bitAt}
+use Rattle.book.specs.Limits.{maxPredicates, maxClauses}
+use Rattle.book.specs.Book.{Call, Clause, Book}
+use Rattle.book.specs.Held.{clauseAt, clausesOf}
+use Rattle.ordering.specs.Adorn.{Table, Bound, nothing, headBound}
+use Rattle.ordering.specs.Good.{firstGood}
+use Rattle.ordering.specs.Asks.{Asked, asks, called}
+use Rattle.ordering.specs.Held.{tableIn, orNone}
+use Rattle.choices.specs.Choice.{clause, Choice, Reaches}
+
+-- pattern a of predicate p is marked
+abbrev pub markAt : List ℕ → ℕ → ℕ → Bool
+markAt words p a = bitAt (getD words p 0) a
+
+-- the calls are marked besides what was, and the set has the predicates called
+pub record Marked (before after : List ℕ) (names : ℕ) (calls : List Asked) : Type 0 where
+  pub marks : (q b : ℕ) → markAt after q b ≡ (markAt before q b || called q b calls)
+  pub names· : (q : ℕ) → bitAt names q ≡ any (λ (x : Asked). eqb (x .pred) q) calls
+
+-- ---- calls in the orders that the code finds, none where it finds no order
+
+unfoldable pub callsBy : Table → List Call → Bound → List Asked
+callsBy T body b = asks body b (orNone (firstGood T body b))
+
+-- of clause k of an array, under a head pattern
+abbrev pub clauseBy : List ℕ → List ℕ → ℕ → ℕ → List Asked
+clauseBy rules table k a = callsBy (tableIn table maxPredicates) (clauseAt rules k .body) (headBound (clauseAt rules k .head .args) a)
+
+-- of each clause of a set
+unfoldable pub clausesBy : List ℕ → List ℕ → ℕ → ℕ → List Asked
+clausesBy rules table own a = joined (λ k. cond (bitAt own k) (clauseBy rules table k a) []) maxClauses
+
+-- under each pattern of a set
+unfoldable pub patternsBy : List ℕ → List ℕ → ℕ → ℕ → List Asked
+patternsBy rules table own set = joined (λ a. cond (bitAt set a) (clausesBy rules table own a) []) allPatterns
+
+-- the choice that goes with them
+unfoldable pub taken : Table → Book → Choice
+taken T B =
+    record {
+      forQuery = orNone (firstGood T (B .query) nothing);
+      forClause = λ k a. orNone (firstGood T (clause B k .body) (headBound (clause B k .head .args) a));
+    }
+
+-- ---- what is promised: the words mark just what that choice reaches, of whatever book has the clauses and the query that the array holds
+
+abbrev pub ReachedIn : List ℕ → ℕ → List ℕ → List ℕ → Type 0
+ReachedIn rules clauses table words =
+    (B : Book) → B .clauses ≡ clausesOf rules clauses → B .query ≡ clauseAt rules maxClauses .body
+    → (p a : ℕ) → (markAt words p a ≡ true) ↔ Reaches B (taken (tableIn table maxPredicates) B) p a
