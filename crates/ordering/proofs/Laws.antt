@@ -4,6 +4,7 @@ pub mod Orders
 pub mod Greedy
 pub mod Adorn
 pub mod Good
+pub mod Asks
 pub mod Steps
 pub mod Held
 pub mod Run

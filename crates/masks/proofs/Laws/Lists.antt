@@ -2,15 +2,15 @@
 -- A member is said by the test `has`. Assumes nothing.
 use mathlib.Core.Path.{_≡_, refl, sym, ap, ap₂, _∙_}
 use mathlib.Core.Bool.{Bool, true, false, cond, _&&_, _||_, or-assoc, and-assoc, or-false, and-true, false≢true}
-use mathlib.Core.List.{List, [], _∷_, _++_, map}
-use Prim.Native.Nat.{ℕ, zero, suc, _+_, min, _<_}
+use mathlib.Core.List.{List, [], _∷_, _++_, map, append-nil}
+use Prim.Native.Nat.{ℕ, zero, suc, _+_, min, _≤_, _<_}
 use native.Mathlib.Omega.{arith}
 use native.Mathlib.Numerals.{add-one}
 use lib.Dec.{eqb, ltb, leb}
 use lib.ListN.{length, getD, take, set, length-take, length-append, List·getD-append}
 use lib.Seq.{take-nil, take-suc, take-all, take-append-le, sets, length-take-le, getD-at}
 use borrow.Author.Tests.{eqb-true, eqb-false, eq-eqb, ltb-true, lt-ltb, leb-true, leb-false}
-use Rattle.masks.specs.Lists.{any, all, values, anyBelow, below, has, pairwise, ascending}
+use Rattle.masks.specs.Lists.{any, all, values, joined, anyBelow, below, has, pairwise, ascending}
 use Rattle.masks.proofs.Laws.Logic.{byBool, clash, and-intro, and-left, and-right, or-left, or-right, or-case}
 
 -- ---- the front of a list, and a run of stores
@@ -265,3 +265,34 @@ module _ {A : Type 0} where
       let e : n ≡ i = omega arith in
       getD-at (values f n) (f n) [] d i (omega arith) ∙ ap f e)
       (λ t. let k = leb-false n i t in List·getD-append (values f n) (f n ∷ []) d i (omega arith) ∙ getD-values f d n i k)
+
+-- ---- lists one after the other
+
+module _ {A : Type 0} where
+  pub joined-cong : (f g : ℕ → List A) (n : ℕ) → ((k : ℕ) → k < n → f k ≡ g k) → joined f n ≡ joined g n
+  joined-cong f g zero h = refl
+  joined-cong f g (suc n) h = ap₂ {C = List A} _++_ (joined-cong f g n (λ k l. h k (omega arith))) (h n (omega arith))
+
+  -- where no list from n on has anything
+  pub joined-cut : (f : ℕ → List A) (n m : ℕ) → n ≤ m → ((k : ℕ) → n ≤ k → f k ≡ []) → joined f m ≡ joined f n
+  joined-cut f n zero l h = let e : 0 ≡ n = omega arith in ap (joined f) e
+  joined-cut f n (suc m) l h =
+      byBool (leb n m)
+      (λ t. let k = leb-true n m t in rw (h m k) (append-nil (joined f m) ∙ joined-cut f n m k h))
+      (λ t. let k = leb-false n m t in let e : suc m ≡ n = omega arith in ap (joined f) e)
+
+  module _ (p : A → Bool) (f : ℕ → List A) where
+    pub any-joined : (n k : ℕ) → k < n → any p (f k) ≡ true → any p (joined f n) ≡ true
+    any-joined zero k h e = absurd (omega arith)
+    any-joined (suc n) k h e =
+        any-append p (joined f n) (f n)
+        ∙ byBool (eqb k n)
+        (λ t. or-right (any p (joined f n)) (ap (λ (i : ℕ). any p (f i)) (sym (eqb-true k n t)) ∙ e))
+        (λ t. let ne = eqb-false k n t in or-left (any p (joined f n)) (any p (f n)) (any-joined n k (omega (arith, ne)) e))
+
+    pub joined-any : (n : ℕ) → any p (joined f n) ≡ true → (k : ℕ) × (k < n) × (any p (f k) ≡ true)
+    joined-any zero e = absurd (false≢true e)
+    joined-any (suc n) e =
+        or-case (any p (joined f n)) (any p (f n)) (sym (any-append p (joined f n) (f n)) ∙ e)
+        (λ t. let r = joined-any n t in (r .0, omega (arith, r .1), r .2))
+        (λ t. (n, omega arith, t))

@@ -1,11 +1,11 @@
 -- A loop over the members of a word's set, from the lowest up: `trailing_zeros` is the lowest, and `rest & (rest - 1)` is the set without it. What
 -- holds of the numbers passed holds across a gap where none is a member. Assumes nothing.
 use mathlib.Core.Path.{_≡_, refl, sym, ap, _∙_, subst}
-use mathlib.Core.Bool.{Bool, true, false, not, _&&_, and-true, and-false}
+use mathlib.Core.Bool.{Bool, true, false, not, cond, _&&_, and-true, and-false}
 use Prim.Native.Nat.{ℕ, zero, suc, _+_, _-_, _*_, _/_, _%_, _^_, _≤_, _<_, min}
 use native.Mathlib.Omega.{arith}
 use native.Mathlib.Nat.{pow-suc}
-use lib.Bits.{bitAnd, and-step, and-self, and-le-r}
+use lib.Bits.{bitAnd, bitXor, and-step, and-self, and-le-r, xor-add-and, xor-shr}
 use lib.Count.{trailingZeros}
 use lib.Dec.{eqb, leb}
 use borrow.Author.Tests.{eq-eqb, ne-eqb, eqb-true, eqb-false, leb-true, leb-false}
@@ -32,6 +32,28 @@ bitAt-and x y (suc k) =
     let s = and-step x y in
     let e : bitAnd x y / 2 ≡ bitAnd (x / 2) (y / 2) = omega arith in
     ap (λ (z : ℕ). bitAt z k) e ∙ bitAt-and (x / 2) (y / 2) k
+
+-- ---- the bits that differ
+
+xor-digit : (x y : ℕ) → eqb (bitXor x y % 2) 1 ≡ cond (eqb (x % 2) 1) (not (eqb (y % 2) 1)) (eqb (y % 2) 1)
+xor-digit x y =
+    let s = xor-add-and x y in
+    byBool (eqb (x % 2) 1)
+    (λ t.
+    let e = eqb-true (x % 2) 1 t in
+    byBool (eqb (y % 2) 1)
+    (λ u. let f = eqb-true (y % 2) 1 u in rw (t, u) (ne-eqb (bitXor x y % 2) 1 (λ z. omega (arith, z))))
+    (λ u. let f = eqb-false (y % 2) 1 u in rw (t, u) (eq-eqb (bitXor x y % 2) 1 (omega (arith, f)))))
+    (λ t.
+    let e = eqb-false (x % 2) 1 t in
+    byBool (eqb (y % 2) 1)
+    (λ u. let f = eqb-true (y % 2) 1 u in rw (t, u) (eq-eqb (bitXor x y % 2) 1 (omega (arith, e))))
+    (λ u. let f = eqb-false (y % 2) 1 u in rw (t, u) (ne-eqb (bitXor x y % 2) 1 (λ z. omega (arith, e, f, z)))))
+
+pub bitAt-xor : (x y k : ℕ) → bitAt (bitXor x y) k ≡ cond (bitAt x k) (not (bitAt y k)) (bitAt y k)
+unfolding bitAt
+bitAt-xor x y zero = xor-digit x y
+bitAt-xor x y (suc k) = ap (λ (z : ℕ). bitAt z k) (xor-shr x y 1) ∙ bitAt-xor (x / 2) (y / 2) k
 
 -- ---- the lowest member, and the others
 

@@ -1,19 +1,31 @@
 -- Sums over the numbers below n: where no term is larger, the sum is not, and where the sum is no smaller the terms are the same. Assumes nothing.
-use mathlib.Core.Path.{_≡_, refl, sym, ap, _∙_}
+use mathlib.Core.Path.{_≡_, refl, sym, ap, ap₂, _∙_}
 use mathlib.Core.Bool.{Bool, true, false}
-use Prim.Native.Nat.{ℕ, zero, suc, _*_, _≤_, _<_}
+use mathlib.Core.List.{List}
+use Prim.Native.Nat.{ℕ, zero, suc, _+_, _*_, _≤_, _<_}
 use native.Mathlib.Nat.{suc-mul}
 use native.Mathlib.Omega.{arith}
 use lib.Dec.{eqb}
+use lib.ListN.{length, length-append}
 use borrow.Author.Tests.{eqb-true, eqb-false}
-use Rattle.masks.proofs.Laws.Logic.{byBool}
-use Rattle.tables.specs.Table.{sumBelow}
+use Rattle.masks.specs.Lists.{joined}
 use Rattle.ordering.specs.Adorn.{bit}
+use Rattle.tables.specs.Table.{sumBelow}
+use Rattle.masks.proofs.Laws.Logic.{byBool}
 use Rattle.ordering.proofs.Laws.Adorn.{bit-mono}
 
 pub sum-le : (f g : ℕ → ℕ) (n : ℕ) → ((i : ℕ) → i < n → f i ≤ g i) → sumBelow f n ≤ sumBelow g n
 sum-le f g zero h = omega arith
 sum-le f g (suc n) h = omega (arith, h n (omega arith), sum-le f g n (λ i l. h i (omega arith)))
+
+pub sum-cong : (f g : ℕ → ℕ) (n : ℕ) → ((i : ℕ) → i < n → f i ≡ g i) → sumBelow f n ≡ sumBelow g n
+sum-cong f g zero h = refl
+sum-cong f g (suc n) h = ap₂ _+_ (sum-cong f g n (λ i l. h i (omega arith))) (h n (omega arith))
+
+-- the length of lists one after the other
+pub length-joined : {A : Type 0} (f : ℕ → List A) (n : ℕ) → length (joined f n) ≡ sumBelow (λ k. length (f k)) n
+length-joined f zero = refl
+length-joined f (suc n) = length-append (joined f n) (f n) ∙ ap (λ (k : ℕ). k + length (f n)) (length-joined f n)
 
 pub sum-stuck : (f g : ℕ → ℕ) (n : ℕ) → ((i : ℕ) → i < n → f i ≤ g i) → sumBelow g n ≤ sumBelow f n → (i : ℕ) → i < n → f i ≡ g i
 sum-stuck f g zero h e i l = absurd (omega arith)

@@ -1,0 +1,82 @@
+-- The calls of a body in an order. An order is good exactly where each call fits the constraint of its predicate. Assumes nothing.
+use mathlib.Core.Path.{_≡_, refl, sym, ap, ap₂, _∙_}
+use mathlib.Core.Bool.{Bool, true, false, _&&_, false≢true}
+use mathlib.Core.Logic.{inl, inr}
+use mathlib.Core.List.{List, [], _∷_, _++_}
+use Prim.Native.Nat.{ℕ}
+use lib.Dec.{eqb}
+use lib.ListN.{length, getD}
+use borrow.Author.Tests.{eqb-true, eq-eqb}
+use Rattle.masks.specs.Constraint.{admits}
+use Rattle.book.specs.Book.{Call}
+use Rattle.ordering.specs.Adorn.{Table, Bound, patternOf, ready}
+use Rattle.ordering.specs.Orders.{In}
+use Rattle.ordering.specs.Turns as turns
+use Rattle.ordering.specs.Good.{at, readyAt, afterAt, goodFrom}
+use Rattle.ordering.specs.Asks.{Asked, asks, called}
+use Rattle.masks.proofs.Laws.Logic.{and-intro, and-left, and-right, or-left, or-right, or-case}
+use Rattle.ordering.proofs.Laws.Greedy.{good-parts, good-cons, allAfter}
+
+-- ---- each call
+
+-- what the first call is, or what one of the others is
+called-case : (P : ℕ → ℕ → Type 0) (x : Asked) (xs : List Asked) (q a : ℕ) → called q a (x ∷ xs) ≡ true → P (x .pred) (x .pattern) → (called q a xs ≡ true → P q a) → P q a
+called-case P x xs q a e f g =
+    or-case (eqb (x .pred) q && eqb (x .pattern) a) (called q a xs) e
+    (λ t.
+    let u = eqb-true (x .pred) q (and-left (eqb (x .pred) q) (eqb (x .pattern) a) t) in
+    let v = eqb-true (x .pattern) a (and-right (eqb (x .pred) q) (eqb (x .pattern) a) t) in
+    rw (← u, ← v) f)
+    g
+
+pub called-first : (x : Asked) (xs : List Asked) → called (x .pred) (x .pattern) (x ∷ xs) ≡ true
+called-first x xs =
+    or-left (eqb (x .pred) (x .pred) && eqb (x .pattern) (x .pattern)) (called (x .pred) (x .pattern) xs)
+    (and-intro (eq-eqb (x .pred) (x .pred) refl) (eq-eqb (x .pattern) (x .pattern) refl))
+
+-- what holds of every subgoal of an order under whatever is bound, holds of every call
+pub asks-each : (P : ℕ → ℕ → Type 0) (body : List Call) (b : Bound) (σ : List ℕ) → ((p : ℕ) (c : Bound) → In p σ → P (at body p .pred) (patternOf c (at body p .args)))
+    → (q a : ℕ) → called q a (asks body b σ) ≡ true → P q a
+unfolding asks
+asks-each P body b [] h q a e = absurd (false≢true e)
+asks-each P body b (p ∷ σ) h q a e =
+    called-case P (record { pred = at body p .pred; pattern = patternOf b (at body p .args) }) (asks body (afterAt body b p) σ) q a e
+    (h p b (inl refl))
+    (λ t. asks-each P body (afterAt body b p) σ (λ r c i. h r c (inr i)) q a t)
+
+-- ---- good orders
+
+module _ (T : Table) (body : List Call) where
+  -- the calls of a good order fit
+  pub asks-fit : (b : Bound) (σ : List ℕ) → goodFrom T body b σ ≡ true → (q a : ℕ) → called q a (asks body b σ) ≡ true → admits (getD T q []) a ≡ true
+  unfolding asks ready
+  asks-fit b [] g q a e = absurd (false≢true e)
+  asks-fit b (p ∷ σ) g q a e =
+      let h = good-parts (readyAt T body) (afterAt body) b p σ g in
+      called-case (λ r c. admits (getD T r []) c ≡ true) (record { pred = at body p .pred; pattern = patternOf b (at body p .args) }) (asks body (afterAt body b p) σ) q a e
+      (h .0)
+      (λ t. asks-fit (afterAt body b p) σ (h .1) q a t)
+
+  -- an order whose calls fit is good
+  pub fit-asks : (b : Bound) (σ : List ℕ) → ((q a : ℕ) → called q a (asks body b σ) ≡ true → admits (getD T q []) a ≡ true) → goodFrom T body b σ ≡ true
+  unfolding asks ready turns.goodFrom
+  fit-asks b [] h = refl
+  fit-asks b (p ∷ σ) h =
+      let x : Asked = record { pred = at body p .pred; pattern = patternOf b (at body p .args) } in
+      good-cons (readyAt T body) (afterAt body) b p σ
+      (h (at body p .pred) (patternOf b (at body p .args)) (called-first x (asks body (afterAt body b p) σ)))
+      (fit-asks (afterAt body b p) σ (λ q a t. h q a (or-right (eqb (at body p .pred) q && eqb (patternOf b (at body p .args)) a) t)))
+
+-- ---- one place more
+
+pub asks-snoc : (body : List Call) (b : Bound) (σ : List ℕ) (p : ℕ)
+    → asks body b (σ ++ (p ∷ [])) ≡ asks body b σ ++ (record { pred = at body p .pred; pattern = patternOf (allAfter (afterAt body) b σ) (at body p .args) } ∷ [])
+unfolding asks allAfter
+asks-snoc body b [] p = refl
+asks-snoc body b (r ∷ σ) p =
+    ap (λ (l : List Asked). record { pred = at body r .pred; pattern = patternOf b (at body r .args) } ∷ l) (asks-snoc body (afterAt body b r) σ p)
+
+pub after-snoc : (body : List Call) (b : Bound) (σ : List ℕ) (p : ℕ) → allAfter (afterAt body) b (σ ++ (p ∷ [])) ≡ afterAt body (allAfter (afterAt body) b σ) p
+unfolding allAfter
+after-snoc body b [] p = refl
+after-snoc body b (r ∷ σ) p = after-snoc body (afterAt body b r) σ p
