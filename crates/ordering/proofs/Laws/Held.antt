@@ -1,15 +1,17 @@
--- A table as the code holds it: what it has at each predicate; and the predicates that subgoals call. Assumes nothing.
-use mathlib.Core.Path.{_≡_}
-use mathlib.Core.Bool.{true}
+-- A table as the code holds it: what it has at each predicate; the predicates that subgoals call; and how long an order is. Assumes nothing.
+use mathlib.Core.Path.{_≡_, sym}
+use mathlib.Core.Bool.{true, false, not}
 use mathlib.Core.List.{List, []}
-use Prim.Native.Nat.{ℕ, _<_, _≤_}
+use Prim.Native.Nat.{ℕ, _<_, _≤_, min}
 use native.Mathlib.Omega.{arith}
 use lib.Dec.{ltb}
-use lib.ListN.{length, getD}
-use borrow.Author.Tests.{ltb-true, lt-ltb}
+use lib.ListN.{length, getD, length-take}
+use borrow.Author.Tests.{ltb-true, lt-ltb, not-true, not-false}
+use Rattle.book.specs.Limits.{maxSubgoals}
 use Rattle.book.specs.Book.{Call}
 use Rattle.ordering.specs.Good.{at}
-use Rattle.ordering.specs.Held.{entryIn, tableIn, callsBelow}
+use Rattle.ordering.specs.Held.{entryIn, tableIn, callsBelow, placesOf}
+use Rattle.ordering.specs.declared.Order.{Order}
 use Rattle.masks.proofs.Laws.Lists.{all-at, length-values, getD-values, all-mono}
 
 pub tableIn-length : (table : List ℕ) (n : ℕ) → length (tableIn table n) ≡ n
@@ -29,3 +31,10 @@ pub callsBelow-mono : (n m : ℕ) → n ≤ m → (body : List Call) → callsBe
 unfolding callsBelow
 callsBelow-mono n m h =
     all-mono (λ (s : Call). ltb (s .pred) n) (λ s. ltb (s .pred) m) (λ s t. let l = ltb-true (s .pred) n t in lt-ltb (s .pred) m (omega arith))
+
+-- how many places an order has
+pub placed-none : (o : Order) → not (o .found) ≡ true → length (placesOf o) ≡ 0
+placed-none o e = rw (not-true (o .found) e)
+
+pub placed-some : (o : Order) → not (o .found) ≡ false → length (o .places) ≡ maxSubgoals → length (placesOf o) ≡ min (o .n) maxSubgoals
+placed-some o e h = rw (not-false (o .found) e, sym h) (length-take (o .n) (o .places))

@@ -1,18 +1,19 @@
 -- Loops over the arguments of a call, one argument at a time: what is left of the list is its first argument and then the rest, so binding goes
 -- up the list and the pattern, whose last argument has the highest bit, down. Assumes nothing.
 use mathlib.Core.Path.{_≡_, refl, sym, ap, _∙_}
-use mathlib.Core.Bool.{Bool, true, false}
+use mathlib.Core.Bool.{Bool, true, false, cond}
 use mathlib.Core.List.{List, [], _∷_}
-use Prim.Native.Nat.{ℕ, zero, suc, _+_, _*_, _-_, _^_, _≤_, _<_}
+use Prim.Native.Nat.{ℕ, zero, suc, _+_, _*_, _-_, _/_, _%_, _^_, _≤_, _<_}
 use native.Mathlib.Nat.{pow-suc}
 use native.Mathlib.Numerals.{add-one}
 use native.Mathlib.Omega.{arith}
+use lib.Dec.{eqb}
 use lib.ListN.{length, getD, set, take, drop, drop-of-length-le, length-take, length-drop}
 use lib.Pow.{pow-pos}
 use lib.Seq.{drop-cons, getD-take}
 use borrow.Author.Tests.{lt-ltb, le-ltb, eq-eqb, ne-eqb}
 use Rattle.masks.specs.Limits.{maxArity}
-use Rattle.ordering.specs.Adorn.{variables, Bound, literal, isBound, bit, patternOf, bindVar, bindAll}
+use Rattle.ordering.specs.Adorn.{variables, Bound, nothing, literal, isBound, bit, patternOf, bindVar, bindAll, bindHead, headBound}
 use Rattle.ordering.proofs.Laws.Adorn.{bit-small}
 
 -- ---- binding, from the first argument up
@@ -45,18 +46,48 @@ pub record Binding (b₀ : Bound) (args : List ℕ) (i : ℕ) (b : Bound) : Type
 pub binding-start : (b : Bound) (args : List ℕ) → Binding b args 0 b
 binding-start b args = record { most = omega arith; rest = refl }
 
-module _ {b₀ b : Bound} (n : ℕ) (l : List ℕ) {i : ℕ} (w : Binding b₀ (take n l) i b) (h : i < length (take n l)) where
-  binding-next : Binding b₀ (take n l) (i + 1) (bindVar b (getD l i 0))
-  binding-next = record { most = omega arith; rest = rw (sym (first-at n l i h)) (sym (all-step (take n l) i h b) ∙ w .rest) }
-
-  pub binding-var : getD l i 0 < variables → Binding b₀ (take n l) (i + 1) (set b (getD l i 0) true)
-  binding-var k = rw (sym (var-set b (getD l i 0) k)) binding-next
-
-  pub binding-skip : variables ≤ getD l i 0 → Binding b₀ (take n l) (i + 1) b
-  binding-skip k = rw (var-skip b (getD l i 0) k) at binding-next
+pub binding-next : {b₀ b : Bound} (n : ℕ) (l : List ℕ) {i : ℕ} → Binding b₀ (take n l) i b → i < length (take n l)
+    → Binding b₀ (take n l) (i + 1) (bindVar b (getD l i 0))
+binding-next {b = b} n l {i} w h =
+    record { most = omega arith; rest = rw (sym (first-at n l i h)) (sym (all-step (take n l) i h b) ∙ w .rest) }
 
 pub binding-end : {b₀ b : Bound} {args : List ℕ} {i : ℕ} → Binding b₀ args i b → length args ≤ i → b ≡ bindAll b₀ args
 binding-end {b₀} {b} {args} {i} w h = sym (all-end b args i h) ∙ w .rest
+
+-- ---- binding at the bound positions of a head, from the first argument up
+
+head-end : (b : Bound) (l : List ℕ) (i a : ℕ) → length l ≤ i → bindHead b (drop i l) a ≡ b
+unfolding bindHead
+head-end b l i a h = rw (drop-of-length-le l h)
+
+head-step : (l : List ℕ) (i : ℕ) → i < length l → (b : Bound) (a : ℕ) (c : Bool) → eqb (a % 2) 1 ≡ c
+    → bindHead b (drop i l) a ≡ bindHead (cond c (bindVar b (getD l i 0)) b) (drop (i + 1) l) (a / 2)
+unfolding bindHead
+head-step l i h b a c e =
+    rw (add-one i, drop-cons l i 0 h) (ap (λ (t : Bool). bindHead (cond t (bindVar b (getD l i 0)) b) (drop (suc i) l) (a / 2)) e)
+
+-- the loop that binds: what is left, from argument i on by the bits that are left, comes to what all come to by the pattern
+pub record Heading (pattern : ℕ) (args : List ℕ) (i a : ℕ) (b : Bound) : Type 0 where
+  pub most : i ≤ length args
+  pub rest : bindHead b (drop i args) a ≡ headBound args pattern
+
+pub heading-start : (pattern : ℕ) (args : List ℕ) → Heading pattern args 0 pattern nothing
+unfolding headBound
+heading-start pattern args = record { most = omega arith; rest = refl }
+
+module _ {pattern a : ℕ} {b : Bound} (n : ℕ) (l : List ℕ) {i : ℕ} (w : Heading pattern (take n l) i a b) (h : i < length (take n l)) where
+  heading-next : (c : Bool) → eqb (a % 2) 1 ≡ c → Heading pattern (take n l) (i + 1) (a / 2) (cond c (bindVar b (getD l i 0)) b)
+  heading-next c e =
+      record { most = omega arith; rest = rw (sym (first-at n l i h)) (sym (head-step (take n l) i h b a c e) ∙ w .rest) }
+
+  pub heading-bound : a % 2 ≡ 1 → Heading pattern (take n l) (i + 1) (a / 2) (bindVar b (getD l i 0))
+  heading-bound e = heading-next true (eq-eqb (a % 2) 1 e)
+
+  pub heading-free : (a % 2 ≡ 1 → ⊥) → Heading pattern (take n l) (i + 1) (a / 2) b
+  heading-free e = heading-next false (ne-eqb (a % 2) 1 e)
+
+pub heading-end : {pattern a : ℕ} {b : Bound} {args : List ℕ} {i : ℕ} → Heading pattern args i a b → length args ≤ i → b ≡ headBound args pattern
+heading-end {a = a} {b} {args} {i} w h = sym (head-end b args i a h) ∙ w .rest
 
 -- ---- the bit of an argument
 

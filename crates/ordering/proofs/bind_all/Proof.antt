@@ -1,11 +1,10 @@
 -- `ordering::bind_all` meets its contract. The loop's invariant: what is left to bind, from argument i on, comes to what all come to. Assumes nothing.
-use mathlib.Core.Logic.{⊎-elim}
 use Prim.Native.Nat.{_-_}
 use native.Mathlib.Omega.{arith}
 use lib.ListN.{length-take}
 use borrow.Author.Needs.{needs}
 use Rattle.book.specs.Held.{callOf}
-use Rattle.ordering.proofs.Laws.Steps.{Binding, binding-start, binding-var, binding-skip, binding-end}
+use Rattle.ordering.proofs.Laws.Steps.{Binding, binding-start, binding-next, binding-end}
 use Rattle.ordering.proofs.bind_all.Statement.{statement}
 use Rattle.ordering.proofs.bind_all.Tie as tie
 
@@ -21,17 +20,14 @@ arguments-requires c κs = search needs
 loop-holds : tie.Need-loop-holds Inv-loop μ-loop
 loop-holds c = binding-start (c .before .args .bound) (callOf (c .before .args .t2) .args)
 
-element-copy-out-v : tie.Need-element-copy-out-v Inv-loop μ-loop
-element-copy-out-v c =
+element-copy-out-bind-var : tie.Need-element-copy-out-bind-var Inv-loop μ-loop
+element-copy-out-bind-var c =
     let s = c .before .before .before .args .t2 in
     let n = c .before .before .arguments .ensures .0 in
     omega (arith, length-take (s .n) (s .args))
 
-cast-b : tie.Need-cast-b Inv-loop μ-loop
-cast-b c = omega arith
-
-array-write-b : tie.Need-array-write-b Inv-loop μ-loop
-array-write-b c = omega arith
+bind-var-requires : tie.Need-bind-var-requires Inv-loop μ-loop
+bind-var-requires c κs = search needs
 
 add-i : tie.Need-add-i Inv-loop μ-loop
 add-i c = omega arith
@@ -43,9 +39,7 @@ loop-again : tie.Need-loop-again Inv-loop μ-loop
 loop-again c =
     let s = c .before .before .before .before .before .args .t2 in
     let n = c .before .before .before .before .arguments .ensures .0 in
-    let l = c .before .before .before .loop .inv in
-    ⊎-elim (λ w. rw (w .1) (binding-var (s .n) (s .args) l (omega arith) (omega arith)))
-    (λ w. rw (w .1) (binding-skip (s .n) (s .args) l (omega arith) (omega arith))) (c .if1 .came)
+    rw (c .bind-var .ensures) (binding-next (s .n) (s .args) (c .before .before .before .loop .inv) (omega arith))
 
 returns : tie.Need-returns Inv-loop μ-loop
 returns c = let n = c .before .before .arguments .ensures .0 in binding-end (c .before .loop .inv) (omega arith)
@@ -58,9 +52,8 @@ bind-all-spec =
     μ-loop
     arguments-requires
     loop-holds
-    element-copy-out-v
-    cast-b
-    array-write-b
+    element-copy-out-bind-var
+    bind-var-requires
     add-i
     loop-less
     loop-again
