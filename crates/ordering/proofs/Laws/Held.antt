@@ -1,18 +1,22 @@
 -- A table as the code holds it: what it has at each predicate; the predicates that subgoals call; and how long an order is. Assumes nothing.
-use mathlib.Core.Path.{_≡_, sym}
-use mathlib.Core.Bool.{true, false, not}
-use mathlib.Core.List.{List, []}
+use mathlib.Core.Path.{_≡_, refl, sym, _∙_}
+use mathlib.Core.Bool.{Bool, true, false, not}
+use mathlib.Core.List.{List, [], _∷_}
 use Prim.Native.Nat.{ℕ, _<_, _≤_, min}
 use native.Mathlib.Omega.{arith}
 use lib.Dec.{ltb}
 use lib.ListN.{length, getD, length-take}
 use borrow.Author.Tests.{ltb-true, lt-ltb, not-true, not-false}
+use Rattle.masks.specs.Lists.{any, all}
 use Rattle.book.specs.Limits.{maxSubgoals}
 use Rattle.book.specs.Book.{Call}
-use Rattle.ordering.specs.Good.{at}
+use Rattle.ordering.specs.Adorn.{Bound}
+use Rattle.ordering.specs.Good.{at, firstGood}
 use Rattle.ordering.specs.Held.{entryIn, tableIn, callsBelow, placesOf}
 use Rattle.ordering.specs.declared.Order.{Order}
+use Rattle.masks.proofs.Laws.Logic.{and-left, and-right}
 use Rattle.masks.proofs.Laws.Lists.{all-at, length-values, getD-values, all-mono}
+use Rattle.ordering.proofs.Laws.Good.{first-kept}
 
 pub tableIn-length : (table : List ℕ) (n : ℕ) → length (tableIn table n) ≡ n
 unfolding tableIn
@@ -32,7 +36,28 @@ unfolding callsBelow
 callsBelow-mono n m h =
     all-mono (λ (s : Call). ltb (s .pred) n) (λ s. ltb (s .pred) m) (λ s t. let l = ltb-true (s .pred) n t in lt-ltb (s .pred) m (omega arith))
 
--- how many places an order has
+-- ---- subgoals that call predicates below n: a table that goes on past n is as good as one that does not
+
+-- the predicates that are not below n
+abbrev pub outside : ℕ → ℕ → Bool
+outside n q = not (ltb q n)
+
+pub callsBelow-outside : (n : ℕ) (body : List Call) → callsBelow n body ≡ true → any (λ s. outside n (s .pred)) body ≡ false
+unfolding callsBelow
+callsBelow-outside n [] t = refl
+callsBelow-outside n (s ∷ body) t =
+    rw (and-left (ltb (s .pred) n) (all (λ s. ltb (s .pred) n) body) t)
+    (callsBelow-outside n body (and-right (ltb (s .pred) n) (all (λ s. ltb (s .pred) n) body) t))
+
+module _ (table : List ℕ) (n m : ℕ) (h : n ≤ m) where
+  pub tableIn-cut : (q : ℕ) → outside n q ≡ false → getD (tableIn table m) q [] ≡ getD (tableIn table n) q []
+  tableIn-cut q e = let l = ltb-true q n (not-false (ltb q n) e) in tableIn-at table m q (omega arith) ∙ sym (tableIn-at table n q l)
+
+  pub first-cut : (body : List Call) (b : Bound) → callsBelow n body ≡ true → firstGood (tableIn table m) body b ≡ firstGood (tableIn table n) body b
+  first-cut body b t = first-kept (tableIn table m) (tableIn table n) (outside n) tableIn-cut body b (callsBelow-outside n body t)
+
+-- ---- how many places an order has
+
 pub placed-none : (o : Order) → not (o .found) ≡ true → length (placesOf o) ≡ 0
 placed-none o e = rw (not-true (o .found) e)
 

@@ -19,7 +19,7 @@ use Rattle.book.specs.Book.{Call, Clause}
 use Rattle.ordering.specs.Adorn.{Table}
 use Rattle.ordering.specs.Good.{goodClause}
 use Rattle.ordering.specs.Held.{tableIn, callsBelow}
-use Rattle.ordering.proofs.Laws.Held.{tableIn-at}
+use Rattle.ordering.proofs.Laws.Held.{outside, callsBelow-outside, tableIn-cut}
 use Rattle.ordering.proofs.Laws.Adorn.{More, more-refl}
 use Rattle.ordering.proofs.Laws.Good.{good-clause-mono, clause-same}
 use Rattle.tables.specs.Calls.{calls, touched}
@@ -62,35 +62,19 @@ module _ (T U : Table) (x : ℕ → Bool) (agree : (q : ℕ) → x q ≡ false �
   next-same d n k = rw d (written-cong (good T cs p) (good U cs p) (2 ^ k) (λ a l. good-same n a))
 
 -- clauses that call predicates below n only touch none that is not
-outside : ℕ → ℕ → Bool
-outside n q = not (ltb q n)
-
-calls-inside : (n : ℕ) (c : Clause) → callsBelow n (c .body) ≡ true → calls (outside n) c ≡ false
-unfolding callsBelow calls outside
-calls-inside n c t = go (c .body) t
-  where
-    go : (body : List Call) → all (λ s. ltb (s .pred) n) body ≡ true → any (λ s. not (ltb (s .pred) n)) body ≡ false
-    go [] t = refl
-    go (s ∷ body) t =
-        rw (and-left (ltb (s .pred) n) (all (λ s. ltb (s .pred) n) body) t) (go body (and-right (ltb (s .pred) n) (all (λ s. ltb (s .pred) n) body) t))
-
 touched-inside : (n : ℕ) (cs : List Clause) (p : ℕ) → all (λ c. callsBelow n (c .body)) cs ≡ true → touched (outside n) cs p ≡ false
-unfolding touched own
+unfolding calls touched own
 touched-inside n [] p t = refl
 touched-inside n (c ∷ cs) p t = go (eqb (c .head .pred) p) (touched-inside n cs p (and-right (callsBelow n (c .body)) (all (λ c. callsBelow n (c .body)) cs) t))
   where
     go : (b : Bool) → any (calls (outside n)) (own cs p) ≡ false → any (calls (outside n)) (cond b (c ∷ own cs p) (own cs p)) ≡ false
-    go true r = rw (calls-inside n c (and-left (callsBelow n (c .body)) (all (λ c. callsBelow n (c .body)) cs) t)) r
+    go true r = rw (callsBelow-outside n (c .body) (and-left (callsBelow n (c .body)) (all (λ c. callsBelow n (c .body)) cs) t)) r
     go false r = r
 
 -- so for them a table that goes on past the n predicates of the book is as good as one that does not
 pub good-cut : (table : List ℕ) (n m : ℕ) → n ≤ m → (cs : List Clause) → all (λ c. callsBelow n (c .body)) cs ≡ true → (p a : ℕ)
     → good (tableIn table m) cs p a ≡ good (tableIn table n) cs p a
-unfolding outside
-good-cut table n m h cs t p a =
-    good-same (tableIn table m) (tableIn table n) (outside n)
-    (λ q e. let l = ltb-true q n (not-false (ltb q n) e) in tableIn-at table m q (omega arith) ∙ sym (tableIn-at table n q l))
-    cs p (touched-inside n cs p t) a
+good-cut table n m h cs t p a = good-same (tableIn table m) (tableIn table n) (outside n) (tableIn-cut table n m h) cs p (touched-inside n cs p t) a
 
 -- ---- the table after a round
 
