@@ -20,7 +20,7 @@ use Rattle.ordering.proofs.Laws.Greedy.{good-parts, good-cons, allAfter
 -- ---- each call
 
 -- what the first call is, or what one of the others is
-called-case : (P : ℕ → ℕ → Type 0) (x : Asked) (xs : List Asked) (q a : ℕ) → called q a (x ∷ xs) ≡ true → P (x .pred) (x .pattern) → (called q a xs ≡ true → P q a) → P q a
+pub called-case : (P : ℕ → ℕ → Type 0) (x : Asked) (xs : List Asked) (q a : ℕ) → called q a (x ∷ xs) ≡ true → P (x .pred) (x .pattern) → (called q a xs ≡ true → P q a) → P q a
 called-case P x xs q a e f g =
     or-case (eqb (x .pred) q && eqb (x .pattern) a) (called q a xs) e
     (λ t.

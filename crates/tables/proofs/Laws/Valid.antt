@@ -1,5 +1,5 @@
 -- What a well-formed book says of its predicates: their arities and masks are in range, none has both clauses and MO, and every clause is of a
--- predicate of the book and calls such only. Assumes nothing.
+-- predicate of the book and calls such only, each with as many arguments as its arity. Assumes nothing.
 use mathlib.Core.Path.{_≡_, refl}
 use mathlib.Core.Bool.{Bool, true, false, cond, _||_}
 use mathlib.Core.List.{List, [], _∷_}
@@ -13,12 +13,13 @@ use Rattle.masks.specs.Lists.{any, all}
 use Rattle.masks.specs.Constraint.{inRange}
 use Rattle.masks.proofs.Laws.Logic.{clash, and-left, and-right, or-case}
 use Rattle.masks.proofs.Laws.Lists.{all-mono, all-at}
-use Rattle.book.specs.Book.{Mode, Clause, Book}
+use Rattle.book.specs.Book.{Call, Mode, Clause, Book}
 use Rattle.book.specs.Format.{within, hasMode}
 use Rattle.book.specs.Encode.{callFits, modeFits, clauseFits, WellFormed}
 use Rattle.book.specs.declared.range.Range.the-variants.{Argument, HeadArgument}
-use Rattle.book.proofs.Laws.Trip.{call-known, mode-range, clause-head, clause-free, clause-goals}
+use Rattle.book.proofs.Laws.Trip.{call-known, call-size, mode-range, clause-head, clause-free, clause-goals}
 use Rattle.book.proofs.Laws.Bound.{arities-at}
+use Rattle.ordering.specs.Good.{at}
 use Rattle.ordering.specs.Held.{callsBelow}
 use Rattle.tables.specs.Table.{modeOf, defined}
 
@@ -68,6 +69,20 @@ defined-fits ar ms (c ∷ cs) t p d =
     (rw (← q) (head-known ar ms c f), rw (← q) (clause-free ar ms c f)))
     (defined-fits ar ms cs (and-right (clauseFits ar ms c) (all (clauseFits ar ms) cs) t) p)
 
+-- ---- a body or query
+
+module _ (ar : List ℕ) (body : List Call) (t : all (callFits Argument ar) body ≡ true) (p : ℕ) (h : p < length body) where
+  goal-fits : callFits Argument ar (at body p) ≡ true
+  unfolding at
+  goal-fits = all-at (callFits Argument ar) (record { pred = 0; args = [] }) body p h t
+
+  pub goal-known : at body p .pred < length ar
+  unfolding within
+  goal-known = ltb-true (at body p .pred) (length ar) (call-known Argument ar (at body p) goal-fits)
+
+  pub goal-size : length (at body p .args) ≡ getD ar (at body p .pred) 0
+  goal-size = call-size Argument ar (at body p) goal-fits
+
 -- ---- a book
 
 module _ (B : Book) (w : WellFormed B) where
@@ -94,6 +109,9 @@ module _ (B : Book) (w : WellFormed B) where
 
     pub clause-own : getD (B .clauses) i d .head .pred < length (B .arities)
     clause-own = head-known (B .arities) (B .modes) (getD (B .clauses) i d) clause-fits
+
+    pub goals-fit : all (callFits Argument (B .arities)) (getD (B .clauses) i d .body) ≡ true
+    goals-fit = clause-goals (B .arities) (B .modes) (getD (B .clauses) i d) clause-fits
 
     pub clause-calls : callsBelow (length (B .arities)) (getD (B .clauses) i d .body) ≡ true
     clause-calls = body-known (B .arities) (B .modes) (getD (B .clauses) i d) clause-fits
