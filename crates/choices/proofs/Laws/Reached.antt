@@ -255,14 +255,25 @@ module _ (B : Book) (χ : Choice) where
     reached-by f s g h p a =
         same (f p a) (marked (reached B χ) p a) (λ e. reached-complete (s p a e)) (λ e. closed-reaches f g h (reached-sound p a e))
 
--- ---- choices that agree on what one reaches: the other reaches it too
+-- ---- choices that agree on what one of them reaches reach the same
 
-module _ (B : Book) (χ χ′ : Choice) (query : χ .forQuery ≡ χ′ .forQuery)
-    (clauses : (k a : ℕ) → k < length (B .clauses) → Reaches B χ (clause B k .head .pred) a → χ .forClause k a ≡ χ′ .forClause k a)
-  where
-    pub reaches-agree : {p a : ℕ} → Reaches B χ p a → Reaches B χ′ p a
-    unfolding queryCalls clauseCalls
-    reaches-agree (by-query {q} {b} t) = by-query (subst (λ (σ : List ℕ). called q b (asks (B .query) nothing σ) ≡ true) query t)
-    reaches-agree (by-clause {a} {q} {b} k l r t) =
-        by-clause k l (reaches-agree r)
-        (subst (λ (σ : List ℕ). called q b (asks (clause B k .body) (headBound (clause B k .head .args) a) σ) ≡ true) (clauses k a l r) t)
+module _ (B : Book) (χ χ′ : Choice) (query : χ .forQuery ≡ χ′ .forQuery) where
+  same-query : (q b : ℕ) → called q b (queryCalls B χ) ≡ true → called q b (queryCalls B χ′) ≡ true
+  unfolding queryCalls
+  same-query q b = subst (λ (σ : List ℕ). called q b (asks (B .query) nothing σ) ≡ true) query
+
+  same-clause : (k a q b : ℕ) → χ .forClause k a ≡ χ′ .forClause k a → called q b (clauseCalls B χ k a) ≡ true → called q b (clauseCalls B χ′ k a) ≡ true
+  unfolding clauseCalls
+  same-clause k a q b = subst (λ (σ : List ℕ). called q b (asks (clause B k .body) (headBound (clause B k .head .args) a) σ) ≡ true)
+
+  -- on what the first reaches
+  pub reaches-agree : ((k a : ℕ) → k < length (B .clauses) → Reaches B χ (clause B k .head .pred) a → χ .forClause k a ≡ χ′ .forClause k a)
+      → {p a : ℕ} → Reaches B χ p a → Reaches B χ′ p a
+  reaches-agree h (by-query {q} {b} t) = by-query (same-query q b t)
+  reaches-agree h (by-clause {a} {q} {b} k l r t) = by-clause k l (reaches-agree h r) (same-clause k a q b (h k a l r) t)
+
+  -- on what the second reaches
+  pub reaches-back : ((k a : ℕ) → k < length (B .clauses) → Reaches B χ′ (clause B k .head .pred) a → χ .forClause k a ≡ χ′ .forClause k a)
+      → {p a : ℕ} → Reaches B χ p a → Reaches B χ′ p a
+  reaches-back h (by-query {q} {b} t) = by-query (same-query q b t)
+  reaches-back h (by-clause {a} {q} {b} k l r t) = let s = reaches-back h r in by-clause k l s (same-clause k a q b (h k a l s) t)

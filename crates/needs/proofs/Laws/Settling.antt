@@ -28,6 +28,30 @@ use Rattle.needs.specs.Round.{Given}
 use Rattle.needs.proofs.Laws.Calls.{calling-touched}
 use Rattle.ordering.proofs.Laws.Held.{callsBelow-mono}
 
+-- ---- the clauses of a book in an array
+
+module _ (B : Book) (w : WellFormed B) (rules : List ℕ) (clauses : ℕ) (is : B .clauses ≡ clausesOf rules clauses) where
+  pub clauses-count : length (B .clauses) ≡ clauses
+  clauses-count = ap length is ∙ clausesOf-length rules clauses
+
+  pub clause-is : (d : Clause) (k : ℕ) → k < clauses → getD (B .clauses) k d ≡ clauseAt rules k
+  clause-is d k h = ap (λ (cs : List Clause). getD cs k d) is ∙ clausesOf-at rules d clauses k h
+
+  pub known-clauses : Known rules clauses
+  known-clauses =
+      let n = clauses-count in
+      let m = leb-true (length (B .arities)) maxPredicates (w .fewPredicates) in
+      record {
+        heads = λ k h.
+            let l = subst (λ (c : Clause). c .head .pred < length (B .arities)) (clause-is (clauseAt rules k) k h) (clause-own B w (clauseAt rules k) k (omega arith)) in
+            omega arith;
+        bodies = λ k h.
+            callsBelow-mono (length (B .arities)) maxPredicates m (clauseAt rules k .body)
+            (subst (λ (c : Clause). callsBelow (length (B .arities)) (c .body) ≡ true) (clause-is (clauseAt rules k) k h) (clause-calls B w (clauseAt rules k) k (omega arith)));
+      }
+
+-- ---- a book as it is lent
+
 module _ (preds : ℕ) (arities modes : List ℕ) (clauses : ℕ) (rules : List ℕ) (as-many : length (take preds arities) ≡ preds) (few : clauses ≤ maxClauses)
     (w : WellFormed (bookIn preds arities modes clauses rules))
   where
@@ -46,26 +70,12 @@ module _ (preds : ℕ) (arities modes : List ℕ) (clauses : ℕ) (rules : List 
     read-clauses = let e : min clauses maxClauses ≡ clauses = omega arith in ap (clausesOf rules) e
 
     read-count : length (B .clauses) ≡ clauses
-    read-count = ap length read-clauses ∙ clausesOf-length rules clauses
+    read-count = clauses-count B w rules clauses read-clauses
 
     -- ---- the clauses
 
-    clause-is : (k : ℕ) → k < clauses → getD (B .clauses) k (clauseAt rules k) ≡ clauseAt rules k
-    clause-is k h = ap (λ (cs : List Clause). getD cs k (clauseAt rules k)) read-clauses ∙ clausesOf-at rules (clauseAt rules k) clauses k h
-
     pub read-known : Known rules clauses
-    read-known =
-        let n = read-count in
-        let m = read-few in
-        let e = read-size in
-        record {
-          heads = λ k h.
-              let l = subst (λ (c : Clause). c .head .pred < length (B .arities)) (clause-is k h) (clause-own B w (clauseAt rules k) k (omega arith)) in
-              omega arith;
-          bodies = λ k h.
-              callsBelow-mono (length (B .arities)) maxPredicates (omega arith) (clauseAt rules k .body)
-              (subst (λ (c : Clause). callsBelow (length (B .arities)) (c .body) ≡ true) (clause-is k h) (clause-calls B w (clauseAt rules k) k (omega arith)));
-        }
+    read-known = known-clauses B w rules clauses read-clauses
 
     pub read-given : {own : List ℕ} → Owns rules clauses own → Given B arities rules own
     unfolding bookIn

@@ -50,9 +50,12 @@ mode-none (m ∷ ms) p e = go (eqb (m .pred) p) (mode-none ms p) e
 
 -- ---- a clause
 
-body-known : (ar : List ℕ) (ms : List Mode) (c : Clause) → clauseFits ar ms c ≡ true → callsBelow (length ar) (c .body) ≡ true
+pub calls-known : (ar : List ℕ) (body : List Call) → all (callFits Argument ar) body ≡ true → callsBelow (length ar) body ≡ true
 unfolding callsBelow within
-body-known ar ms c t = all-mono (callFits Argument ar) (λ s. ltb (s .pred) (length ar)) (λ s. call-known Argument ar s) (c .body) (clause-goals ar ms c t)
+calls-known ar body = all-mono (callFits Argument ar) (λ s. ltb (s .pred) (length ar)) (λ s. call-known Argument ar s) body
+
+body-known : (ar : List ℕ) (ms : List Mode) (c : Clause) → clauseFits ar ms c ≡ true → callsBelow (length ar) (c .body) ≡ true
+body-known ar ms c t = calls-known ar (c .body) (clause-goals ar ms c t)
 
 head-known : (ar : List ℕ) (ms : List Mode) (c : Clause) → clauseFits ar ms c ≡ true → c .head .pred < length ar
 unfolding within
@@ -102,6 +105,9 @@ module _ (B : Book) (w : WellFormed B) where
   bodies-known =
       all-mono (clauseFits (B .arities) (B .modes)) (λ c. callsBelow (length (B .arities)) (c .body)) (body-known (B .arities) (B .modes)) (B .clauses)
       (w .clausesFit)
+
+  pub query-calls : callsBelow (length (B .arities)) (B .query) ≡ true
+  query-calls = calls-known (B .arities) (B .query) (w .queryFits)
 
   module _ (d : Clause) (i : ℕ) (h : i < length (B .clauses)) where
     clause-fits : clauseFits (B .arities) (B .modes) (getD (B .clauses) i d) ≡ true
