@@ -11,6 +11,7 @@ use native.Mathlib.Omega.{arith}
 use lib.Dec.{eqb}
 use lib.ListN.{length}
 use borrow.Author.Tests.{eqb-true, eqb-false, eq-eqb, ne-eqb}
+use Rattle.masks.specs.Lists.{joined}
 use Rattle.ordering.specs.Orders.{In, Distinct, Rearranges, LexLt, Sorted, find, without, each, ordersOf, count, orders}
 use Rattle.masks.proofs.Laws.Logic.{byBool, clash}
 
@@ -247,7 +248,7 @@ pub right-takes : (n : ℕ) (σ : List ℕ) → Rearranges n σ → Takes (count
 right-takes n σ r =
     takes-all (count 0 n) σ (r .long ∙ sym (count-length 0 n)) (λ p m. let h = r .below p m in in-count 0 n p (omega arith) (omega arith)) (r .once)
 
--- ---- the members of lists of orders
+-- ---- the members of lists put together
 
 module _ {A : Type 0} (x : A) where
   append-in : (s t : List A) → In x (s ++ t) → In x s ⊎ In x t
@@ -263,6 +264,29 @@ module _ {A : Type 0} (x : A) where
   append-right : (s t : List A) → In x t → In x (s ++ t)
   append-right [] t m = m
   append-right (y ∷ s) t m = inr (append-right s t m)
+
+  -- a list that stands there only where a test holds
+  pub cond-in : (b : Bool) (l : List A) → In x (cond b l []) → (b ≡ true) × In x l
+  cond-in true l m = (refl, m)
+  cond-in false l m = absurd m
+
+  pub in-cond : (b : Bool) (l : List A) → b ≡ true → In x l → In x (cond b l [])
+  in-cond b l e m = rw e m
+
+  -- lists one after the other
+  module _ (f : ℕ → List A) where
+    pub in-joined : (n k : ℕ) → k < n → In x (f k) → In x (joined f n)
+    in-joined zero k h m = absurd (omega arith)
+    in-joined (suc n) k h m =
+        byBool (eqb k n) (λ t. append-right (joined f n) (f n) (subst (λ (i : ℕ). In x (f i)) (eqb-true k n t) m))
+        (λ t. let ne : k ≡ n → ⊥ = eqb-false k n t in append-left (joined f n) (f n) (in-joined n k (omega arith) m))
+
+    pub joined-in : (n : ℕ) → In x (joined f n) → (k : ℕ) × (k < n) × In x (f k)
+    joined-in zero m = absurd m
+    joined-in (suc n) m =
+        ⊎-elim (λ i. let r = joined-in n i in (r .0, omega (arith, r .1), r .2)) (λ i. (n, omega arith, i)) (append-in (joined f n) (f n) m)
+
+-- ---- the members of lists of orders
 
 map-in : (x : ℕ) (σ : List ℕ) (l : List (List ℕ)) → In σ (map (λ τ. x ∷ τ) l) → (τ : List ℕ) × (σ ≡ x ∷ τ) × In τ l
 map-in x σ [] m = absurd m

@@ -1,13 +1,14 @@
--- Sums over the numbers below n: where no term is larger, the sum is not, and where the sum is no smaller the terms are the same. Assumes nothing.
+-- Sums over the numbers below n: where no term is larger, the sum is not, and where the sum is no smaller the terms are the same. How many numbers pass
+-- a test is such a sum. Assumes nothing.
 use mathlib.Core.Path.{_≡_, refl, sym, ap, ap₂, _∙_}
 use mathlib.Core.Bool.{Bool, true, false}
 use mathlib.Core.List.{List}
 use Prim.Native.Nat.{ℕ, zero, suc, _+_, _*_, _≤_, _<_}
-use native.Mathlib.Nat.{suc-mul}
+use native.Mathlib.Nat.{suc-mul, mul-zero, mul-add}
 use native.Mathlib.Omega.{arith}
 use lib.Dec.{eqb}
 use lib.ListN.{length, length-append}
-use borrow.Author.Tests.{eqb-true, eqb-false}
+use borrow.Author.Tests.{eqb-true, eqb-false, ne-eqb}
 use Rattle.masks.specs.Lists.{joined}
 use Rattle.ordering.specs.Adorn.{bit}
 use Rattle.tables.specs.Table.{sumBelow}
@@ -47,6 +48,14 @@ pub sum-most : (f : ℕ → ℕ) (m n : ℕ) → ((i : ℕ) → f i ≤ m) → s
 sum-most f m zero h = omega arith
 sum-most f m (suc n) h = omega (arith, h n, sum-most f m n h, suc-mul n m)
 
+pub sum-add : (f g : ℕ → ℕ) (n : ℕ) → sumBelow (λ i. f i + g i) n ≡ sumBelow f n + sumBelow g n
+sum-add f g zero = refl
+sum-add f g (suc n) = omega (arith, sum-add f g n)
+
+pub sum-times : (c : ℕ) (f : ℕ → ℕ) (n : ℕ) → sumBelow (λ i. c * f i) n ≡ c * sumBelow f n
+sum-times c f zero = omega (arith, mul-zero c)
+sum-times c f (suc n) = omega (arith, sum-times c f n, mul-add c (sumBelow f n) (f n))
+
 -- ---- how many numbers below n pass a test
 
 pub howMany : (ℕ → Bool) → ℕ → ℕ
@@ -71,3 +80,29 @@ pub howMany-stuck : (q r : ℕ → Bool) (n : ℕ) → ((a : ℕ) → q a ≡ tr
 unfolding howMany
 howMany-stuck q r n h e a l =
     bit-inj (q a) (r a) (sum-stuck (λ a. bit (q a)) (λ a. bit (r a)) n (λ x m. bit-mono (q x) (r x) (h x)) e a l)
+
+-- a sum of terms that are at most c, and 0 where the test fails
+pub howMany-times : (c : ℕ) (q : ℕ → Bool) (f : ℕ → ℕ) (n : ℕ) → ((i : ℕ) → i < n → f i ≤ c * bit (q i)) → sumBelow f n ≤ c * howMany q n
+unfolding howMany
+howMany-times c q f n h = omega (arith, sum-le f (λ i. c * bit (q i)) n h, sum-times c (λ i. bit (q i)) n)
+
+-- none below x is x, and one at all
+howMany-none : (x n : ℕ) → n ≤ x → howMany (eqb x) n ≡ 0
+unfolding howMany
+howMany-none x zero h = refl
+howMany-none x (suc n) h = let ne : x ≡ n → ⊥ = λ e. omega arith in omega (arith, howMany-none x n (omega arith), ap bit (ne-eqb x n ne))
+
+howMany-one : (x n : ℕ) → howMany (eqb x) n ≤ 1
+unfolding howMany
+howMany-one x zero = omega arith
+howMany-one x (suc n) =
+    byBool (eqb x n)
+    (λ t. let e = eqb-true x n t in omega (arith, howMany-none x n (omega arith), ap bit t))
+    (λ t. omega (arith, howMany-one x n, ap bit t))
+
+-- each of m numbers has one value of h: counted for each value below n, they are m at most
+pub howMany-parted : (h : ℕ → ℕ) (n m : ℕ) → sumBelow (λ p. howMany (λ k. eqb (h k) p) m) n ≤ m
+unfolding howMany
+howMany-parted h n zero = omega (arith, sum-most (λ p. 0) 0 n (λ p. omega arith))
+howMany-parted h n (suc m) =
+    omega (arith, sum-add (λ p. howMany (λ k. eqb (h k) p) m) (λ p. bit (eqb (h m) p)) n, howMany-parted h n m, howMany-one (h m) n)
