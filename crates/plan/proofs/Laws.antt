@@ -1,1 +1,2 @@
 -- The laws of this crate's definitions and loops.
+pub mod Planned

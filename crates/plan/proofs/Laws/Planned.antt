@@ -1,0 +1,196 @@
+-- The plan of a book that is lent. Its clauses call its own predicates, so the orders found against the table as it is held are those found against the
+-- final table; what they reach, they reach in good orders, so they are the orders chosen; and the rows come out as the definition has them. Assumes
+-- nothing.
+use mathlib.Core.Path.{_≡_, refl, sym, ap, ap₂, _∙_, subst}
+use mathlib.Core.Bool.{Bool, true, false, cond, _&&_}
+use mathlib.Core.List.{List, [], _∷_, _++_, append-nil}
+use mathlib.Core.Option.{Option, none, some}
+use Prim.Native.Nat.{ℕ, _+_, _*_, _^_, _≤_, _<_}
+use native.Mathlib.Omega.{arith}
+use lib.Count.{ones}
+use lib.Dec.{eqb, ltb}
+use lib.ListN.{length, getD, length-append}
+use borrow.Author.Tests.{eqb-true, leb-true, lt-ltb, le-ltb}
+use Rattle.masks.specs.Limits.{allPatterns}
+use Rattle.masks.specs.Lists.{joined}
+use Rattle.masks.specs.Set.{bitAt}
+use Rattle.book.specs.Limits.{maxPredicates, maxClauses}
+use Rattle.book.specs.Book.{Call, Clause, Book}
+use Rattle.book.specs.Encode.{run}
+use Rattle.book.specs.Held.{clauseAt}
+use Rattle.ordering.specs.Adorn.{Table, Bound, nothing, headBound}
+use Rattle.ordering.specs.Good.{firstGood, isSome}
+use Rattle.ordering.specs.Held.{tableIn, callsBelow, orNone}
+use Rattle.tables.specs.Table.{sumBelow, final}
+use Rattle.needs.specs.Sets.{Owns, Known}
+use Rattle.choices.specs.Choice.{clause, Choice, Reaches}
+use Rattle.choices.specs.Reached.{marked, reached}
+use Rattle.choices.specs.Plan.{orStanding, firstChoice, chosen, Row, rowsFor, rowsUnder, rowsOf, planRows, encQuery, encRow, image}
+use Rattle.reach.specs.Marked.{markAt, taken, ReachedIn}
+use Rattle.plan.specs.Lent.{Lent, EachCallable, rowBy, clauseRows, patternRows, planBytes, rowsLength, planLength}
+use Rattle.masks.proofs.Laws.Logic.{byBool, byRange, same, false-of, clash, and-left, and-right}
+use Rattle.masks.proofs.Laws.Lists.{joined-cong, joined-cut}
+use Rattle.book.proofs.Laws.Encode.{run-joined}
+use Rattle.ordering.proofs.Laws.Good.{first-is-least}
+use Rattle.ordering.proofs.Laws.Held.{callsBelow-mono, first-cut}
+use Rattle.tables.proofs.Laws.Sums.{howMany, sum-cong, length-joined, howMany-cut, howMany-each, ones-howMany}
+use Rattle.tables.proofs.Laws.Valid.{query-calls, clause-calls}
+use Rattle.needs.proofs.Laws.Settling.{clauses-count, clause-is, known-clauses}
+use Rattle.choices.proofs.Laws.Reached.{reaches-low, reached-iff, reaches-agree, reaches-back}
+use Rattle.choices.proofs.Laws.Moded.{chosen-choice, reached-good}
+
+-- an order that was found is the one chosen
+standing-none : (n : ℕ) (o : Option (List ℕ)) → isSome o ≡ true → orStanding n o ≡ orNone o
+standing-none n none e = clash e refl
+standing-none n (some σ) e = refl
+
+module _ (B : Book) (preds clauses : ℕ) (rules table : List ℕ) (l : Lent B preds clauses rules table) where
+  abbrev held : Table
+  held = tableIn table maxPredicates
+
+  pub few-preds : preds ≤ maxPredicates
+  few-preds = let e = l .preds· in let h = leb-true (length (B .arities)) maxPredicates (l .well .fewPredicates) in omega arith
+
+  count : length (B .clauses) ≡ clauses
+  count = clauses-count B (l .well) rules clauses (l .clauses·)
+
+  pub lent-known : Known rules clauses
+  lent-known = known-clauses B (l .well) rules clauses (l .clauses·)
+
+  here : (k : ℕ) → k < clauses → clause B k ≡ clauseAt rules k
+  unfolding clause
+  here k h = clause-is B (l .well) rules clauses (l .clauses·) (record { head = record { pred = 0; args = [] }; body = [] }) k h
+
+  -- ---- the orders found are those against the final table
+
+  order : (body : List Call) (b : Bound) → callsBelow (length (B .arities)) body ≡ true → firstGood held body b ≡ firstGood (final B) body b
+  order body b t =
+      first-cut table preds maxPredicates few-preds body b (subst (λ (n : ℕ). callsBelow n body ≡ true) (l .preds·) t)
+      ∙ ap (λ (T : Table). firstGood T body b) (l .table·)
+
+  pub query-order : firstGood held (clauseAt rules maxClauses .body) nothing ≡ firstGood (final B) (B .query) nothing
+  query-order =
+      ap (λ (body : List Call). firstGood held body nothing) (sym (l .query·)) ∙ order (B .query) nothing (query-calls B (l .well))
+
+  pub query-below : callsBelow maxPredicates (clauseAt rules maxClauses .body) ≡ true
+  query-below =
+      subst (λ (body : List Call). callsBelow maxPredicates body ≡ true) (l .query·)
+      (callsBelow-mono (length (B .arities)) maxPredicates (let e = l .preds· in let h = few-preds in omega arith) (B .query) (query-calls B (l .well)))
+
+  clause-order : (k a : ℕ) → k < clauses
+      → firstGood held (clause B k .body) (headBound (clause B k .head .args) a) ≡ firstGood (final B) (clause B k .body) (headBound (clause B k .head .args) a)
+  unfolding clause
+  clause-order k a h =
+      order (clause B k .body) (headBound (clause B k .head .args) a)
+      (clause-calls B (l .well) (record { head = record { pred = 0; args = [] }; body = [] }) k (let e = count in omega arith))
+
+  -- ---- a query that has a good order
+
+  module _ (found : isSome (firstGood (final B) (B .query) nothing) ≡ true) where
+    same-query : chosen B .forQuery ≡ taken held B .forQuery
+    unfolding chosen firstChoice taken
+    same-query =
+        standing-none (length (B .query)) (firstGood (final B) (B .query) nothing) found
+        ∙ ap orNone (sym (order (B .query) nothing (query-calls B (l .well))))
+
+    same-clause : (k a : ℕ) → k < length (B .clauses) → Reaches B (chosen B) (clause B k .head .pred) a → chosen B .forClause k a ≡ taken held B .forClause k a
+    unfolding chosen firstChoice taken
+    same-clause k a h r =
+        standing-none (length (clause B k .body)) (firstGood (final B) (clause B k .body) (headBound (clause B k .head .args) a))
+        (reached-good B (l .well) found k a h r)
+        ∙ ap orNone (sym (clause-order k a (let e = count in omega arith)))
+
+    taken-reaches : {p a : ℕ} → Reaches B (taken held B) p a → Reaches B (chosen B) p a
+    taken-reaches = reaches-back B (taken held B) (chosen B) (sym same-query) (λ k a h r. sym (same-clause k a h r))
+
+    chosen-reaches : {p a : ℕ} → Reaches B (chosen B) p a → Reaches B (taken held B) p a
+    chosen-reaches = reaches-agree B (chosen B) (taken held B) same-query same-clause
+
+    module _ (own words : List ℕ) (o : Owns rules clauses own) (m : ReachedIn rules clauses table words) where
+      -- the words mark what the chosen orders reach
+      reaches-mark : (p a : ℕ) → markAt words p a ≡ true → Reaches B (chosen B) p a
+      reaches-mark p a e = taken-reaches (m B (l .clauses·) (l .query·) p a .0 e)
+
+      marks : (p a : ℕ) → markAt words p a ≡ marked (reached B (chosen B)) p a
+      unfolding chosen
+      marks p a =
+          let f = reached-iff B (chosen B) (l .well) (chosen-choice (final B) B) p a in
+          same (markAt words p a) (marked (reached B (chosen B)) p a)
+          (λ e. f .1 (reaches-mark p a e))
+          (λ e. m B (l .clauses·) (l .query·) p a .1 (chosen-reaches (f .0 e)))
+
+      -- ---- a row
+
+      row-places : (k a : ℕ) → k < clauses → Reaches B (chosen B) (clauseAt rules k .head .pred) a → rowBy rules table k a .places ≡ chosen B .forClause k a
+      unfolding rowBy taken
+      row-places k a h r =
+          let e = here k h in
+          ap (λ (c : Clause). orNone (firstGood held (c .body) (headBound (c .head .args) a))) (sym e)
+          ∙ sym (same-clause k a (let n = count in omega arith) (subst (λ (c : Clause). Reaches B (chosen B) (c .head .pred) a) (sym e) r))
+
+      row-is : (k a : ℕ) → k < clauses → Reaches B (chosen B) (clauseAt rules k .head .pred) a
+          → encRow (rowBy rules table k a) ≡ run encRow (record { clause· = k; pattern = a; places = chosen B .forClause k a } ∷ [])
+      unfolding rowBy
+      row-is k a h r =
+          ap (λ (σ : List ℕ). encRow (record { clause· = k; pattern = a; places = σ })) (row-places k a h r)
+          ∙ sym (append-nil (encRow (record { clause· = k; pattern = a; places = chosen B .forClause k a })))
+
+      -- ---- the rows of a predicate under a pattern
+
+      rows-one : (p a k : ℕ) → p < maxPredicates → markAt words p a ≡ true → k < clauses
+          → cond (bitAt (getD own p 0) k) (encRow (rowBy rules table k a)) []
+          ≡ run encRow (cond (eqb (clause B k .head .pred) p) (record { clause· = k; pattern = a; places = chosen B .forClause k a } ∷ []) [])
+      rows-one p a k q e h =
+          let c = here k h in
+          let w : bitAt (getD own p 0) k ≡ eqb (clause B k .head .pred) p =
+          o p q k ∙ rw (lt-ltb k clauses h) (ap (λ (d : Clause). eqb (d .head .pred) p) (sym c)) in
+          byBool (eqb (clause B k .head .pred) p)
+          (λ t. rw (w, t)
+          (row-is k a h
+          (subst (λ (r : ℕ). Reaches B (chosen B) r a) (sym (eqb-true (clause B k .head .pred) p t) ∙ ap (λ (d : Clause). d .head .pred) c) (reaches-mark p a e))))
+          (λ t. rw (w, t))
+
+      rows-cell : (p a : ℕ) → p < maxPredicates → markAt words p a ≡ true → clauseRows rules table (getD own p 0) a ≡ run encRow (rowsFor B (chosen B) p a)
+      unfolding clauseRows rowsFor
+      rows-cell p a q e =
+          joined-cut (λ k. cond (bitAt (getD own p 0) k) (encRow (rowBy rules table k a)) []) clauses maxClauses (l .few)
+          (λ k h. rw (o p q k, le-ltb k clauses h))
+          ∙ joined-cong (λ k. cond (bitAt (getD own p 0) k) (encRow (rowBy rules table k a)) [])
+          (λ k. run encRow (cond (eqb (clause B k .head .pred) p) (record { clause· = k; pattern = a; places = chosen B .forClause k a } ∷ []) [])) clauses
+          (λ k h. rows-one p a k q e h)
+          ∙ ap (joined (λ k. run encRow (cond (eqb (clause B k .head .pred) p) (record { clause· = k; pattern = a; places = chosen B .forClause k a } ∷ []) []))) (sym count)
+          ∙ sym (run-joined encRow (λ k. cond (eqb (clause B k .head .pred) p) (record { clause· = k; pattern = a; places = chosen B .forClause k a } ∷ []) []) (length (B .clauses)))
+
+      rows-pattern : (p a : ℕ) → p < maxPredicates → cond (bitAt (getD words p 0) a) (clauseRows rules table (getD own p 0) a) []
+          ≡ run encRow (cond (marked (reached B (chosen B)) p a) (rowsFor B (chosen B) p a) [])
+      rows-pattern p a q =
+          let w = marks p a in
+          byBool (marked (reached B (chosen B)) p a)
+          (λ t. rw (w, t) (rows-cell p a q (w ∙ t)))
+          (λ t. rw (w, t))
+
+      rows-predicate : (p : ℕ) → p < maxPredicates → patternRows rules table (getD own p 0) (getD words p 0)
+          ≡ run encRow (joined (λ a. cond (marked (reached B (chosen B)) p a) (rowsFor B (chosen B) p a) []) allPatterns)
+      unfolding patternRows
+      rows-predicate p q =
+          joined-cong (λ a. cond (bitAt (getD words p 0) a) (clauseRows rules table (getD own p 0) a) [])
+          (λ a. run encRow (cond (marked (reached B (chosen B)) p a) (rowsFor B (chosen B) p a) [])) allPatterns (λ a h. rows-pattern p a q)
+          ∙ sym (run-joined encRow (λ a. cond (marked (reached B (chosen B)) p a) (rowsFor B (chosen B) p a) []) allPatterns)
+
+      -- ---- all rows, and the plan
+
+      rows-all : joined (λ p. patternRows rules table (getD own p 0) (getD words p 0)) preds ≡ run encRow (planRows B)
+      unfolding planRows rowsOf rowsUnder
+      rows-all =
+          joined-cong (λ p. patternRows rules table (getD own p 0) (getD words p 0))
+          (λ p. run encRow (joined (λ a. cond (marked (reached B (chosen B)) p a) (rowsFor B (chosen B) p a) []) allPatterns)) preds
+          (λ p h. rows-predicate p (let f = few-preds in omega arith))
+          ∙ ap (joined (λ p. run encRow (joined (λ a. cond (marked (reached B (chosen B)) p a) (rowsFor B (chosen B) p a) []) allPatterns))) (sym (l .preds·))
+          ∙ sym (run-joined encRow (λ p. joined (λ a. cond (marked (reached B (chosen B)) p a) (rowsFor B (chosen B) p a) []) allPatterns) (length (B .arities)))
+
+      pub plan-bytes : (σ : List ℕ) → σ ≡ orNone (firstGood held (clauseAt rules maxClauses .body) nothing) → planBytes σ preds rules table own words ≡ image B
+      unfolding planBytes image taken
+      plan-bytes σ e =
+          ap₂ {C = List ℕ} _++_
+          (ap encQuery (e ∙ ap (λ (body : List Call). orNone (firstGood held body nothing)) (sym (l .query·)) ∙ sym same-query))
+          rows-all
