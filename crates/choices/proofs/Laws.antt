@@ -1,3 +1,4 @@
 -- The laws of this crate's definitions.
 pub mod Reached
+pub mod Moded
 pub mod Examples
