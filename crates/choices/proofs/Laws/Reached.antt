@@ -1,5 +1,5 @@
--- The patterns reached, as they are worked out, are those that the relation reaches. Each mark is of a pattern reached, since each call is; and a step
--- that goes on marks a pattern, of which there are so many, so the marks end closed under the calls. Assumes nothing.
+-- The patterns reached, as they are worked out, are those that the relation reaches. Each mark is of a pattern reached, since each call is; and a
+-- step that goes on marks a pattern, of which there are so many, so the marks end closed under the calls. Assumes nothing.
 use mathlib.Core.Path.{_≡_, refl, sym, ap, _∙_, subst}
 use mathlib.Core.Bool.{Bool, true, false, cond, _&&_, _||_, false≢true}
 use mathlib.Core.Logic.{_↔_}
@@ -75,9 +75,9 @@ module _ (M : Marks) where
 
 -- ---- the calls of an order are of predicates of the book, under patterns of so many positions
 
-pub calls-inside : (ar : List ℕ) (body : List Call) → all (callFits Argument ar) body ≡ true → (b : Bound) (σ : List ℕ) → Rearranges (length body) σ
+pub asks-inside : (ar : List ℕ) (body : List Call) → all (callFits Argument ar) body ≡ true → (b : Bound) (σ : List ℕ) → Rearranges (length body) σ
     → (q a : ℕ) → called q a (asks body b σ) ≡ true → (q < length ar) × (a < 2 ^ getD ar q 0)
-calls-inside ar body t b σ r =
+asks-inside ar body t b σ r =
     asks-each (λ q a. (q < length ar) × (a < 2 ^ getD ar q 0)) body b σ
     (λ p c i.
     let h = r .below p i in
@@ -90,9 +90,9 @@ module _ (B : Book) (χ : Choice) where
   -- each is a pattern of its predicate's positions
   pub reaches-inside : WellFormed B → IsChoice B χ → {p a : ℕ} → Reaches B χ p a → (p < length (B .arities)) × (a < 2 ^ getD (B .arities) p 0)
   unfolding clause queryCalls clauseCalls
-  reaches-inside w ok (by-query {q} {b} t) = calls-inside (B .arities) (B .query) (w .queryFits) nothing (χ .forQuery) (ok .query·) q b t
+  reaches-inside w ok (by-query {q} {b} t) = asks-inside (B .arities) (B .query) (w .queryFits) nothing (χ .forQuery) (ok .query·) q b t
   reaches-inside w ok (by-clause {a} {q} {b} k l r t) =
-      calls-inside (B .arities) (clause B k .body) (goals-fit B w (record { head = record { pred = 0; args = [] }; body = [] }) k l)
+      asks-inside (B .arities) (clause B k .body) (goals-fit B w _ k l)
       (headBound (clause B k .head .args) a) (χ .forClause k a) (ok .clause· k a l) q b t
 
   -- marks that are closed under the calls have all that is reached

@@ -1,16 +1,66 @@
--- The clauses of a predicate in a list, and what is told of them, where one clause more stands at the end. Assumes nothing.
+-- The clauses of a predicate in a list, and what is told of them: of each by its number, and where one clause more stands at the end. Assumes
+-- nothing.
 use mathlib.Core.Path.{_≡_, refl, sym, ap, _∙_}
 use mathlib.Core.Bool.{Bool, true, false, cond, _&&_, _||_, and-true, and-false, or-false}
 use mathlib.Core.List.{List, [], _∷_, _++_}
-use Prim.Native.Nat.{ℕ}
+use Prim.Native.Nat.{ℕ, zero, suc, _<_}
+use native.Mathlib.Omega.{arith}
 use lib.Dec.{eqb}
+use lib.ListN.{length, getD}
+use borrow.Author.Tests.{eqb-true, eqb-false, eq-eqb}
 use Rattle.masks.specs.Lists.{any, all}
-use Rattle.masks.proofs.Laws.Lists.{any-append, all-append}
+use Rattle.masks.proofs.Laws.Logic.{and-intro, and-left, and-right}
+use Rattle.masks.proofs.Laws.Lists.{any-append, all-append, any-at}
 use Rattle.book.specs.Book.{Clause}
 use Rattle.ordering.specs.Adorn.{Table}
 use Rattle.ordering.specs.Good.{goodClause}
 use Rattle.tables.specs.Calls.{calls, touched}
 use Rattle.tables.specs.Table.{own, defined, good}
+
+-- ---- a clause by its number
+
+module _ (d : Clause) where
+  module _ (t : Clause → Bool) (p : ℕ) where
+    -- a test of all clauses of p is one of each clause that is of p
+    own-at : (cs : List Clause) → all t (own cs p) ≡ true → (k : ℕ) → k < length cs → getD cs k d .head .pred ≡ p → t (getD cs k d) ≡ true
+    unfolding own
+    own-at [] g k l e = absurd (omega arith)
+    own-at (c ∷ cs) g k l e = go (eqb (c .head .pred) p) refl k (own-at cs) g l e
+      where
+        go : (b : Bool) → eqb (c .head .pred) p ≡ b → (k : ℕ)
+            → (all t (own cs p) ≡ true → (k : ℕ) → k < length cs → getD cs k d .head .pred ≡ p → t (getD cs k d) ≡ true)
+            → all t (cond b (c ∷ own cs p) (own cs p)) ≡ true → k < suc (length cs) → getD (c ∷ cs) k d .head .pred ≡ p → t (getD (c ∷ cs) k d) ≡ true
+        go true q zero r g l e = and-left (t c) (all t (own cs p)) g
+        go true q (suc k) r g l e = r (and-right (t c) (all t (own cs p)) g) k (omega arith) e
+        go false q zero r g l e = absurd (eqb-false (c .head .pred) p q e)
+        go false q (suc k) r g l e = r g k (omega arith) e
+
+    at-own : (cs : List Clause) → ((k : ℕ) → k < length cs → getD cs k d .head .pred ≡ p → t (getD cs k d) ≡ true) → all t (own cs p) ≡ true
+    unfolding own
+    at-own [] h = refl
+    at-own (c ∷ cs) h = go (eqb (c .head .pred) p) refl (at-own cs (λ k l e. h (suc k) (omega arith) e))
+      where
+        go : (b : Bool) → eqb (c .head .pred) p ≡ b → all t (own cs p) ≡ true → all t (cond b (c ∷ own cs p) (own cs p)) ≡ true
+        go true q r = and-intro (h 0 (omega arith) (eqb-true (c .head .pred) p q)) r
+        go false q r = r
+
+  -- "A predicate's pattern is good when all its clauses are good under it."
+  module _ (T : Table) (cs : List Clause) (p a : ℕ) where
+    pub good-at : good T cs p a ≡ true → (k : ℕ) → k < length cs → getD cs k d .head .pred ≡ p → goodClause T (getD cs k d) a ≡ true
+    unfolding good
+    good-at g = own-at (λ c. goodClause T c a) p cs g
+
+    pub at-good : ((k : ℕ) → k < length cs → getD cs k d .head .pred ≡ p → goodClause T (getD cs k d) a ≡ true) → good T cs p a ≡ true
+    unfolding good
+    at-good h = at-own (λ c. goodClause T c a) p cs h
+
+  -- the predicate of a clause has clauses
+  pub defined-at : (cs : List Clause) (k : ℕ) → k < length cs → defined cs (getD cs k d .head .pred) ≡ true
+  unfolding defined
+  defined-at cs k l =
+      any-at (λ c. eqb (c .head .pred) (getD cs k d .head .pred)) d cs k l (eq-eqb (getD cs k d .head .pred) (getD cs k d .head .pred) refl)
+
+-- ---- one clause more
 
 pub own-append : (xs ys : List Clause) (p : ℕ) → own (xs ++ ys) p ≡ own xs p ++ own ys p
 unfolding own

@@ -88,7 +88,7 @@ weight-le B T U h p = go (defined (B .clauses) p)
     go true = howMany-le (admits (entry T p)) (admits (entry U p)) (2 ^ getD (B .arities) p 0) (h p)
     go false = omega arith
 
-trivial-admits : (a : ℕ) → admits trivial a ≡ true
+pub trivial-admits : (a : ℕ) → admits trivial a ≡ true
 unfolding admits
 trivial-admits a = or-left (within 0 a) false (within-zero a)
 
@@ -180,7 +180,7 @@ module _ (B : Book) where
   -- ---- a book that is well formed
 
   module _ (w : WellFormed B) where
-    start-at : (p : ℕ) → p < length (B .arities) → entry (start B) p ≡ firstNeed (modeOf (B .modes) p)
+    pub start-at : (p : ℕ) → p < length (B .arities) → entry (start B) p ≡ firstNeed (modeOf (B .modes) p)
     unfolding start firstNeeds
     start-at p h = getD-values (λ p. firstNeed (modeOf (B .modes) p)) [] (length (B .arities)) p h
 
