@@ -3,3 +3,4 @@ pub mod Reached
 pub mod Moded
 pub mod Examples
 pub mod Rows
+pub mod Plan

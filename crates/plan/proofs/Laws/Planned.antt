@@ -2,15 +2,15 @@
 -- final table; what they reach, they reach in good orders, so they are the orders chosen; and the rows come out as the definition has them. Assumes
 -- nothing.
 use mathlib.Core.Path.{_≡_, refl, sym, ap, ap₂, _∙_, subst}
-use mathlib.Core.Bool.{Bool, true, false, cond, _&&_}
+use mathlib.Core.Bool.{true, false, cond}
 use mathlib.Core.List.{List, [], _∷_, _++_, append-nil}
 use mathlib.Core.Option.{Option, none, some}
-use Prim.Native.Nat.{ℕ, _+_, _*_, _^_, _≤_, _<_}
+use Prim.Native.Nat.{ℕ, _+_, _*_, _≤_, _<_}
 use native.Mathlib.Omega.{arith}
 use lib.Count.{ones}
 use lib.Dec.{eqb, ltb}
 use lib.ListN.{length, getD, length-append}
-use borrow.Author.Tests.{eqb-true, leb-true, lt-ltb, le-ltb}
+use borrow.Author.Tests.{eqb-true, leb-true, ltb-true, lt-ltb, le-ltb}
 use Rattle.masks.specs.Limits.{allPatterns}
 use Rattle.masks.specs.Lists.{joined}
 use Rattle.masks.specs.Set.{bitAt}
@@ -21,19 +21,18 @@ use Rattle.book.specs.Held.{clauseAt}
 use Rattle.ordering.specs.Adorn.{Table, Bound, nothing, headBound}
 use Rattle.ordering.specs.Good.{firstGood, isSome}
 use Rattle.ordering.specs.Held.{tableIn, callsBelow, orNone}
-use Rattle.tables.specs.Table.{sumBelow, final}
+use Rattle.tables.specs.Table.{final}
 use Rattle.needs.specs.Sets.{Owns, Known}
-use Rattle.choices.specs.Choice.{clause, Choice, Reaches}
+use Rattle.choices.specs.Choice.{clause, Reaches}
 use Rattle.choices.specs.Reached.{marked, reached}
-use Rattle.choices.specs.Plan.{orStanding, firstChoice, chosen, Row, rowsFor, rowsUnder, rowsOf, planRows, encQuery, encRow, image}
+use Rattle.choices.specs.Plan.{orStanding, firstChoice, chosen, rowsFor, rowsUnder, rowsOf, planRows, encQuery, encRow, image}
 use Rattle.reach.specs.Marked.{markAt, taken, ReachedIn}
-use Rattle.plan.specs.Lent.{Lent, EachCallable, rowBy, clauseRows, patternRows, planBytes, rowsLength, planLength}
-use Rattle.masks.proofs.Laws.Logic.{byBool, byRange, same, false-of, clash, and-left, and-right}
+use Rattle.plan.specs.Lent.{Lent, rowBy, clauseRows, patternRows, planBytes, rowsLength, planLength}
+use Rattle.masks.proofs.Laws.Logic.{byBool, same, false-of, clash, and-left, and-right}
 use Rattle.masks.proofs.Laws.Lists.{joined-cong, joined-cut}
 use Rattle.book.proofs.Laws.Encode.{run-joined}
-use Rattle.ordering.proofs.Laws.Good.{first-is-least}
 use Rattle.ordering.proofs.Laws.Held.{callsBelow-mono, first-cut}
-use Rattle.tables.proofs.Laws.Sums.{howMany, sum-cong, length-joined, howMany-cut, howMany-each, ones-howMany}
+use Rattle.tables.proofs.Laws.Sums.{howMany, sum-cong, length-joined, howMany-each, ones-below}
 use Rattle.tables.proofs.Laws.Valid.{query-calls, clause-calls}
 use Rattle.needs.proofs.Laws.Settling.{clauses-count, clause-is, known-clauses}
 use Rattle.choices.proofs.Laws.Reached.{reaches-low, reached-iff, reaches-agree, reaches-back}
@@ -194,3 +193,56 @@ module _ (B : Book) (preds clauses : ℕ) (rules table : List ℕ) (l : Lent B p
           ap₂ {C = List ℕ} _++_
           (ap encQuery (e ∙ ap (λ (body : List Call). orNone (firstGood held body nothing)) (sym (l .query·)) ∙ sym same-query))
           rows-all
+
+      -- ---- how long it is
+
+      -- an order has a place for each subgoal
+      row-long : (k a : ℕ) → k < clauses → Reaches B (chosen B) (clauseAt rules k .head .pred) a → length (encRow (rowBy rules table k a)) ≡ 5 + length (clauseAt rules k .body)
+      unfolding rowBy chosen
+      row-long k a h r =
+          let e = ap length (row-places k a h r) in
+          let n = chosen-choice (final B) B .clause· k a (let n = count in omega arith) .long in
+          let c = ap (λ (d : Clause). length (d .body)) (here k h) in
+          omega arith
+
+      cell-long : (p a : ℕ) → p < maxPredicates → markAt words p a ≡ true → length (clauseRows rules table (getD own p 0) a) ≡ rowsLength rules (getD own p 0)
+      unfolding clauseRows rowsLength
+      cell-long p a q e =
+          length-joined (λ k. cond (bitAt (getD own p 0) k) (encRow (rowBy rules table k a)) []) maxClauses
+          ∙ sum-cong (λ k. length (cond (bitAt (getD own p 0) k) (encRow (rowBy rules table k a)) [])) (λ k. cond (bitAt (getD own p 0) k) (5 + length (clauseAt rules k .body)) 0) maxClauses
+          (λ k h. byBool (bitAt (getD own p 0) k)
+          (λ t.
+          let w = sym (o p q k) ∙ t in
+          let s = eqb-true (clauseAt rules k .head .pred) p (and-right (ltb k clauses) (eqb (clauseAt rules k .head .pred) p) w) in
+          let n = ltb-true k clauses (and-left (ltb k clauses) (eqb (clauseAt rules k .head .pred) p) w) in
+          rw t (row-long k a n (subst (λ (r : ℕ). Reaches B (chosen B) r a) (sym s) (reaches-mark p a e))))
+          (λ t. rw t))
+
+      -- a pattern that is marked is one of six positions
+      marks-low : (p a : ℕ) → allPatterns ≤ a → bitAt (getD words p 0) a ≡ false
+      unfolding chosen
+      marks-low p a h = false-of (λ e. let r = reaches-low B (chosen B) (l .well) (chosen-choice (final B) B) (reaches-mark p a e) .1 in omega arith)
+
+      patterns-count : (p : ℕ) → ones (getD words p 0) ≡ howMany (bitAt (getD words p 0)) allPatterns
+      patterns-count p = ones-below allPatterns (getD words p 0) (marks-low p)
+
+      predicate-long : (p : ℕ) → p < maxPredicates → length (patternRows rules table (getD own p 0) (getD words p 0)) ≡ rowsLength rules (getD own p 0) * ones (getD words p 0)
+      unfolding patternRows
+      predicate-long p q =
+          length-joined (λ a. cond (bitAt (getD words p 0) a) (clauseRows rules table (getD own p 0) a) []) allPatterns
+          ∙ sum-cong (λ a. length (cond (bitAt (getD words p 0) a) (clauseRows rules table (getD own p 0) a) [])) (λ a. cond (bitAt (getD words p 0) a) (rowsLength rules (getD own p 0)) 0) allPatterns
+          (λ a h. byBool (bitAt (getD words p 0) a) (λ t. rw t (cell-long p a q t)) (λ t. rw t))
+          ∙ howMany-each (rowsLength rules (getD own p 0)) (bitAt (getD words p 0)) allPatterns
+          ∙ ap (λ (n : ℕ). rowsLength rules (getD own p 0) * n) (sym (patterns-count p))
+
+      pub plan-long : planLength preds rules own words ≡ length (image B)
+      unfolding planLength image chosen
+      plan-long =
+          let q = chosen-choice (final B) B .query· .long in
+          let c = ap length (l .query·) in
+          let r = length-joined (λ p. patternRows rules table (getD own p 0) (getD words p 0)) preds in
+          let s = sum-cong (λ p. length (patternRows rules table (getD own p 0) (getD words p 0))) (λ p. rowsLength rules (getD own p 0) * ones (getD words p 0)) preds
+          (λ p h. predicate-long p (let f = few-preds in omega arith)) in
+          let t = ap length rows-all in
+          let u = length-append (encQuery (chosen B .forQuery)) (run encRow (planRows B)) in
+          omega arith

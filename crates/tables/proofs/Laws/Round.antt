@@ -1,13 +1,11 @@
 -- One round. What is good stays good where more is bound or the table admits more; and a predicate's constraint after a round hangs only on those
 -- of the predicates that its clauses call. Assumes nothing.
-use mathlib.Core.Path.{_≡_, refl, sym, _∙_, subst}
-use mathlib.Core.Bool.{Bool, true, false, not, cond, false≢true}
+use mathlib.Core.Path.{_≡_, refl, _∙_, subst}
+use mathlib.Core.Bool.{Bool, true, false, cond, false≢true}
 use mathlib.Core.List.{List, [], _∷_}
 use Prim.Native.Nat.{ℕ, _^_, _≤_, _<_}
-use native.Mathlib.Omega.{arith}
-use lib.Dec.{eqb, ltb}
+use lib.Dec.{eqb}
 use lib.ListN.{length, getD, List·getD-eq-default}
-use borrow.Author.Tests.{ltb-true, not-false}
 use Rattle.masks.specs.Lists.{any, all}
 use Rattle.masks.specs.Mask.{within}
 use Rattle.masks.specs.Constraint.{admits, written}
@@ -15,7 +13,7 @@ use Rattle.masks.proofs.Laws.Logic.{and-left, and-right}
 use Rattle.masks.proofs.Laws.Lists.{all-mono, all-same, length-values, getD-values}
 use Rattle.masks.proofs.Laws.Mask.{within-refl}
 use Rattle.masks.proofs.Laws.Constraint.{Up, written-cong}
-use Rattle.book.specs.Book.{Call, Clause}
+use Rattle.book.specs.Book.{Clause}
 use Rattle.ordering.specs.Adorn.{Table}
 use Rattle.ordering.specs.Good.{goodClause}
 use Rattle.ordering.specs.Held.{tableIn, callsBelow}

@@ -4,7 +4,7 @@ use mathlib.Core.Path.{_≡_, refl, sym, ap, ap₂, _∙_}
 use mathlib.Core.Bool.{Bool, true, false, cond}
 use mathlib.Core.List.{List}
 use Prim.Native.Nat.{ℕ, zero, suc, _+_, _*_, _/_, _%_, _^_, _≤_, _<_}
-use native.Mathlib.Nat.{suc-mul, mul-zero, mul-add, pow-suc}
+use native.Mathlib.Nat.{suc-mul, mul-zero, mul-add, pow-suc, pow-le-pow-right}
 use native.Mathlib.Omega.{arith}
 use lib.Count.{ones, ones-step}
 use lib.Dec.{eqb}
@@ -133,7 +133,7 @@ howMany-first q zero = omega arith
 howMany-first q (suc n) = omega (arith, howMany-first q n)
 
 -- the bits that are set in a word of n bits
-pub ones-howMany : (n w : ℕ) → w < 2 ^ n → ones w ≡ howMany (bitAt w) n
+ones-howMany : (n w : ℕ) → w < 2 ^ n → ones w ≡ howMany (bitAt w) n
 unfolding howMany bitAt ones
 ones-howMany zero w h = let e : w ≡ 0 = omega arith in ap ones e
 ones-howMany (suc n) w h =
@@ -144,3 +144,13 @@ ones-howMany (suc n) w h =
     digit zero l = refl
     digit (suc zero) l = refl
     digit (suc (suc d)) l = absurd (omega arith)
+
+below-pow : (w : ℕ) → w < 2 ^ w
+below-pow zero = omega arith
+below-pow (suc w) = omega (arith, below-pow w, pow-suc 2 w)
+
+-- in a word that has none set from bit n on
+pub ones-below : (n w : ℕ) → ((a : ℕ) → n ≤ a → bitAt w a ≡ false) → ones w ≡ howMany (bitAt w) n
+ones-below n w h =
+    let l : 2 ^ w ≤ 2 ^ (w + n) = pow-le-pow-right (omega arith) (omega arith) in
+    ones-howMany (w + n) w (omega (arith, below-pow w)) ∙ howMany-cut (bitAt w) n (w + n) (omega arith) h
