@@ -1,6 +1,6 @@
 -- The calls that a body makes, each with its pattern. Document 01: "Subgoals are taken in order." Every definition computes. Assumes nothing.
 use mathlib.Core.Bool.{Bool, _&&_}
-use mathlib.Core.List.{List, [], _∷_}
+use mathlib.Core.List.{List, [], _∷_, map}
 use Prim.Native.Nat.{ℕ}
 use lib.Dec.{eqb}
 use Rattle.masks.specs.Lists.{any}
@@ -21,3 +21,7 @@ asks body b (p ∷ σ) = record { pred = at body p .pred; pattern = patternOf b 
 -- predicate q is called under pattern a
 abbrev pub called : ℕ → ℕ → List Asked → Bool
 called q a calls = any (λ (x : Asked). eqb (x .pred) q && eqb (x .pattern) a) calls
+
+-- the patterns that the subgoals have in their turn
+abbrev pub patternsIn : List Call → Bound → List ℕ → List ℕ
+patternsIn body b σ = map (λ (x : Asked). x .pattern) (asks body b σ)

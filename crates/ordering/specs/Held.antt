@@ -5,15 +5,16 @@ use mathlib.Core.List.{List, []}
 use mathlib.Core.Option.{Option, none, some}
 use Prim.Native.Nat.{ℕ, _<_}
 use lib.Dec.{ltb}
-use lib.ListN.{getD, take}
+use lib.ListN.{length, getD, take}
 use Rattle.masks.specs.Limits.{allPatterns}
 use Rattle.masks.specs.Lists.{all, values}
 use Rattle.masks.specs.Constraint.{inRange}
 use Rattle.book.specs.Limits.{maxPredicates}
 use Rattle.book.specs.Book.{Call}
 use Rattle.book.specs.Held.{masksIn, modeBytes}
-use Rattle.ordering.specs.Adorn.{Table}
+use Rattle.ordering.specs.Adorn.{Table, Bound, patternOf}
 use Rattle.ordering.specs.Orders.{find, count}
+use Rattle.ordering.specs.Good.{at}
 use Rattle.ordering.specs.declared.Order.{Order}
 
 -- a table is held as modes are: here each predicate has its masks
@@ -44,6 +45,10 @@ orNone (some σ) = σ
 abbrev pub placesOf : Order → List ℕ
 placesOf o = orNone (orderOf o)
 
+-- the patterns beside them
+abbrev pub patternsOf : Order → List ℕ
+patternsOf o = take (length (placesOf o)) (o .patterns)
+
 -- the first of n places that is not used and passes, or n
 abbrev pub orElse : ℕ → Option ℕ → ℕ
 orElse n none = n
@@ -51,3 +56,7 @@ orElse n (some p) = p
 
 unfoldable pub picked : List Bool → (ℕ → Bool) → ℕ → ℕ
 picked used passes n = orElse n (find (λ p. not (getD used p false) && passes p) (count 0 n))
+
+-- the pattern is that of the subgoal at the place, where there is one
+abbrev pub PatternAt : List Call → Bound → ℕ → ℕ → Type 0
+PatternAt body b p a = p < length body → a ≡ patternOf b (at body p .args)

@@ -19,13 +19,21 @@ ghost use Rattle.book.specs.Limits.{maxPredicates, maxClauses, maxSubgoals};
 ghost use Rattle.book.specs.Held.{callOf, clauseAt};
 ghost use Rattle.ordering.specs.Adorn.{isBound, bit, patternOf, bindVar, bindAll, headBound};
 ghost use Rattle.ordering.specs.Good.{readyAt, firstGood};
-ghost use Rattle.ordering.specs.Held.{tableIn, callsBelow, orderOf, placesOf, picked};
+ghost use Rattle.ordering.specs.Asks.{patternsIn};
+ghost use Rattle.ordering.specs.Held.{tableIn, callsBelow, orderOf, placesOf, patternsOf, picked, PatternAt};
 
-// An order of the subgoals of a body, if one was found: the first n places of the array.
+// An order of the subgoals of a body, if one was found: the first n places of the array, and beside each the pattern that its subgoal has in its turn.
 pub struct Order {
     pub found: bool,
     pub n: u8,
     pub places: [u8; MAX_SUBGOALS],
+    pub patterns: [u8; MAX_SUBGOALS],
+}
+
+// A place, and the pattern of the subgoal there.
+struct Turn {
+    place: usize,
+    pattern: u8,
 }
 
 // "the smallest list of subgoal places .. among the orders good against" a table, of the subgoals of clause k with these variables bound at the
@@ -38,24 +46,29 @@ pub fn first_order<'a>(
 ) -> Order
     requires { ⌜ (k ≤ maxClauses) × (callsBelow maxPredicates (clauseAt (now rules) k .body) ≡ true) ⌝ }
     ensures { λ r. ⌜ orderOf r ≡ firstGood (tableIn (now (table .entry)) maxPredicates) (clauseAt (now (rules .entry)) k .body) bound ⌝ }
+    ensures { λ r. ⌜ patternsOf r ≡ patternsIn (clauseAt (now (rules .entry)) k .body) bound (placesOf r) ⌝ }
 {
     let n = subgoals_at(rules, k);
     let mut places = [0u8; MAX_SUBGOALS];
+    let mut patterns = [0u8; MAX_SUBGOALS];
     let mut used = [false; MAX_SUBGOALS];
     let mut now = bound;
     let mut i: usize = 0;
     while i < n {
-        let p = first_ready(rules, k, table, now, used);
+        let t = first_ready(rules, k, table, now, used);
+        let p = t.place;
         if n <= p {
             return Order {
                 found: false,
                 n: 0,
                 places,
+                patterns,
             };
         }
         let s = subgoal_at(rules, k, p);
         let then = bind_all(now, s);
         places[i] = p as u8;
+        patterns[i] = t.pattern;
         used[p] = true;
         now = then;
         i += 1;
@@ -65,19 +78,21 @@ pub fn first_order<'a>(
         found: true,
         n: count,
         places,
+        patterns,
     }
 }
 
-// The first place of clause k that is not used and ready, or the number of its subgoals.
+// The first place of clause k that is not used and ready, with its subgoal's pattern, or the number of its subgoals.
 fn first_ready<'a>(
     rules: &'a [u8; RULES_SIZE],
     k: usize,
     table: &'a [u8; MODES_SIZE],
     bound: [bool; VARIABLES],
     used: [bool; MAX_SUBGOALS],
-) -> usize
+) -> Turn
     requires { ⌜ (k ≤ maxClauses) × (callsBelow maxPredicates (clauseAt (now rules) k .body) ≡ true) ⌝ }
-    ensures { λ r. ⌜ r ≡ picked used (readyAt (tableIn (now (table .entry)) maxPredicates) (clauseAt (now (rules .entry)) k .body) bound) (length (clauseAt (now (rules .entry)) k .body)) ⌝ }
+    ensures { λ r. ⌜ r .place ≡ picked used (readyAt (tableIn (now (table .entry)) maxPredicates) (clauseAt (now (rules .entry)) k .body) bound) (length (clauseAt (now (rules .entry)) k .body)) ⌝ }
+    ensures { λ r. ⌜ PatternAt (clauseAt (now (rules .entry)) k .body) bound (r .place) (r .pattern) ⌝ }
 {
     let n = subgoals_at(rules, k);
     let mut p: usize = 0;
@@ -85,13 +100,20 @@ fn first_ready<'a>(
         if !used[p] {
             let s = subgoal_at(rules, k, p);
             let c = mode_at(table, s.pred);
-            if fits(c, pattern(bound, s)) {
-                return p;
+            let a = pattern(bound, s);
+            if fits(c, a) {
+                return Turn {
+                    place: p,
+                    pattern: a,
+                };
             }
         }
         p += 1;
     }
-    n
+    Turn {
+        place: n,
+        pattern: 0,
+    }
 }
 
 // How many places an order has: none where no order was found.
@@ -126,7 +148,7 @@ pub fn head_bound(head: Call, pattern: u8) -> [bool; VARIABLES]
 }
 
 // The pattern of a call: bit i is set where argument i is bound.
-pub fn pattern(bound: [bool; VARIABLES], s: Call) -> u8
+fn pattern(bound: [bool; VARIABLES], s: Call) -> u8
     ensures { λ r. ⌜ r ≡ patternOf bound (callOf s .args) ⌝ }
 {
     let mut a: u8 = 0;
@@ -152,7 +174,7 @@ fn bound_bit(bound: [bool; VARIABLES], v: u8) -> u8
 }
 
 // "After the whole subgoal all its variables become bound".
-pub fn bind_all(bound: [bool; VARIABLES], s: Call) -> [bool; VARIABLES]
+fn bind_all(bound: [bool; VARIABLES], s: Call) -> [bool; VARIABLES]
     ensures { λ r. ⌜ r ≡ bindAll bound (callOf s .args) ⌝ }
 {
     let n = arguments(s);

@@ -8,10 +8,8 @@ use book::limits::MODES_SIZE;
 use book::limits::RULES_SIZE;
 use book::limits::VARIABLES;
 use masks::constraint::with_member;
-use ordering::bind_all;
 use ordering::first_order;
 use ordering::head_bound;
-use ordering::pattern;
 use ordering::placed;
 ghost use mathlib.Core.Path.{_≡_};
 ghost use mathlib.Core.Bool.{true};
@@ -111,15 +109,12 @@ fn mark_calls<'a>(
     let o = first_order(rules, k, table, bound);
     let n = placed(o);
     let mut names: u64 = 0;
-    let mut now = bound;
     let mut i: usize = 0;
     while i < n {
         let s = subgoal_at(rules, k, o.places[i] as usize);
         let p = s.pred as usize;
-        words[p] = with_member(words[p], pattern(now, s));
+        words[p] = with_member(words[p], o.patterns[i]);
         names = with_member(names, s.pred);
-        let then = bind_all(now, s);
-        now = then;
         i += 1;
     }
     names
