@@ -9,10 +9,11 @@ use Prim.Native.Nat.{ℕ, _+_, _*_, _≤_, _<_}
 use native.Mathlib.Omega.{arith}
 use lib.Count.{ones}
 use lib.Dec.{eqb, ltb}
-use lib.ListN.{length, getD, length-append}
+use lib.ListN.{length, getD, length-append, List·getD-eq-default}
 use borrow.Author.Tests.{eqb-true, leb-true, ltb-true, lt-ltb, le-ltb}
 use Rattle.masks.specs.Limits.{allPatterns}
 use Rattle.masks.specs.Lists.{joined}
+use Rattle.masks.specs.Outcome.{refused}
 use Rattle.masks.specs.Set.{bitAt}
 use Rattle.book.specs.Limits.{maxPredicates, maxClauses}
 use Rattle.book.specs.Book.{Call, Clause, Book}
@@ -20,16 +21,18 @@ use Rattle.book.specs.Encode.{run}
 use Rattle.book.specs.Held.{clauseAt}
 use Rattle.ordering.specs.Adorn.{Table, Bound, nothing, headBound}
 use Rattle.ordering.specs.Good.{firstGood, isSome}
-use Rattle.ordering.specs.Held.{tableIn, callsBelow, orNone}
+use Rattle.ordering.specs.Held.{tableIn, callsBelow, orNone, orderOf}
+use Rattle.ordering.specs.declared.Order.{Order}
 use Rattle.tables.specs.Table.{final}
 use Rattle.needs.specs.Sets.{Owns, Known}
 use Rattle.choices.specs.Choice.{clause, Reaches}
 use Rattle.choices.specs.Reached.{marked, reached}
-use Rattle.choices.specs.Plan.{orStanding, firstChoice, chosen, rowsFor, rowsUnder, rowsOf, planRows, encQuery, encRow, image}
+use Rattle.choices.specs.Plan.{orStanding, firstChoice, chosen, rowsFor, rowsUnder, rowsOf, planRows, encQuery, encRow, image, planned}
 use Rattle.reach.specs.Marked.{markAt, taken, ReachedIn}
-use Rattle.plan.specs.Lent.{Lent, rowBy, clauseRows, patternRows, planBytes, rowsLength, planLength}
-use Rattle.masks.proofs.Laws.Logic.{byBool, same, false-of, clash, and-left, and-right}
+use Rattle.plan.specs.Lent.{Lent, EachCallable, rowBy, clauseRows, patternRows, planBytes, rowsLength, planLength}
+use Rattle.masks.proofs.Laws.Logic.{byBool, byRange, same, false-of, clash, and-left, and-right}
 use Rattle.masks.proofs.Laws.Lists.{joined-cong, joined-cut}
+use Rattle.masks.proofs.Laws.Set.{bitAt-zero}
 use Rattle.book.proofs.Laws.Encode.{run-joined}
 use Rattle.ordering.proofs.Laws.Held.{callsBelow-mono, first-cut}
 use Rattle.tables.proofs.Laws.Sums.{howMany, sum-cong, length-joined, howMany-each, ones-below}
@@ -37,6 +40,7 @@ use Rattle.tables.proofs.Laws.Valid.{query-calls, clause-calls}
 use Rattle.needs.proofs.Laws.Settling.{clauses-count, clause-is, known-clauses}
 use Rattle.choices.proofs.Laws.Reached.{reaches-low, reached-iff, reaches-agree, reaches-back}
 use Rattle.choices.proofs.Laws.Moded.{chosen-choice, reached-good}
+use Rattle.choices.proofs.Laws.Plan.{planned-none}
 
 -- an order that was found is the one chosen
 standing-none : (n : ℕ) (o : Option (List ℕ)) → isSome o ≡ true → orStanding n o ≡ orNone o
@@ -246,3 +250,25 @@ module _ (B : Book) (preds clauses : ℕ) (rules table : List ℕ) (l : Lent B p
           let t = ap length rows-all in
           let u = length-append (encQuery (chosen B .forQuery)) (run encRow (planRows B)) in
           omega arith
+
+-- ---- what the code gives
+
+-- each predicate's clauses can be tried
+pub each-callable : (rules own : List ℕ) (clauses : ℕ) → length own ≤ maxPredicates → Known rules clauses → Owns rules clauses own → EachCallable rules own
+each-callable rules own clauses few known o p k h t =
+    byRange p maxPredicates
+    (λ q.
+    let w = sym (o p q k) ∙ t in
+    known .bodies k (ltb-true k clauses (and-left (ltb k clauses) (eqb (clauseAt rules k .head .pred) p) w)))
+    (λ q. clash t (ap (λ (w : ℕ). bitAt w k) (List·getD-eq-default own 0 (omega arith)) ∙ bitAt-zero k))
+
+module _ (B : Book) (preds clauses : ℕ) (rules table : List ℕ) (l : Lent B preds clauses rules table) (q : Order)
+    (e : orderOf q ≡ firstGood (tableIn table maxPredicates) (clauseAt rules maxClauses .body) nothing)
+  where
+    -- no order was found: 7
+    pub given-none : q .found ≡ false → planned B ≡ refused 7 0
+    given-none f = planned-none B (ap isSome (sym (query-order B preds clauses rules table l)) ∙ ap isSome (sym e) ∙ rw f)
+
+    -- one was: a plan
+    pub given-some : q .found ≡ true → isSome (firstGood (final B) (B .query) nothing) ≡ true
+    given-some f = ap isSome (sym (query-order B preds clauses rules table l)) ∙ ap isSome (sym e) ∙ rw f
