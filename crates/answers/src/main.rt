@@ -44,7 +44,7 @@ fn answer(line: &[u8]) {
         show_both(Operation::Analyse, bytes);
         show_both(Operation::Plan, bytes);
     } else {
-        let op = operation(word);
+        let op = named(word);
         show_name(op);
         show_in(op, room(lines::field(line, 3)), bytes);
     }
@@ -52,7 +52,7 @@ fn answer(line: &[u8]) {
 }
 
 // The operation that a word names; a word that is none counts as the analysis.
-fn operation(word: &[u8]) -> Operation {
+fn named(word: &[u8]) -> Operation {
     if check::same(word, b"plan") {
         Operation::Plan
     } else {
