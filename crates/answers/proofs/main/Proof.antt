@@ -1,9 +1,9 @@
--- `analyses::main` meets its contract. The text is worked through line by line; each turn goes on past a line's end. Assumes nothing.
+-- `answers::main` meets its contract. The text is worked through line by line; each turn goes on past a line's end. Assumes nothing.
 use Prim.Native.Nat.{_-_}
 use lib.ListN.{length}
 use borrow.Author.Needs.{needs}
-use Rattle.analyses.proofs.main.Statement.{statement}
-use Rattle.analyses.proofs.main.Tie as tie
+use Rattle.answers.proofs.main.Statement.{statement}
+use Rattle.answers.proofs.main.Tie as tie
 
 abbrev Inv-loop : tie.InvT-loop
 Inv-loop n input at₀ at = Unit {0}

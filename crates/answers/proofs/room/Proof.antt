@@ -1,9 +1,9 @@
--- `analyses::room` meets its contract. The loop's invariant: i is within the word. Assumes nothing.
+-- `answers::room` meets its contract. The loop's invariant: i is within the word. Assumes nothing.
 use Prim.Native.Nat.{_-_, _≤_}
 use lib.ListN.{length}
 use borrow.Author.Needs.{needs}
-use Rattle.analyses.proofs.room.Statement.{statement}
-use Rattle.analyses.proofs.room.Tie as tie
+use Rattle.answers.proofs.room.Statement.{statement}
+use Rattle.answers.proofs.room.Tie as tie
 
 abbrev Inv-loop : tie.InvT-loop
 Inv-loop word n₀ i₀ n i = i ≤ length word

@@ -1,9 +1,9 @@
--- `analyses::show_bytes` meets its contract. The loop goes through the bytes; those left fall. Assumes nothing.
+-- `answers::show_bytes` meets its contract. The loop goes through the bytes; those left fall. Assumes nothing.
 use Prim.Native.Nat.{_-_}
 use lib.ListN.{length}
 use borrow.Author.Needs.{needs}
-use Rattle.analyses.proofs.show_bytes.Statement.{statement}
-use Rattle.analyses.proofs.show_bytes.Tie as tie
+use Rattle.answers.proofs.show_bytes.Statement.{statement}
+use Rattle.answers.proofs.show_bytes.Tie as tie
 
 abbrev Inv-loop : tie.InvT-loop
 Inv-loop bytes i₀ i = Unit {0}

@@ -1,14 +1,14 @@
--- `analyses::spoiled` meets its contract. The places left fall. Assumes nothing.
+-- `answers::spoiled` meets its contract. The places left fall. Assumes nothing.
 use Prim.Native.Nat.{_-_}
 use borrow.Author.Needs.{needs}
-use Rattle.analyses.proofs.spoiled.Statement.{statement}
-use Rattle.analyses.proofs.spoiled.Tie as tie
+use Rattle.answers.proofs.spoiled.Statement.{statement}
+use Rattle.answers.proofs.spoiled.Tie as tie
 
 abbrev Inv-loop : tie.InvT-loop
 Inv-loop at out i₀ i = Unit {0}
 
 abbrev μ-loop : tie.MeasureT-loop
-μ-loop at out i₀ i = 2048 - i
+μ-loop at out i₀ i = 53260 - i
 
 loop-holds : tie.Need-loop-holds Inv-loop μ-loop
 loop-holds c = search needs
