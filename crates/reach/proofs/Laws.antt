@@ -1,0 +1,4 @@
+-- The laws of this crate's definitions and loops.
+pub mod Marked
+pub mod Marking
+pub mod Passing
