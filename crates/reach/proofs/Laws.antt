@@ -2,3 +2,5 @@
 pub mod Marked
 pub mod Marking
 pub mod Passing
+pub mod Words
+pub mod Working

@@ -1,8 +1,8 @@
 -- `reach::mark_calls` meets its contract. The loop's invariant: the calls at the first i places of the order are marked, and `now` is what they bind.
 -- Assumes nothing.
+use mathlib.Core.Path.{_≡_, ap, _∙_}
 use Prim.Native.Nat.{ℕ, _-_, _<_}
 use native.Mathlib.Omega.{arith}
-use mathlib.Core.Path.{_≡_, ap, _∙_}
 use lib.ListN.{length, getD}
 use borrow.Author.Needs.{needs}
 use Rattle.book.specs.Limits.{maxPredicates}
