@@ -56,7 +56,7 @@ pub record Marking (body : List Call) (b₀ : Bound) (σ before : List ℕ) (i :
   pub bound : b ≡ allAfter (afterAt body) b₀ (take i σ)
   pub marked : Marked before words names (asks body b₀ (take i σ))
 
-module _ (body : List Call) (b₀ : Bound) (σ before : List ℕ) where
+module _ {body : List Call} {b₀ : Bound} {σ before : List ℕ} where
   pub marking-start : length before ≡ maxPredicates → Marking body b₀ σ before 0 before 0 b₀
   unfolding allAfter asks
   marking-start e = record { most = omega arith; size = e; bound = refl; marked = marked-nil before }

@@ -1,5 +1,5 @@
--- The loop over the members of a set, each with calls of its own: those of the members passed are marked. A number that is no member has none.
--- Assumes nothing.
+-- The loop over the members of a set of clauses or of patterns, each with calls of its own: those of the members passed are marked, and a number that
+-- is no member has none. A word has as many bits as there are patterns. Assumes nothing.
 use mathlib.Core.Path.{_≡_}
 use mathlib.Core.Bool.{true, false, cond}
 use mathlib.Core.List.{List, [], append-nil}

@@ -30,11 +30,12 @@ placed-requires : tie.Need-placed-requires Inv-loop μ-loop
 placed-requires c κs = search needs
 
 loop-holds : tie.Need-loop-holds Inv-loop μ-loop
-loop-holds c = marking-start _ _ _ _ (c .before .before .words .given .0 .1)
+loop-holds c = marking-start (c .before .before .words .given .0 .1)
 
 -- in a turn: the next place is that of a subgoal
 place : (c : tie.In-loop Inv-loop μ-loop)
-    → getD (c .before .before .before .first-order .result .places) (c .before .loop .i) 0 < length (clauseAt (c .before .before .before .before .before .args .rules .now) (c .before .before .before .before .before .args .k) .body)
+    → let s = c .before .before .before .before .before .args in
+    getD (c .before .before .before .first-order .result .places) (c .before .loop .i) 0 < length (clauseAt (s .rules .now) (s .k) .body)
 place c =
     let s = c .before .before .before .before .before .args in
     let o = c .before .before .before .first-order in
@@ -108,7 +109,7 @@ loop-again c =
     let l = order-long T body (s .bound) (o .result) (o .ensures) in
     let p = order-at T body (s .bound) (o .result) (o .ensures) i (omega arith) in
     rw (c .before .before .with-member .ensures, c .before .with-member2 .ensures, c .before .before .before .pattern .ensures)
-    (marking-next _ _ _ _ (d .before .before .before .loop .inv) (omega arith) (d .subgoal-at .ensures ∙ ap (λ (j : ℕ). getD body j none) p) (low d) (c .bind-all .ensures))
+    (marking-next (d .before .before .before .loop .inv) (omega arith) (d .subgoal-at .ensures ∙ ap (λ (j : ℕ). getD body j none) p) (low d) (c .bind-all .ensures))
 
 returns : tie.Need-returns Inv-loop μ-loop
 unfolding callsBy
@@ -117,7 +118,7 @@ returns c =
     let o = c .before .before .before .first-order in
     let n = c .before .before .placed .ensures .0 in
     let l = order-long (tableIn (s .table .now) maxPredicates) (clauseAt (s .rules .now) (s .k) .body) (s .bound) (o .result) (o .ensures) in
-    marking-end _ _ _ _ (c .before .loop .inv) (omega arith)
+    marking-end (c .before .loop .inv) (omega arith)
 
 pub mark-calls-spec : {M : Type 1} → statement M
 mark-calls-spec =
