@@ -1,1 +1,6 @@
--- The laws of this crate.
+-- The laws of this crate's definitions and loops.
+pub mod Marked
+pub mod Marking
+pub mod Passing
+pub mod Words
+pub mod Working

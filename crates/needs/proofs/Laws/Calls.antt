@@ -33,7 +33,7 @@ use Rattle.tables.proofs.Laws.Own.{defined-snoc, touched-snoc, good-snoc}
 
 -- ---- one member more, in a word and in a word of an array
 
-stored-more : (words : List ℕ) (p m : ℕ) → p < length words
+pub stored-more : (words : List ℕ) (p m : ℕ) → p < length words
     → (q k : ℕ) → bitAt (getD (set words p (bitOr (getD words p 0) (2 ^ m))) q 0) k ≡ (bitAt (getD words q 0) k || (eqb q p && eqb m k))
 stored-more words p m h q k =
     byBool (eqb q p)
@@ -48,7 +48,7 @@ stored-more words p m h q k =
     ∙ sym (or-false (bitAt (getD words q 0) k)) ∙ ap (λ (b : Bool). bitAt (getD words q 0) k || (b && eqb m k)) (sym t))
 
 -- an array of empty sets
-bitAt-none : (q k : ℕ) → q < maxPredicates → bitAt (getD (replicate maxPredicates 0) q 0) k ≡ false
+pub bitAt-none : (q k : ℕ) → q < maxPredicates → bitAt (getD (replicate maxPredicates 0) q 0) k ≡ false
 bitAt-none q k h = ap (λ (w : ℕ). bitAt w k) (getD-replicate maxPredicates q 0 0 h) ∙ bitAt-zero k
 
 -- the numbers below one more

@@ -7,6 +7,7 @@ use Prim.Native.Nat.{ℕ}
 use lib.Dec.{eqb}
 use lib.ListN.{length, getD}
 use borrow.Author.Tests.{eqb-true, eq-eqb}
+use Rattle.masks.specs.Lists.{any}
 use Rattle.masks.specs.Constraint.{admits}
 use Rattle.book.specs.Book.{Call}
 use Rattle.ordering.specs.Adorn.{Table, Bound, patternOf, ready}
@@ -33,6 +34,14 @@ pub called-first : (x : Asked) (xs : List Asked) → called (x .pred) (x .patter
 called-first x xs =
     or-left (eqb (x .pred) (x .pred) && eqb (x .pattern) (x .pattern)) (called (x .pred) (x .pattern) xs)
     (and-intro (eq-eqb (x .pred) (x .pred) refl) (eq-eqb (x .pattern) (x .pattern) refl))
+
+-- a predicate that is called under a pattern is called
+pub called-pred : (q a : ℕ) (xs : List Asked) → called q a xs ≡ true → any (λ (x : Asked). eqb (x .pred) q) xs ≡ true
+called-pred q a [] e = e
+called-pred q a (x ∷ xs) e =
+    or-case (eqb (x .pred) q && eqb (x .pattern) a) (called q a xs) e
+    (λ t. or-left (eqb (x .pred) q) (any (λ (x : Asked). eqb (x .pred) q) xs) (and-left (eqb (x .pred) q) (eqb (x .pattern) a) t))
+    (λ t. or-right (eqb (x .pred) q) (called-pred q a xs t))
 
 -- what holds of every subgoal of an order under whatever is bound, holds of every call
 pub asks-each : (P : ℕ → ℕ → Type 0) (body : List Call) (b : Bound) (σ : List ℕ) → ((p : ℕ) (c : Bound) → In p σ → P (at body p .pred) (patternOf c (at body p .args)))

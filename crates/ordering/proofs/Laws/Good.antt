@@ -3,8 +3,9 @@
 use mathlib.Core.Path.{_≡_, refl, ap, _∙_}
 use mathlib.Core.Bool.{Bool, true, false}
 use mathlib.Core.List.{List, []}
-use mathlib.Core.Option.{Option}
-use Prim.Native.Nat.{ℕ}
+use mathlib.Core.Option.{Option, none, some}
+use Prim.Native.Nat.{ℕ, _<_}
+use native.Mathlib.Omega.{arith}
 use lib.ListN.{length, getD}
 use Rattle.masks.specs.Lists.{any}
 use Rattle.masks.specs.Mask.{within}
@@ -12,10 +13,11 @@ use Rattle.book.specs.Book.{Call, Clause}
 use Rattle.ordering.specs.Orders.{Rearranges, count}
 use Rattle.ordering.specs.Adorn.{Table, Bound, headBound, ready, after}
 use Rattle.ordering.specs.Good.{at, readyAt, afterAt, goodFrom, firstGood, isSome, goodClause}
+use Rattle.ordering.specs.Held.{orNone}
 use Rattle.masks.proofs.Laws.Logic.{clash, false-of}
 use Rattle.masks.proofs.Laws.Lists.{any-at}
 use Rattle.masks.proofs.Laws.Mask.{within-refl}
-use Rattle.ordering.proofs.Laws.Orders.{right-takes}
+use Rattle.ordering.proofs.Laws.Orders.{in-at, right-takes}
 use Rattle.ordering.proofs.Laws.Greedy.{Least, Growing, first-least, first-good, good-first, first-mono, first-same, greedy-first, allAfter, all-same}
 use Rattle.ordering.proofs.Laws.Greedy as turns
 use Rattle.ordering.proofs.Laws.Adorn.{Le, le-refl, le-trans, More, more-refl, ready-mono, ready-same, after-grows, after-mono, after-swap, after-twice, headBound-mono}
@@ -46,6 +48,14 @@ greedy-is-first T body b = greedy-first (bound-growing T body) b (length body)
 pub first-is-least : (T : Table) (body : List Call) (b : Bound)
     → Least (λ σ. Rearranges (length body) σ × (goodFrom T body b σ ≡ true)) (firstGood T body b)
 first-is-least T body b = first-least (readyAt T body) (afterAt body) b (length body)
+
+-- so its places are those of subgoals
+pub first-below : (T : Table) (body : List Call) (b : Bound) (i : ℕ) → i < length (orNone (firstGood T body b)) → getD (orNone (firstGood T body b)) i 0 < length body
+first-below T body b i = go (firstGood T body b) refl
+  where
+    go : (o : Option (List ℕ)) → firstGood T body b ≡ o → i < length (orNone o) → getD (orNone o) i 0 < length body
+    go none e h = absurd (omega arith)
+    go (some σ) e h = first-is-least T body b .has σ e .0 .below (getD σ i 0) (in-at 0 σ i h)
 
 -- what is bound after all of them does not hang on their order
 pub bound-after : (body : List Call) (b : Bound) (σ τ : List ℕ) → Rearranges (length body) σ → Rearranges (length body) τ

@@ -1,22 +1,24 @@
 -- A table as the code holds it: what it has at each predicate; the predicates that subgoals call; and how long an order is. Assumes nothing.
 use mathlib.Core.Path.{_≡_, refl, sym, _∙_}
-use mathlib.Core.Bool.{Bool, true, false, not}
+use mathlib.Core.Bool.{Bool, true, false, not, cond}
 use mathlib.Core.List.{List, [], _∷_}
+use mathlib.Core.Option.{none, some}
 use Prim.Native.Nat.{ℕ, _<_, _≤_, min}
 use native.Mathlib.Omega.{arith}
 use lib.Dec.{ltb}
-use lib.ListN.{length, getD, length-take}
+use lib.ListN.{length, getD, take, length-take}
 use borrow.Author.Tests.{ltb-true, lt-ltb, not-true, not-false}
 use Rattle.masks.specs.Lists.{any, all}
 use Rattle.book.specs.Limits.{maxSubgoals}
 use Rattle.book.specs.Book.{Call}
 use Rattle.ordering.specs.Adorn.{Bound}
 use Rattle.ordering.specs.Good.{at, firstGood}
-use Rattle.ordering.specs.Held.{entryIn, tableIn, callsBelow, placesOf}
+use Rattle.ordering.specs.Held.{entryIn, tableIn, callsBelow, placesOf, orNone}
 use Rattle.ordering.specs.declared.Order.{Order}
 use Rattle.masks.proofs.Laws.Logic.{and-left, and-right}
 use Rattle.masks.proofs.Laws.Lists.{all-at, length-values, getD-values, all-mono}
 use Rattle.ordering.proofs.Laws.Good.{first-kept}
+use Rattle.ordering.proofs.Laws.Steps.{first-at}
 
 pub tableIn-length : (table : List ℕ) (n : ℕ) → length (tableIn table n) ≡ n
 unfolding tableIn
@@ -63,3 +65,12 @@ placed-none o e = rw (not-true (o .found) e)
 
 pub placed-some : (o : Order) → not (o .found) ≡ false → length (o .places) ≡ maxSubgoals → length (placesOf o) ≡ min (o .n) maxSubgoals
 placed-some o e h = rw (not-false (o .found) e, sym h) (length-take (o .n) (o .places))
+
+-- each as it is held
+pub placed-at : (o : Order) (i : ℕ) → i < length (placesOf o) → getD (o .places) i 0 ≡ getD (placesOf o) i 0
+placed-at o i = go (o .found)
+  where
+    go : (b : Bool) → i < length (orNone (cond b (some (take (o .n) (o .places))) none))
+        → getD (o .places) i 0 ≡ getD (orNone (cond b (some (take (o .n) (o .places))) none)) i 0
+    go true h = sym (first-at (o .n) (o .places) i h)
+    go false h = absurd (omega arith)

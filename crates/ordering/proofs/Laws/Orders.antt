@@ -9,7 +9,7 @@ use Prim.Native.Nat.{ℕ, zero, suc, _+_, _≤_, _<_}
 use native.Mathlib.Nat.{suc-inj}
 use native.Mathlib.Omega.{arith}
 use lib.Dec.{eqb}
-use lib.ListN.{length}
+use lib.ListN.{length, getD}
 use borrow.Author.Tests.{eqb-true, eqb-false, eq-eqb, ne-eqb}
 use Rattle.masks.specs.Lists.{joined}
 use Rattle.ordering.specs.Orders.{In, Distinct, Rearranges, LexLt, Sorted, find, without, each, ordersOf, count, orders}
@@ -20,6 +20,13 @@ use Rattle.masks.proofs.Laws.Logic.{byBool, clash}
 pub orders-three : orders 3 ≡ (0 ∷ 1 ∷ 2 ∷ []) ∷ (0 ∷ 2 ∷ 1 ∷ []) ∷ (1 ∷ 0 ∷ 2 ∷ []) ∷ (1 ∷ 2 ∷ 0 ∷ []) ∷ (2 ∷ 0 ∷ 1 ∷ []) ∷ (2 ∷ 1 ∷ 0 ∷ []) ∷ []
 unfolding without each ordersOf count orders
 orders-three = refl
+
+-- ---- the element at a place
+
+pub in-at : {A : Type 0} (d : A) (l : List A) (i : ℕ) → i < length l → In (getD l i d) l
+in-at d [] i h = absurd (omega arith)
+in-at d (x ∷ l) zero h = inl refl
+in-at d (x ∷ l) (suc i) h = inr (in-at d l i (omega arith))
 
 -- ---- the first element that passes
 

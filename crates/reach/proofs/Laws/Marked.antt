@@ -1,0 +1,53 @@
+-- Marks and the calls that they are of: none, one, and those of one list after those of another. Assumes nothing.
+use mathlib.Core.Path.{_≡_, sym, ap, ap₂, _∙_, subst}
+use mathlib.Core.Bool.{Bool, _&&_, _||_, or-assoc, or-false}
+use mathlib.Core.List.{List, [], _∷_, _++_}
+use Prim.Native.Nat.{ℕ, _^_, _<_}
+use lib.Bits.{bitOr}
+use lib.Dec.{eqb}
+use lib.ListN.{length, getD, set}
+use Rattle.book.specs.Limits.{maxPredicates}
+use Rattle.book.specs.Book.{Call}
+use Rattle.book.specs.Held.{clauseAt}
+use Rattle.ordering.specs.Adorn.{Bound, headBound}
+use Rattle.ordering.specs.Asks.{Asked, called}
+use Rattle.ordering.specs.Held.{tableIn}
+use Rattle.reach.specs.Marked.{markAt, Marked, callsBy, clauseBy}
+use Rattle.masks.proofs.Laws.Lists.{any-append}
+use Rattle.masks.proofs.Laws.Set.{bitAt-zero, bitAt-or, bitAt-power, eqb-comm}
+use Rattle.needs.proofs.Laws.Calls.{stored-more}
+
+pub marked-nil : (words : List ℕ) → Marked words words 0 []
+marked-nil words = record { marks = λ q b. sym (or-false (markAt words q b)); names· = bitAt-zero }
+
+pub marked-append : {before between after : List ℕ} {n m : ℕ} {xs ys : List Asked} → Marked before between n xs → Marked between after m ys
+    → Marked before after (bitOr n m) (xs ++ ys)
+marked-append {before} {n = n} {m} {xs} {ys} f g = record {
+  marks = λ q b.
+      g .marks q b
+      ∙ ap (λ (x : Bool). x || called q b ys) (f .marks q b)
+      ∙ or-assoc (markAt before q b) (called q b xs) (called q b ys)
+      ∙ ap (λ (x : Bool). markAt before q b || x) (sym (any-append (λ (x : Asked). eqb (x .pred) q && eqb (x .pattern) b) xs ys));
+  names· = λ q.
+      bitAt-or n m q
+      ∙ ap₂ (λ (x y : Bool). x || y) (f .names· q) (g .names· q)
+      ∙ sym (any-append (λ (x : Asked). eqb (x .pred) q) xs ys);
+}
+
+-- pattern a of predicate p
+pub marked-one : (words : List ℕ) (p a : ℕ) → p < length words
+    → Marked words (set words p (bitOr (getD words p 0) (2 ^ a))) (2 ^ p) (record { pred = p; pattern = a } ∷ [])
+marked-one words p a h = record {
+  marks = λ q b.
+      stored-more words p a h q b
+      ∙ ap (λ (x : Bool). markAt words q b || (x && eqb a b)) (eqb-comm q p)
+      ∙ ap (λ (x : Bool). markAt words q b || x) (sym (or-false (eqb p q && eqb a b)));
+  names· = λ q. bitAt-power p q ∙ eqb-comm q p ∙ sym (or-false (eqb p q));
+}
+
+-- the calls of a clause, by its head as it was read and what that binds
+pub marked-clause : (rules table : List ℕ) (k a : ℕ) {before after : List ℕ} {names : ℕ} {h : Call} {b : Bound} → h ≡ clauseAt rules k .head → b ≡ headBound (h .args) a
+    → Marked before after names (callsBy (tableIn table maxPredicates) (clauseAt rules k .body) b) → Marked before after names (clauseBy rules table k a)
+marked-clause rules table k a {before} {after} {names} e f m =
+    subst (λ (c : Bound). Marked before after names (callsBy (tableIn table maxPredicates) (clauseAt rules k .body) c))
+    (f ∙ ap (λ (c : Call). headBound (c .args) a) e) m

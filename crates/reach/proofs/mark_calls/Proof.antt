@@ -1,0 +1,147 @@
+-- `reach::mark_calls` meets its contract. The loop's invariant: the calls at the first i places of the order are marked, and `now` is what they bind.
+-- Assumes nothing.
+use mathlib.Core.Path.{_≡_, ap, _∙_}
+use Prim.Native.Nat.{ℕ, _-_, _<_}
+use native.Mathlib.Omega.{arith}
+use lib.ListN.{length, getD}
+use borrow.Author.Needs.{needs}
+use Rattle.book.specs.Limits.{maxPredicates}
+use Rattle.book.specs.Held.{clauseAt}
+use Rattle.ordering.specs.Good.{firstGood}
+use Rattle.ordering.specs.Held.{tableIn, orNone}
+use Rattle.reach.specs.Marked.{callsBy}
+use Rattle.ordering.proofs.Laws.Run.{pred-read}
+use Rattle.reach.proofs.Laws.Marking.{order-long, order-at, order-below, none, pattern-few, Marking, marking-start, marking-next, marking-end}
+use Rattle.reach.proofs.mark_calls.Statement.{statement}
+use Rattle.reach.proofs.mark_calls.Tie as tie
+
+abbrev Inv-loop : tie.InvT-loop
+Inv-loop rules k table words₀ o n names₀ now₀ i₀ words names now i =
+    let body = clauseAt rules k .body in
+    Marking body now₀ (orNone (firstGood (tableIn table maxPredicates) body now₀)) words₀ i words names now
+
+abbrev μ-loop : tie.MeasureT-loop
+μ-loop rules k table words₀ o n names₀ now₀ i₀ words names now i = n - i
+
+first-order-requires : tie.Need-first-order-requires Inv-loop μ-loop
+first-order-requires c κs = c .before .pre
+
+placed-requires : tie.Need-placed-requires Inv-loop μ-loop
+placed-requires c κs = search needs
+
+loop-holds : tie.Need-loop-holds Inv-loop μ-loop
+loop-holds c = marking-start (c .before .before .words .given .0 .1)
+
+-- in a turn: the next place is that of a subgoal
+place : (c : tie.In-loop Inv-loop μ-loop)
+    → let s = c .before .before .before .before .before .args in
+    getD (c .before .before .before .first-order .result .places) (c .before .loop .i) 0 < length (clauseAt (s .rules .now) (s .k) .body)
+place c =
+    let s = c .before .before .before .before .before .args in
+    let o = c .before .before .before .first-order in
+    let n = c .before .before .placed .ensures .0 in
+    order-below (tableIn (s .table .now) maxPredicates) (clauseAt (s .rules .now) (s .k) .body) (s .bound) (o .result) (o .ensures) (c .before .loop .i) (omega arith)
+
+element-copy-out-subgoal-at : tie.Need-element-copy-out-subgoal-at Inv-loop μ-loop
+element-copy-out-subgoal-at c = search needs
+
+cast-subgoal-at : tie.Need-cast-subgoal-at Inv-loop μ-loop
+cast-subgoal-at c = search needs
+
+subgoal-at-requires : tie.Need-subgoal-at-requires Inv-loop μ-loop
+subgoal-at-requires c κs = (c .before .before .before .before .before .before .pre .0, place (c .before))
+
+-- its predicate has a word
+low : (c : tie.After-subgoal-at Inv-loop μ-loop) → c .subgoal-at .result .pred < 64
+low c =
+    let s = c .before .before .before .before .before .before .before in
+    pred-read (clauseAt (s .args .rules .now) (s .args .k) .body) _ (c .subgoal-at .ensures) (s .pre .1) (place (c .before .before))
+
+-- its arguments are six at most
+few : (c : tie.After-struct-known Inv-loop μ-loop) → length (c .before .subgoal-at .result .args) ≡ 6
+few c = search needs
+
+cast-p : tie.Need-cast-p Inv-loop μ-loop
+cast-p c = search needs
+
+mul-with-member : tie.Need-mul-with-member Inv-loop μ-loop
+mul-with-member c = search needs
+
+slice-read-with-member : tie.Need-slice-read-with-member Inv-loop μ-loop
+slice-read-with-member c = let l = low (c .before .before) in let z = c .before .before .before .before .before .loop .inv .size in omega arith
+
+pattern-requires : tie.Need-pattern-requires Inv-loop μ-loop
+pattern-requires c κs = search needs
+
+with-member-requires : tie.Need-with-member-requires Inv-loop μ-loop
+with-member-requires c κs =
+    let e = c .pattern .ensures in
+    let l = pattern-few (c .before .before .before .before .before .before .loop .now) (c .before .before .before .subgoal-at .result) (few (c .before .before)) in
+    omega arith
+
+mul-words : tie.Need-mul-words Inv-loop μ-loop
+mul-words c = search needs
+
+slice-write-words : tie.Need-slice-write-words Inv-loop μ-loop
+slice-write-words c = let l = low (c .before .before .before .before) in let z = c .before .before .before .before .before .before .before .loop .inv .size in omega arith
+
+with-member-requires-2 : tie.Need-with-member-requires-2 Inv-loop μ-loop
+with-member-requires-2 c κs = low (c .before .before .before .before)
+
+bind-all-requires : tie.Need-bind-all-requires Inv-loop μ-loop
+bind-all-requires c κs = search needs
+
+add-i : tie.Need-add-i Inv-loop μ-loop
+add-i c = search needs
+
+loop-less : tie.Need-loop-less Inv-loop μ-loop
+loop-less c = search needs
+
+loop-again : tie.Need-loop-again Inv-loop μ-loop
+loop-again c =
+    let d = c .before .before .before .before .before .before in
+    let s = d .before .before .before .before .before .before .before .args in
+    let o = d .before .before .before .before .before .first-order in
+    let n = d .before .before .before .before .placed .ensures .0 in
+    let i = d .before .before .before .loop .i in
+    let body = clauseAt (s .rules .now) (s .k) .body in
+    let T = tableIn (s .table .now) maxPredicates in
+    let l = order-long T body (s .bound) (o .result) (o .ensures) in
+    let p = order-at T body (s .bound) (o .result) (o .ensures) i (omega arith) in
+    rw (c .before .before .with-member .ensures, c .before .with-member2 .ensures, c .before .before .before .pattern .ensures)
+    (marking-next (d .before .before .before .loop .inv) (omega arith) (d .subgoal-at .ensures ∙ ap (λ (j : ℕ). getD body j none) p) (low d) (c .bind-all .ensures))
+
+returns : tie.Need-returns Inv-loop μ-loop
+unfolding callsBy
+returns c =
+    let s = c .before .before .before .before .before .args in
+    let o = c .before .before .before .first-order in
+    let n = c .before .before .placed .ensures .0 in
+    let l = order-long (tableIn (s .table .now) maxPredicates) (clauseAt (s .rules .now) (s .k) .body) (s .bound) (o .result) (o .ensures) in
+    marking-end (c .before .loop .inv) (omega arith)
+
+pub mark-calls-spec : {M : Type 1} → statement M
+mark-calls-spec =
+    tie.close
+    (tie.spec
+    Inv-loop
+    μ-loop
+    first-order-requires
+    placed-requires
+    loop-holds
+    element-copy-out-subgoal-at
+    cast-subgoal-at
+    subgoal-at-requires
+    cast-p
+    mul-with-member
+    slice-read-with-member
+    pattern-requires
+    with-member-requires
+    mul-words
+    slice-write-words
+    with-member-requires-2
+    bind-all-requires
+    add-i
+    loop-less
+    loop-again
+    returns)
