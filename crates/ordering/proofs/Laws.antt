@@ -1,5 +1,5 @@
 -- The laws of this crate's definitions, for its own proofs and for those of the crates above. A file that has the name of one in `specs/`
--- has the laws of what is defined there; `Greedy` has those of `Turns`, `Steps` and `Run` those of the code's loops.
+-- has the laws of what is defined there; `Greedy` has those of `Turns`, `Steps`, `Run` and `Patterns` those of the code's loops.
 pub mod Orders
 pub mod Greedy
 pub mod Adorn
@@ -8,4 +8,5 @@ pub mod Asks
 pub mod Steps
 pub mod Held
 pub mod Run
+pub mod Patterns
 pub mod Examples

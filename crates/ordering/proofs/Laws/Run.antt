@@ -18,7 +18,7 @@ use Rattle.book.specs.Book.{Call}
 use Rattle.ordering.specs.Orders.{In, find, without, count}
 use Rattle.ordering.specs.Adorn.{Bound, patternOf, bindAll, ready, after}
 use Rattle.ordering.specs.Good.{at, readyAt, afterAt}
-use Rattle.ordering.specs.Held.{entryIn, tableIn, callsBelow, orElse, picked}
+use Rattle.ordering.specs.Held.{entryIn, tableIn, callsBelow, orElse, picked, PatternAt}
 use Rattle.masks.proofs.Laws.Logic.{clash, and-left, and-right}
 use Rattle.ordering.proofs.Laws.Orders.{find-some, find-none, find-least, without-in, without-keeps, without-gone, Ascends, ascends-distinct, ascends-without, count-in, in-count, count-ascends}
 use Rattle.ordering.proofs.Laws.Greedy.{greedyOf, greedy}
@@ -38,6 +38,10 @@ module _ (body : List Call) (p : ℕ) {s : Call} (e : s ≡ getD body p (record 
   ready-read table b t h q r =
       sym (ap (ready (tableIn table maxPredicates) b) e)
       ∙ ap₂ admits (tableIn-at table maxPredicates (s .pred) (pred-read t h) ∙ sym q) (sym r)
+
+  pub pattern-read : (b : Bound) {a : ℕ} → a ≡ patternOf b (s .args) → PatternAt body b p a
+  unfolding at
+  pattern-read b r h = r ∙ ap (λ (c : Call). patternOf b (c .args)) e
 
   pub after-read : (b : Bound) {b′ : Bound} → b′ ≡ bindAll b (s .args) → b′ ≡ afterAt body b p
   unfolding at after

@@ -1,4 +1,5 @@
--- `ordering::first_ready` meets its contract. The loop's invariant: what the scan comes to is the first from p on. Assumes nothing.
+-- `ordering::first_ready` meets its contract. The loop's invariant: what the scan comes to is the first from p on. The pattern that fits is
+-- answered with its place. Assumes nothing.
 use mathlib.Core.Path.{sym, _∙_}
 use mathlib.Core.Logic.{⊎-elim}
 use Prim.Native.Nat.{_-_}
@@ -11,7 +12,7 @@ use Rattle.book.specs.Held.{clauseAt}
 use Rattle.ordering.specs.Good.{readyAt}
 use Rattle.ordering.specs.Held.{tableIn}
 use Rattle.book.proofs.Laws.Held.{clauseAt-count}
-use Rattle.ordering.proofs.Laws.Run.{pred-read, ready-read, Scan, scan-start, scan-used, scan-waits, scan-here, scan-end}
+use Rattle.ordering.proofs.Laws.Run.{pred-read, ready-read, pattern-read, Scan, scan-start, scan-used, scan-waits, scan-here, scan-end}
 use Rattle.ordering.proofs.first_ready.Statement.{statement}
 use Rattle.ordering.proofs.first_ready.Tie as tie
 
@@ -59,8 +60,10 @@ returns c =
     let l = c .before .before .before .before .before .before .before .loop in
     let r =
     ready-read (clauseAt (s .rules .now) (s .k) .body) (l .p) (c .before .before .before .before .subgoal-at .ensures) (s .table .now) (s .bound)
-    (b .pre .1) (omega arith) (c .before .before .before .mode-at .ensures) (c .before .before .pattern .ensures) in
-    scan-here (l .inv) (omega arith) (not-true _ (c .before .before .before .before .before .if1 .taken)) (r ∙ sym (c .before .fits2 .ensures) ∙ c .if2 .taken)
+    (b .pre .1) (omega arith) (c .before .before .before .mode-at .ensures) (c .before .before .pattern .ensures) in (
+      scan-here (l .inv) (omega arith) (not-true _ (c .before .before .before .before .before .if1 .taken)) (r ∙ sym (c .before .fits2 .ensures) ∙ c .if2 .taken),
+      pattern-read (clauseAt (s .rules .now) (s .k) .body) (l .p) (c .before .before .before .before .subgoal-at .ensures) (s .bound) (c .before .before .pattern .ensures),
+    )
 
 add-p : tie.Need-add-p Inv-loop μ-loop
 add-p c = omega arith
@@ -84,7 +87,7 @@ loop-again c =
     (c .if1 .came)
 
 returns-2 : tie.Need-returns-2 Inv-loop μ-loop
-returns-2 c = let n = c .before .before .subgoals-at .ensures in n ∙ scan-end (c .before .loop .inv) (omega arith)
+returns-2 c = let n = c .before .before .subgoals-at .ensures in (n ∙ scan-end (c .before .loop .inv) (omega arith), λ h. absurd (omega arith))
 
 pub first-ready-spec : {M : Type 1} → statement M
 first-ready-spec =

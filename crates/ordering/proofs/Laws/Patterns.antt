@@ -1,0 +1,57 @@
+-- The patterns that the code stores beside the places of an order: each is that of its subgoal where all before it are taken. Assumes nothing.
+use mathlib.Core.Path.{_≡_, refl, sym, ap, ap₂, _∙_}
+use mathlib.Core.List.{List, [], _∷_, _++_, map, map-append}
+use Prim.Native.Nat.{ℕ, _+_, _≤_, _<_}
+use native.Mathlib.Numerals.{add-one}
+use native.Mathlib.Omega.{arith}
+use lib.ListN.{length, set, take, length-set}
+use lib.Seq.{length-take-le, take-suc-set}
+use Rattle.book.specs.Book.{Call}
+use Rattle.ordering.specs.Adorn.{Bound, patternOf}
+use Rattle.ordering.specs.Good.{at, afterAt}
+use Rattle.ordering.specs.Asks.{Asked, asks, patternsIn}
+use Rattle.ordering.specs.Held.{PatternAt}
+use Rattle.ordering.proofs.Laws.Greedy.{allAfter}
+use Rattle.ordering.proofs.Laws.Asks.{asks-snoc, after-snoc}
+
+pub patterns-nil : (body : List Call) (b : Bound) → patternsIn body b [] ≡ []
+unfolding asks
+patterns-nil body b = refl
+
+patterns-snoc : (body : List Call) (b : Bound) (σ : List ℕ) (p : ℕ)
+    → patternsIn body b (σ ++ (p ∷ [])) ≡ patternsIn body b σ ++ (patternOf (allAfter (afterAt body) b σ) (at body p .args) ∷ [])
+patterns-snoc body b σ p =
+    ap (map (λ (x : Asked). x .pattern)) (asks-snoc body b σ p)
+    ∙ map-append (λ (x : Asked). x .pattern) (asks body b σ) (record { pred = at body p .pred; pattern = patternOf (allAfter (afterAt body) b σ) (at body p .args) } ∷ [])
+
+-- i places are taken from b₀ on, and b is bound: the patterns beside them are those of their subgoals in their turn
+pub record Turns (body : List Call) (b₀ : Bound) (i : ℕ) (b : Bound) (places patterns : List ℕ) : Type 0 where
+  pub room : (length body ≤ length places) × (length body ≤ length patterns)
+  pub taken : b ≡ allAfter (afterAt body) b₀ (take i places)
+  pub told : take i patterns ≡ patternsIn body b₀ (take i places)
+
+pub turns-start : (body : List Call) (b : Bound) (places patterns : List ℕ) → length body ≤ length places → length body ≤ length patterns
+    → Turns body b 0 b places patterns
+unfolding allAfter
+turns-start body b places patterns h k = record { room = (h, k); taken = refl; told = sym (patterns-nil body b) }
+
+module _ {body : List Call} {b₀ b : Bound} {i : ℕ} {places patterns : List ℕ} (w : Turns body b₀ i b places patterns) where
+  -- a place is taken: it is stored behind the others, and its pattern beside it
+  pub turns-next : (p a : ℕ) → i < length body → p < length body → PatternAt body b p a → {b′ : Bound} {places′ patterns′ : List ℕ} → b′ ≡ afterAt body b p
+      → places′ ≡ set places i p → patterns′ ≡ set patterns i a → Turns body b₀ (i + 1) b′ places′ patterns′
+  turns-next p a h k t eb ep ea =
+      let l = w .room .0 in
+      let m = w .room .1 in
+      record {
+        room = (rw (ep, length-set places i p) l, rw (ea, length-set patterns i a) m);
+        taken =
+            rw (eb, ep, add-one i, take-suc-set places i p (omega arith))
+            (ap (λ (c : Bound). afterAt body c p) (w .taken) ∙ sym (after-snoc body b₀ (take i places) p));
+        told =
+            rw (ep, ea, add-one i, take-suc-set places i p (omega arith), take-suc-set patterns i a (omega arith))
+            (ap₂ (λ (l : List ℕ) (x : ℕ). l ++ (x ∷ [])) (w .told) (t k ∙ ap (λ (c : Bound). patternOf c (at body p .args)) (w .taken))
+            ∙ sym (patterns-snoc body b₀ (take i places) p));
+      }
+
+  pub turns-end : (n : ℕ) → i ≡ n → n ≤ length body → take (length (take n places)) patterns ≡ patternsIn body b₀ (take n places)
+  turns-end n e h = let l = w .room .0 in rw (length-take-le n places (omega arith), ← e) (w .told)
