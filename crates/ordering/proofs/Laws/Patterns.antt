@@ -1,18 +1,20 @@
 -- The patterns that the code stores beside the places of an order: each is that of its subgoal where all before it are taken. Assumes nothing.
 use mathlib.Core.Path.{_≡_, refl, sym, ap, ap₂, _∙_}
 use mathlib.Core.List.{List, [], _∷_, _++_, map, map-append}
-use Prim.Native.Nat.{ℕ, _+_, _≤_, _<_}
+use Prim.Native.Nat.{ℕ, zero, suc, _+_, _≤_, _<_}
 use native.Mathlib.Numerals.{add-one}
 use native.Mathlib.Omega.{arith}
-use lib.ListN.{length, set, take, length-set}
+use lib.ListN.{length, getD, set, take, length-set}
 use lib.Seq.{length-take-le, take-suc-set}
 use Rattle.book.specs.Book.{Call}
 use Rattle.ordering.specs.Adorn.{Bound, patternOf}
 use Rattle.ordering.specs.Good.{at, afterAt}
 use Rattle.ordering.specs.Asks.{Asked, asks, patternsIn}
-use Rattle.ordering.specs.Held.{PatternAt}
+use Rattle.ordering.specs.Held.{placesOf, patternsOf, PatternAt}
+use Rattle.ordering.specs.declared.Order.{Order}
 use Rattle.ordering.proofs.Laws.Greedy.{allAfter}
 use Rattle.ordering.proofs.Laws.Asks.{asks-snoc, after-snoc}
+use Rattle.ordering.proofs.Laws.Steps.{first-at}
 
 pub patterns-nil : (body : List Call) (b : Bound) → patternsIn body b [] ≡ []
 unfolding asks
@@ -55,3 +57,24 @@ module _ {body : List Call} {b₀ b : Bound} {i : ℕ} {places patterns : List �
 
   pub turns-end : (n : ℕ) → i ≡ n → n ≤ length body → take (length (take n places)) patterns ≡ patternsIn body b₀ (take n places)
   turns-end n e h = let l = w .room .0 in rw (length-take-le n places (omega arith), ← e) (w .told)
+
+-- ---- the pattern beside a place
+
+patterns-at : (body : List Call) (b : Bound) (σ : List ℕ) (i : ℕ) → i < length σ
+    → getD (patternsIn body b σ) i 0 ≡ patternOf (allAfter (afterAt body) b (take i σ)) (at body (getD σ i 0) .args)
+unfolding asks allAfter
+patterns-at body b [] i h = absurd (omega arith)
+patterns-at body b (p ∷ σ) zero h = refl
+patterns-at body b (p ∷ σ) (suc i) h = patterns-at body (afterAt body b p) σ i (omega arith)
+
+patterns-long : (body : List Call) (b : Bound) (σ : List ℕ) → length (patternsIn body b σ) ≡ length σ
+unfolding asks
+patterns-long body b [] = refl
+patterns-long body b (p ∷ σ) = ap suc (patterns-long body (afterAt body b p) σ)
+
+-- of an order
+pub pattern-beside : (body : List Call) (b : Bound) (o : Order) → patternsOf o ≡ patternsIn body b (placesOf o) → (i : ℕ) → i < length (placesOf o)
+    → getD (o .patterns) i 0 ≡ patternOf (allAfter (afterAt body) b (take i (placesOf o))) (at body (getD (placesOf o) i 0) .args)
+pattern-beside body b o e i h =
+    let l = ap length e ∙ patterns-long body b (placesOf o) in
+    sym (first-at (length (placesOf o)) (o .patterns) i (omega arith)) ∙ ap (λ (l : List ℕ). getD l i 0) e ∙ patterns-at body b (placesOf o) i h

@@ -1,37 +1,36 @@
 -- The calls of a body in its first good order, marked one after the other. Assumes nothing.
-use mathlib.Core.Path.{_≡_, refl, sym, ap, _∙_, subst}
-use mathlib.Core.List.{List, []}
-use Prim.Native.Nat.{ℕ, _+_, _^_, _≤_, _<_}
+use mathlib.Core.Path.{_≡_, refl, sym, ap, ap₂, _∙_, subst}
+use mathlib.Core.List.{List, [], _∷_, _++_}
+use mathlib.Core.Option.{Option}
+use Prim.Native.Nat.{ℕ, zero, suc, _+_, _^_, _≤_, _<_}
 use native.Mathlib.Numerals.{add-one}
 use native.Mathlib.Omega.{arith}
 use lib.Bits.{bitOr}
 use lib.ListN.{length, getD, set, take, length-set, length-take}
 use lib.Seq.{take-suc, take-all}
 use Rattle.masks.specs.Limits.{maxArity, allPatterns}
+use Rattle.masks.specs.Lists.{values}
 use Rattle.book.specs.Limits.{maxPredicates}
 use Rattle.book.specs.Book.{Call}
 use Rattle.book.specs.Held.{callOf}
 use Rattle.book.specs.declared.clause.Call as call
-use Rattle.ordering.specs.Adorn.{Table, Bound, patternOf, bindAll}
+use Rattle.ordering.specs.Adorn.{Table, Bound, patternOf}
 use Rattle.ordering.specs.Good.{at, afterAt, firstGood}
-use Rattle.ordering.specs.Asks.{asks}
-use Rattle.ordering.specs.Held.{orNone, orderOf, placesOf}
+use Rattle.ordering.specs.Asks.{Asked, asks, patternsIn}
+use Rattle.ordering.specs.Held.{orNone, orderOf, placesOf, patternsOf}
 use Rattle.ordering.specs.declared.Order.{Order}
 use Rattle.reach.specs.Marked.{Marked}
+use Rattle.masks.proofs.Laws.Lists.{values-cong}
 use Rattle.ordering.proofs.Laws.Good.{first-below}
 use Rattle.ordering.proofs.Laws.Greedy.{allAfter}
 use Rattle.ordering.proofs.Laws.Held.{placed-at}
-use Rattle.ordering.proofs.Laws.Asks.{asks-snoc, after-snoc}
+use Rattle.ordering.proofs.Laws.Asks.{asks-snoc}
+use Rattle.ordering.proofs.Laws.Patterns.{pattern-beside}
 use Rattle.ordering.proofs.Laws.Steps.{pattern-small}
-use Rattle.ordering.proofs.Laws.Run.{after-read}
 use Rattle.reach.proofs.Laws.Marked.{marked-nil, marked-append, marked-one}
 
 abbrev pub none : Call
 none = record { pred = 0; args = [] }
-
--- a call by value has six arguments at most
-pub pattern-few : (b : Bound) (s : call.Call) → length (s .args) ≡ maxArity → patternOf b (callOf s .args) < allPatterns
-pattern-few b s e = pattern-small b maxArity (callOf s .args) (simp length-take (omega arith))
 
 -- ---- the places of the order that was found
 
@@ -48,37 +47,73 @@ module _ (T : Table) (body : List Call) (b : Bound) (o : Order) (e : orderOf o �
   pub order-below : (i : ℕ) → i < length (placesOf o) → getD (o .places) i 0 < length body
   order-below i h = let q = order-at i h in let l = order-long in let r = first-below T body b i (omega arith) in omega arith
 
+  -- the pattern beside a place is that of the call there
+  pub order-pattern : patternsOf o ≡ patternsIn body b (placesOf o) → (i : ℕ) → i < length (placesOf o)
+      → getD (o .patterns) i 0 ≡ patternOf (allAfter (afterAt body) b (take i order)) (at body (getD order i 0) .args)
+  order-pattern t i h =
+      pattern-beside body b o t i h
+      ∙ ap (λ (σ : Option (List ℕ)). patternOf (allAfter (afterAt body) b (take i (orNone σ))) (at body (getD (orNone σ) i 0) .args)) e
+
+  -- of a call that was read by value, with six arguments at most
+  pub pattern-low : patternsOf o ≡ patternsIn body b (placesOf o) → (i : ℕ) → i < length (placesOf o) → (s : call.Call)
+      → callOf s ≡ getD body (getD (o .places) i 0) none → length (s .args) ≡ maxArity → getD (o .patterns) i 0 < allPatterns
+  unfolding at
+  pattern-low t i h s q n =
+      let r = order-pattern t i h in
+      let a : callOf s .args ≡ at body (getD order i 0) .args = ap (λ (c : Call). c .args) (q ∙ ap (λ (p : ℕ). getD body p none) (order-at i h)) in
+      let l = pattern-small (allAfter (afterAt body) b (take i order)) maxArity (at body (getD order i 0) .args) (rw (← a) (simp length-take (omega arith))) in
+      omega arith
+
 -- ---- the loop: the first i calls are marked
 
-pub record Marking (body : List Call) (b₀ : Bound) (σ before : List ℕ) (i : ℕ) (words : List ℕ) (names : ℕ) (b : Bound) : Type 0 where
-  pub most : i ≤ length σ
+-- a call as the order tells it
+abbrev pub callAt : List Call → List ℕ → List ℕ → ℕ → Asked
+callAt body places patterns i = record { pred = at body (getD places i 0) .pred; pattern = getD patterns i 0 }
+
+pub record Marking (body : List Call) (places patterns before : List ℕ) (n i : ℕ) (words : List ℕ) (names : ℕ) : Type 0 where
+  pub most : i ≤ n
   pub size : length words ≡ maxPredicates
-  pub bound : b ≡ allAfter (afterAt body) b₀ (take i σ)
-  pub marked : Marked before words names (asks body b₀ (take i σ))
+  pub marked : Marked before words names (values (callAt body places patterns) i)
 
-module _ {body : List Call} {b₀ : Bound} {σ before : List ℕ} where
-  pub marking-start : length before ≡ maxPredicates → Marking body b₀ σ before 0 before 0 b₀
-  unfolding allAfter asks
-  marking-start e = record { most = omega arith; size = e; bound = refl; marked = marked-nil before }
+module _ {body : List Call} {places patterns before : List ℕ} {n : ℕ} where
+  pub marking-start : length before ≡ maxPredicates → Marking body places patterns before n 0 before 0
+  marking-start e = record { most = omega arith; size = e; marked = marked-nil before }
 
-  module _ {i : ℕ} {words : List ℕ} {names : ℕ} {b : Bound} (m : Marking body b₀ σ before i words names b) where
-    -- s is the call at the next place
-    pub marking-next : {s : Call} {b′ : Bound} → i < length σ → s ≡ getD body (getD σ i 0) none → s .pred < maxPredicates → b′ ≡ bindAll b (s .args)
-        → Marking body b₀ σ before (i + 1) (set words (s .pred) (bitOr (getD words (s .pred) 0) (2 ^ patternOf b (s .args)))) (bitOr names (2 ^ s .pred)) b′
-    unfolding at
-    marking-next {s} {b′} h e l eb =
-        let p = getD σ i 0 in
-        let z = m .size in
-        record {
-          most = omega arith;
-          size = length-set words (s .pred) (bitOr (getD words (s .pred) 0) (2 ^ patternOf b (s .args))) ∙ z;
-          bound =
-              rw (add-one i, take-suc σ i 0 h)
-              (after-read body p e b eb ∙ ap (λ (c : Bound). afterAt body c p) (m .bound) ∙ sym (after-snoc body b₀ (take i σ) p));
-          marked =
-              rw (add-one i, take-suc σ i 0 h, asks-snoc body b₀ (take i σ) p, ← m .bound, ← e)
-              (marked-append (m .marked) (marked-one words (s .pred) (patternOf b (s .args)) (omega arith)));
-        }
+  -- s is the call at the next place
+  pub marking-next : {i : ℕ} {words : List ℕ} {names : ℕ} {s : Call} → Marking body places patterns before n i words names
+      → i < n → s ≡ getD body (getD places i 0) none → s .pred < maxPredicates
+      → Marking body places patterns before n (i + 1) (set words (s .pred) (bitOr (getD words (s .pred) 0) (2 ^ getD patterns i 0))) (bitOr names (2 ^ s .pred))
+  unfolding at
+  marking-next {i} {words} {names} {s} m h e l =
+      let z = m .size in
+      record {
+        most = omega arith;
+        size = length-set words (s .pred) (bitOr (getD words (s .pred) 0) (2 ^ getD patterns i 0)) ∙ z;
+        marked = rw (add-one i, ← e) (marked-append (m .marked) (marked-one words (s .pred) (getD patterns i 0) (omega arith)));
+      }
 
-    pub marking-end : length σ ≤ i → Marked before words names (asks body b₀ σ)
-    marking-end h = subst (λ (l : List ℕ). Marked before words names (asks body b₀ l)) (take-all i σ h) (m .marked)
+-- ---- at the end they are the calls of the order
+
+asks-values : (body : List Call) (b : Bound) (σ : List ℕ) (i : ℕ) → i ≤ length σ
+    → values (λ j. record { pred = at body (getD σ j 0) .pred; pattern = patternOf (allAfter (afterAt body) b (take j σ)) (at body (getD σ j 0) .args) }) i
+    ≡ asks body b (take i σ)
+unfolding asks
+asks-values body b σ zero h = refl
+asks-values body b σ (suc i) h =
+    rw (take-suc σ i 0 (omega arith), asks-snoc body b (take i σ) (getD σ i 0))
+    (ap (λ (l : List Asked). l ++ (record { pred = at body (getD σ i 0) .pred; pattern = patternOf (allAfter (afterAt body) b (take i σ)) (at body (getD σ i 0) .args) } ∷ []))
+    (asks-values body b σ i (omega arith)))
+
+module _ (T : Table) (body : List Call) (b : Bound) (o : Order) (e : orderOf o ≡ firstGood T body b) (t : patternsOf o ≡ patternsIn body b (placesOf o)) where
+  pub marking-end : {before words : List ℕ} {names n i : ℕ} → Marking body (o .places) (o .patterns) before n i words names → n ≡ length (placesOf o) → n ≤ i
+      → Marked before words names (asks body b (orNone (firstGood T body b)))
+  marking-end {before} {words} {names} {n} {i} m h d =
+      let z = m .most in
+      let σ : List ℕ = order T body b o e in
+      let l = order-long T body b o e in
+      let F : ℕ → Asked = λ j. record { pred = at body (getD σ j 0) .pred; pattern = patternOf (allAfter (afterAt body) b (take j σ)) (at body (getD σ j 0) .args) } in
+      let same : (j : ℕ) → j < i → callAt body (o .places) (o .patterns) j ≡ F j =
+      λ j k. ap₂ (λ (p a : ℕ). record { pred = at body p .pred; pattern = a }) (order-at T body b o e j (omega arith)) (order-pattern T body b o e t j (omega arith)) in
+      subst (λ (l : List Asked). Marked before words names l)
+      (values-cong (callAt body (o .places) (o .patterns)) F i same ∙ asks-values body b σ i (omega arith) ∙ ap (asks body b) (take-all i σ (omega arith)))
+      (m .marked)

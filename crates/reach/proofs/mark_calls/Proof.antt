@@ -1,5 +1,4 @@
--- `reach::mark_calls` meets its contract. The loop's invariant: the calls at the first i places of the order are marked, and `now` is what they bind.
--- Assumes nothing.
+-- `reach::mark_calls` meets its contract. The loop's invariant: the calls at the first i places of the order are marked. Assumes nothing.
 use mathlib.Core.Path.{_≡_, ap, _∙_}
 use Prim.Native.Nat.{ℕ, _-_, _<_}
 use native.Mathlib.Omega.{arith}
@@ -7,21 +6,18 @@ use lib.ListN.{length, getD}
 use borrow.Author.Needs.{needs}
 use Rattle.book.specs.Limits.{maxPredicates}
 use Rattle.book.specs.Held.{clauseAt}
-use Rattle.ordering.specs.Good.{firstGood}
-use Rattle.ordering.specs.Held.{tableIn, orNone}
+use Rattle.ordering.specs.Held.{tableIn}
 use Rattle.reach.specs.Marked.{callsBy}
 use Rattle.ordering.proofs.Laws.Run.{pred-read}
-use Rattle.reach.proofs.Laws.Marking.{order-long, order-at, order-below, none, pattern-few, Marking, marking-start, marking-next, marking-end}
+use Rattle.reach.proofs.Laws.Marking.{order-at, order-below, pattern-low, none, Marking, marking-start, marking-next, marking-end}
 use Rattle.reach.proofs.mark_calls.Statement.{statement}
 use Rattle.reach.proofs.mark_calls.Tie as tie
 
 abbrev Inv-loop : tie.InvT-loop
-Inv-loop rules k table words₀ o n names₀ now₀ i₀ words names now i =
-    let body = clauseAt rules k .body in
-    Marking body now₀ (orNone (firstGood (tableIn table maxPredicates) body now₀)) words₀ i words names now
+Inv-loop rules k table words₀ o n names₀ i₀ words names i = Marking (clauseAt rules k .body) (o .places) (o .patterns) words₀ n i words names
 
 abbrev μ-loop : tie.MeasureT-loop
-μ-loop rules k table words₀ o n names₀ now₀ i₀ words names now i = n - i
+μ-loop rules k table words₀ o n names₀ i₀ words names i = n - i
 
 first-order-requires : tie.Need-first-order-requires Inv-loop μ-loop
 first-order-requires c κs = c .before .pre
@@ -40,7 +36,7 @@ place c =
     let s = c .before .before .before .before .before .args in
     let o = c .before .before .before .first-order in
     let n = c .before .before .placed .ensures .0 in
-    order-below (tableIn (s .table .now) maxPredicates) (clauseAt (s .rules .now) (s .k) .body) (s .bound) (o .result) (o .ensures) (c .before .loop .i) (omega arith)
+    order-below (tableIn (s .table .now) maxPredicates) (clauseAt (s .rules .now) (s .k) .body) (s .bound) (o .result) (o .ensures .0) (c .before .loop .i) (omega arith)
 
 element-copy-out-subgoal-at : tie.Need-element-copy-out-subgoal-at Inv-loop μ-loop
 element-copy-out-subgoal-at c = search needs
@@ -70,14 +66,17 @@ mul-with-member c = search needs
 slice-read-with-member : tie.Need-slice-read-with-member Inv-loop μ-loop
 slice-read-with-member c = let l = low (c .before .before) in let z = c .before .before .before .before .before .loop .inv .size in omega arith
 
-pattern-requires : tie.Need-pattern-requires Inv-loop μ-loop
-pattern-requires c κs = search needs
+element-copy-out-with-member : tie.Need-element-copy-out-with-member Inv-loop μ-loop
+element-copy-out-with-member c = search needs
 
 with-member-requires : tie.Need-with-member-requires Inv-loop μ-loop
 with-member-requires c κs =
-    let e = c .pattern .ensures in
-    let l = pattern-few (c .before .before .before .before .before .before .loop .now) (c .before .before .before .subgoal-at .result) (few (c .before .before)) in
-    omega arith
+    let d = c .before .before .before in
+    let s = d .before .before .before .before .before .before .before .args in
+    let o = d .before .before .before .before .before .first-order in
+    let n = d .before .before .before .before .placed .ensures .0 in
+    pattern-low (tableIn (s .table .now) maxPredicates) (clauseAt (s .rules .now) (s .k) .body) (s .bound) (o .result) (o .ensures .0) (o .ensures .1)
+    (d .before .before .before .loop .i) (omega arith) (d .subgoal-at .result) (d .subgoal-at .ensures) (few (c .before .before))
 
 mul-words : tie.Need-mul-words Inv-loop μ-loop
 mul-words c = search needs
@@ -88,9 +87,6 @@ slice-write-words c = let l = low (c .before .before .before .before) in let z =
 with-member-requires-2 : tie.Need-with-member-requires-2 Inv-loop μ-loop
 with-member-requires-2 c κs = low (c .before .before .before .before)
 
-bind-all-requires : tie.Need-bind-all-requires Inv-loop μ-loop
-bind-all-requires c κs = search needs
-
 add-i : tie.Need-add-i Inv-loop μ-loop
 add-i c = search needs
 
@@ -99,17 +95,9 @@ loop-less c = search needs
 
 loop-again : tie.Need-loop-again Inv-loop μ-loop
 loop-again c =
-    let d = c .before .before .before .before .before .before in
-    let s = d .before .before .before .before .before .before .before .args in
-    let o = d .before .before .before .before .before .first-order in
-    let n = d .before .before .before .before .placed .ensures .0 in
-    let i = d .before .before .before .loop .i in
-    let body = clauseAt (s .rules .now) (s .k) .body in
-    let T = tableIn (s .table .now) maxPredicates in
-    let l = order-long T body (s .bound) (o .result) (o .ensures) in
-    let p = order-at T body (s .bound) (o .result) (o .ensures) i (omega arith) in
-    rw (c .before .before .with-member .ensures, c .before .with-member2 .ensures, c .before .before .before .pattern .ensures)
-    (marking-next (d .before .before .before .loop .inv) (omega arith) (d .subgoal-at .ensures ∙ ap (λ (j : ℕ). getD body j none) p) (low d) (c .bind-all .ensures))
+    let d = c .before .before .before .before .before in
+    rw (c .before .with-member .ensures, c .with-member2 .ensures)
+    (marking-next (d .before .before .before .loop .inv) (omega arith) (d .subgoal-at .ensures) (low d))
 
 returns : tie.Need-returns Inv-loop μ-loop
 unfolding callsBy
@@ -117,8 +105,7 @@ returns c =
     let s = c .before .before .before .before .before .args in
     let o = c .before .before .before .first-order in
     let n = c .before .before .placed .ensures .0 in
-    let l = order-long (tableIn (s .table .now) maxPredicates) (clauseAt (s .rules .now) (s .k) .body) (s .bound) (o .result) (o .ensures) in
-    marking-end (c .before .loop .inv) (omega arith)
+    marking-end (tableIn (s .table .now) maxPredicates) (clauseAt (s .rules .now) (s .k) .body) (s .bound) (o .result) (o .ensures .0) (o .ensures .1) (c .before .loop .inv) n (omega arith)
 
 pub mark-calls-spec : {M : Type 1} → statement M
 mark-calls-spec =
@@ -135,12 +122,11 @@ mark-calls-spec =
     cast-p
     mul-with-member
     slice-read-with-member
-    pattern-requires
+    element-copy-out-with-member
     with-member-requires
     mul-words
     slice-write-words
     with-member-requires-2
-    bind-all-requires
     add-i
     loop-less
     loop-again
