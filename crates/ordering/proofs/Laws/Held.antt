@@ -1,16 +1,17 @@
--- A table as the code holds it: what it has at each predicate; the predicates that subgoals call; and how long an order is. Assumes nothing.
-use mathlib.Core.Path.{_≡_, sym}
-use mathlib.Core.Bool.{true, false, not}
+-- A table as the code holds it: what it has at each predicate; the predicates that subgoals call; and the places of an order. Assumes nothing.
+use mathlib.Core.Path.{_≡_, refl, sym}
+use mathlib.Core.Bool.{Bool, true, false, not, cond}
 use mathlib.Core.List.{List, []}
+use mathlib.Core.Option.{none, some}
 use Prim.Native.Nat.{ℕ, _<_, _≤_, min}
 use native.Mathlib.Omega.{arith}
 use lib.Dec.{ltb}
-use lib.ListN.{length, getD, length-take}
+use lib.ListN.{length, getD, take, length-take}
 use borrow.Author.Tests.{ltb-true, lt-ltb, not-true, not-false}
 use Rattle.book.specs.Limits.{maxSubgoals}
 use Rattle.book.specs.Book.{Call}
 use Rattle.ordering.specs.Good.{at}
-use Rattle.ordering.specs.Held.{entryIn, tableIn, callsBelow, placesOf}
+use Rattle.ordering.specs.Held.{entryIn, tableIn, callsBelow, orNone, placesOf}
 use Rattle.ordering.specs.declared.Order.{Order}
 use Rattle.masks.proofs.Laws.Lists.{all-at, length-values, getD-values, all-mono}
 
@@ -38,3 +39,11 @@ placed-none o e = rw (not-true (o .found) e)
 
 pub placed-some : (o : Order) → not (o .found) ≡ false → length (o .places) ≡ maxSubgoals → length (placesOf o) ≡ min (o .n) maxSubgoals
 placed-some o e h = rw (not-false (o .found) e, sym h) (length-take (o .n) (o .places))
+
+-- the places are the first of its array
+pub placesOf-take : (o : Order) → placesOf o ≡ take (cond (o .found) (o .n) 0) (o .places)
+placesOf-take o = go (o .found)
+  where
+    go : (b : Bool) → orNone (cond b (some (take (o .n) (o .places))) none) ≡ take (cond b (o .n) 0) (o .places)
+    go true = refl
+    go false = refl
