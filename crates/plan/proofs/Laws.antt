@@ -1,0 +1,3 @@
+-- The laws of this crate's definitions and loops.
+pub mod Rows
+pub mod Lengths
