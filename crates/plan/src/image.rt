@@ -16,7 +16,9 @@ ghost use mathlib.Core.Path.{_≡_};
 ghost use mathlib.Core.Bool.{true};
 ghost use mathlib.Core.List.{_∷_};
 ghost use Prim.Native.Nat.{_+_, _*_, _<_, _≤_};
+ghost use lib.Count.{ones};
 ghost use lib.ListN.{length};
+ghost use Rattle.masks.specs.Limits.{allPatterns};
 ghost use Rattle.book.specs.Limits.{maxPredicates, maxClauses, maxSubgoals};
 ghost use Rattle.book.specs.Held.{clauseAt};
 ghost use Rattle.ordering.specs.Held.{placesOf, callsBelow};
@@ -39,7 +41,7 @@ pub fn plan_length<'a>(
     let mut p: u8 = 0;
     while p < preds {
         let q = p as usize;
-        let patterns = u64::count_ones(reached[q]) as usize;
+        let patterns = members(reached[q]);
         total += rows_length(rules, own[q]) * patterns;
         p += 1;
     }
@@ -59,6 +61,14 @@ fn rows_length(rules: &[u8; RULES_SIZE], own: u64) -> usize
         total += 5 + subgoals_at(rules, k);
     }
     total
+}
+
+// How many members a set has. A parameter's range is known to the proof, an element's of a lent array is not.
+fn members(set: u64) -> usize
+    ensures { λ r. ⌜ r ≡ ones set ⌝ }
+    ensures { λ r. ⌜ r ≤ allPatterns ⌝ }
+{
+    u64::count_ones(set) as usize
 }
 
 // "`QO`, n, n places; then for each reached predicate with clauses, ascending by predicate and then pattern", from the output's start.

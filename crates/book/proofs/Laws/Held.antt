@@ -87,6 +87,9 @@ module _ (rules : List ℕ) (k : ℕ) where
       ∙ length-take (getD rules (k * clauseSize) 0) (callsIn rules (k * clauseSize + 9) maxSubgoals)
       ∙ ap (min (getD rules (k * clauseSize) 0)) (length-values (callAt rules (k * clauseSize + 9)) maxSubgoals)
 
+  pub clauseAt-few : length (clauseAt rules k .body) ≤ maxSubgoals
+  clauseAt-few = let e = clauseAt-count in omega arith
+
   pub clauseAt-body : (d : Call) (j : ℕ) → j < length (clauseAt rules k .body)
       → getD (clauseAt rules k .body) j d ≡ callIn (window (k * clauseSize + 9 + j * callSize) callSize rules)
   unfolding callsIn callAt

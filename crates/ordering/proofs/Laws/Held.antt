@@ -1,5 +1,5 @@
--- A table as the code holds it: what it has at each predicate; the predicates that subgoals call; and how long an order is. Assumes nothing.
-use mathlib.Core.Path.{_≡_, refl, sym, _∙_}
+-- A table as the code holds it: what it has at each predicate; the predicates that subgoals call; and the places of an order. Assumes nothing.
+use mathlib.Core.Path.{_≡_, refl, sym, ap, _∙_, subst}
 use mathlib.Core.Bool.{Bool, true, false, not, cond}
 use mathlib.Core.List.{List, [], _∷_}
 use mathlib.Core.Option.{none, some}
@@ -66,11 +66,16 @@ placed-none o e = rw (not-true (o .found) e)
 pub placed-some : (o : Order) → not (o .found) ≡ false → length (o .places) ≡ maxSubgoals → length (placesOf o) ≡ min (o .n) maxSubgoals
 placed-some o e h = rw (not-false (o .found) e, sym h) (length-take (o .n) (o .places))
 
+-- the places are the first of its array
+pub placesOf-take : (o : Order) → placesOf o ≡ take (cond (o .found) (o .n) 0) (o .places)
+placesOf-take o = go (o .found)
+  where
+    go : (b : Bool) → orNone (cond b (some (take (o .n) (o .places))) none) ≡ take (cond b (o .n) 0) (o .places)
+    go true = refl
+    go false = refl
+
 -- each as it is held
 pub placed-at : (o : Order) (i : ℕ) → i < length (placesOf o) → getD (o .places) i 0 ≡ getD (placesOf o) i 0
-placed-at o i = go (o .found)
-  where
-    go : (b : Bool) → i < length (orNone (cond b (some (take (o .n) (o .places))) none))
-        → getD (o .places) i 0 ≡ getD (orNone (cond b (some (take (o .n) (o .places))) none)) i 0
-    go true h = sym (first-at (o .n) (o .places) i h)
-    go false h = absurd (omega arith)
+placed-at o i h =
+    let e = placesOf-take o in
+    sym (first-at (cond (o .found) (o .n) 0) (o .places) i (subst (λ (l : List ℕ). i < length l) e h)) ∙ ap (λ (l : List ℕ). getD l i 0) (sym e)

@@ -1,11 +1,12 @@
 -- Bytes that come in chunks, and the loops over them: one writes them, one measures them. Assumes nothing.
-use mathlib.Core.Path.{_≡_, sym, ap, _∙_}
+use mathlib.Core.Path.{_≡_, refl, sym, ap, _∙_}
 use mathlib.Core.List.{List, [], _++_}
 use Prim.Native.Nat.{ℕ, zero, suc, _+_, _*_, _-_, _≤_, _<_}
 use native.Mathlib.Omega.{arith}
 use native.Mathlib.Nat.{add-zero, mul-suc}
 use native.Mathlib.Numerals.{add-one}
 use lib.ListN.{length, length-append}
+use Rattle.masks.specs.Lists.{joined}
 use Rattle.writing.specs.Wrote.{Room, Wrote}
 use Rattle.writing.proofs.Laws.Wrote.{wrote-nil, wrote-append, wrote-as, wrote-length}
 
@@ -15,6 +16,10 @@ pub record Chunks (n : ℕ) (f chunk : ℕ → List ℕ) (bytes : List ℕ) : Ty
   pub none : f 0 ≡ []
   pub next : (i : ℕ) → i < n → f (i + 1) ≡ f i ++ chunk i
   pub whole : f n ≡ bytes
+
+-- lists one after the other
+pub joined-chunks : (chunk : ℕ → List ℕ) (n : ℕ) → Chunks n (joined chunk) chunk (joined chunk n)
+joined-chunks chunk n = record { none = refl; next = λ i h. rw add-one; whole = refl }
 
 module _ {n : ℕ} {f chunk : ℕ → List ℕ} {bytes : List ℕ} (s : Chunks n f chunk bytes) where
   next-length : (i : ℕ) → i < n → length (f (i + 1)) ≡ length (f i) + length (chunk i)
