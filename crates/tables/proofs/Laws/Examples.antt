@@ -1,6 +1,6 @@
 -- Document 01's examples K1 to K12, their rounds and constraints as rows of one table, computed from the definitions; the crate `choices` goes on with
 -- their plans. (K6 speaks of no book: it is there, too.) Where document 01 gives no numbers to predicates and variables, they are numbered as they are
--- first named, and where it gives no query, one reaches the patterns it names. Behind them stand a book of this file's own, for what document 01 says
+-- first named, and where it gives no query, one reaches the patterns it names. Behind them stand books of this file's own, for what document 01 says
 -- and none of its examples shows, and the image of K1. Assumes nothing.
 use mathlib.Core.Path.{_≡_, refl}
 use mathlib.Core.List.{List, [], _∷_}
@@ -165,6 +165,21 @@ examples =
 
 -- ---- books that are none of document 01's
 
+-- a predicate with two clauses and one with a clause that stands before them: b(X) :- m(X), then a(X) :- b(X) and a(X) :- m(X), where a is predicate 0
+-- and b predicate 1. The query a(X), a(X)
+abbrev pub several : Row
+several =
+    record {
+      book = rules (1 ∷ 1 ∷ 1 ∷ []) []
+          (clause (call 1 (0 ∷ [])) (call 2 (0 ∷ []) ∷ [])
+          ∷ clause (call 0 (0 ∷ [])) (call 1 (0 ∷ []) ∷ [])
+          ∷ clause (call 0 (0 ∷ [])) (call 2 (0 ∷ []) ∷ [])
+          ∷ [])
+          (call 0 (0 ∷ []) ∷ call 0 (0 ∷ []) ∷ []);
+      rounds = 0;
+      needs = (0 ∷ []) ∷ (0 ∷ []) ∷ (0 ∷ []) ∷ [];
+    }
+
 pub others : List Row
 others =
     -- "A predicate's pattern is good when all its clauses are good under it." r(X,Y) :- f(X) and r(X,Y) :- g(Y), each needing {1}: masks 3
@@ -175,11 +190,12 @@ others =
       rounds = 1;
       needs = (3 ∷ []) ∷ (1 ∷ []) ∷ (1 ∷ []) ∷ [];
     }
+    ∷ several
     ∷ []
 
 pub others-hold : EachHolds others
 unfolding compute others
-others-hold = ((refl, refl), tt)
+others-hold = ((refl, refl), ((refl, refl), tt))
 
 -- ---- an image
 
