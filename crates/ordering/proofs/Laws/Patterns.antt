@@ -1,20 +1,27 @@
--- The patterns that the code stores beside the places of an order: each is that of its subgoal where all before it are taken. Assumes nothing.
+-- The patterns that the code stores beside the places of an order: each is that of its subgoal where all before it are taken. With them, the whole
+-- of what the code keeps on its way to an order. Assumes nothing.
 use mathlib.Core.Path.{_≡_, refl, sym, ap, ap₂, _∙_}
+use mathlib.Core.Bool.{Bool, true, false}
 use mathlib.Core.List.{List, [], _∷_, _++_, map, map-append}
-use Prim.Native.Nat.{ℕ, zero, suc, _+_, _≤_, _<_}
+use mathlib.Core.Option.{none, some}
+use Prim.Native.Nat.{ℕ, _+_, _≤_, _<_, zero, suc}
 use native.Mathlib.Numerals.{add-one}
 use native.Mathlib.Omega.{arith}
-use lib.ListN.{length, getD, set, take, length-set}
+use lib.ListN.{length, set, take, replicate, length-set, getD}
 use lib.Seq.{length-take-le, take-suc-set}
 use Rattle.book.specs.Book.{Call}
-use Rattle.ordering.specs.Adorn.{Bound, patternOf}
-use Rattle.ordering.specs.Good.{at, afterAt}
+use Rattle.ordering.specs.Adorn.{Table, Bound, patternOf}
+use Rattle.ordering.specs.Good.{at, readyAt, afterAt, firstGood}
 use Rattle.ordering.specs.Asks.{Asked, asks, patternsIn}
-use Rattle.ordering.specs.Held.{placesOf, patternsOf, PatternAt}
+use Rattle.ordering.specs.Held.{picked, PatternAt, placesOf, patternsOf}
 use Rattle.ordering.specs.declared.Order.{Order}
 use Rattle.ordering.proofs.Laws.Greedy.{allAfter}
+use Rattle.ordering.proofs.Laws.Good.{greedy-is-first}
 use Rattle.ordering.proofs.Laws.Asks.{asks-snoc, after-snoc}
+use Rattle.ordering.proofs.Laws.Run.{Run, run-start, run-next, run-stuck, run-end}
 use Rattle.ordering.proofs.Laws.Steps.{first-at}
+
+-- ---- the patterns of an order, one place more
 
 pub patterns-nil : (body : List Call) (b : Bound) → patternsIn body b [] ≡ []
 unfolding asks
@@ -26,20 +33,22 @@ patterns-snoc body b σ p =
     ap (map (λ (x : Asked). x .pattern)) (asks-snoc body b σ p)
     ∙ map-append (λ (x : Asked). x .pattern) (asks body b σ) (record { pred = at body p .pred; pattern = patternOf (allAfter (afterAt body) b σ) (at body p .args) } ∷ [])
 
+-- ---- the patterns that are stored
+
 -- i places are taken from b₀ on, and b is bound: the patterns beside them are those of their subgoals in their turn
 pub record Turns (body : List Call) (b₀ : Bound) (i : ℕ) (b : Bound) (places patterns : List ℕ) : Type 0 where
   pub room : (length body ≤ length places) × (length body ≤ length patterns)
   pub taken : b ≡ allAfter (afterAt body) b₀ (take i places)
   pub told : take i patterns ≡ patternsIn body b₀ (take i places)
 
-pub turns-start : (body : List Call) (b : Bound) (places patterns : List ℕ) → length body ≤ length places → length body ≤ length patterns
+turns-start : (body : List Call) (b : Bound) (places patterns : List ℕ) → length body ≤ length places → length body ≤ length patterns
     → Turns body b 0 b places patterns
 unfolding allAfter
 turns-start body b places patterns h k = record { room = (h, k); taken = refl; told = sym (patterns-nil body b) }
 
 module _ {body : List Call} {b₀ b : Bound} {i : ℕ} {places patterns : List ℕ} (w : Turns body b₀ i b places patterns) where
   -- a place is taken: it is stored behind the others, and its pattern beside it
-  pub turns-next : (p a : ℕ) → i < length body → p < length body → PatternAt body b p a → {b′ : Bound} {places′ patterns′ : List ℕ} → b′ ≡ afterAt body b p
+  turns-next : (p a : ℕ) → i < length body → p < length body → PatternAt body b p a → {b′ : Bound} {places′ patterns′ : List ℕ} → b′ ≡ afterAt body b p
       → places′ ≡ set places i p → patterns′ ≡ set patterns i a → Turns body b₀ (i + 1) b′ places′ patterns′
   turns-next p a h k t eb ep ea =
       let l = w .room .0 in
@@ -55,8 +64,40 @@ module _ {body : List Call} {b₀ b : Bound} {i : ℕ} {places patterns : List �
             ∙ sym (patterns-snoc body b₀ (take i places) p));
       }
 
-  pub turns-end : (n : ℕ) → i ≡ n → n ≤ length body → take (length (take n places)) patterns ≡ patternsIn body b₀ (take n places)
+  turns-end : (n : ℕ) → i ≡ n → n ≤ length body → take (length (take n places)) patterns ≡ patternsIn body b₀ (take n places)
   turns-end n e h = let l = w .room .0 in rw (length-take-le n places (omega arith), ← e) (w .told)
+
+-- ---- the loop
+
+-- the run of the greedy rule, and the patterns beside its places
+pub record Going (T : Table) (body : List Call) (b₀ : Bound) (i : ℕ) (b : Bound) (used : List Bool) (places patterns : List ℕ) : Type 0 where
+  pub run : Run (readyAt T body) (afterAt body) b₀ (length body) i b used places
+  pub turns : Turns body b₀ i b places patterns
+
+pub going-start : (T : Table) (body : List Call) (b : Bound) (m : ℕ) (places patterns : List ℕ) → length body ≤ m → length body ≤ length places → length body ≤ length patterns
+    → Going T body b 0 b (replicate m false) places patterns
+going-start T body b m places patterns h k l =
+    record { run = run-start b (length body) m places h k; turns = turns-start body b places patterns k l }
+
+module _ {T : Table} {body : List Call} {b₀ b : Bound} {i : ℕ} {used : List Bool} {places patterns : List ℕ} (w : Going T body b₀ i b used places patterns) where
+  -- the first place that is ready is taken, with its subgoal's pattern
+  pub going-next : (p a : ℕ) → p ≡ picked used (readyAt T body b) (length body) → PatternAt body b p a → i < length body → p < length body
+      → {b′ : Bound} {used′ : List Bool} {places′ patterns′ : List ℕ} → b′ ≡ afterAt body b p → used′ ≡ set used p true → places′ ≡ set places i p → patterns′ ≡ set patterns i a
+      → Going T body b₀ (i + 1) b′ used′ places′ patterns′
+  going-next p a e t h k eb eu ep ea =
+      record { run = run-next (w .run) p e h k eb eu ep; turns = turns-next (w .turns) p a h k t eb ep ea }
+
+  -- where no place is ready, no order is good
+  pub going-stuck : (p : ℕ) → p ≡ picked used (readyAt T body b) (length body) → i < length body → length body ≤ p → none ≡ firstGood T body b₀
+  going-stuck p e h k = sym (run-stuck (w .run) p e h k) ∙ greedy-is-first T body b₀
+
+  pub going-end : (n : ℕ) → n ≡ length body → n ≤ i
+      → (some (take n places) ≡ firstGood T body b₀) × (take (length (take n places)) patterns ≡ patternsIn body b₀ (take n places))
+  going-end n e h =
+      let m = w .run .most in (
+        ap (λ (j : ℕ). some (take j places)) e ∙ sym (run-end (w .run) (omega arith)) ∙ greedy-is-first T body b₀,
+        turns-end (w .turns) n (omega arith) (omega arith),
+      )
 
 -- ---- the pattern beside a place
 

@@ -1,25 +1,21 @@
 -- `ordering::first_order` meets its contract. The loop's invariant: the first i places, with what the greedy rule makes of those not used, are what
 -- it makes of all; and that is the first good order. Beside each place stands its subgoal's pattern in its turn. Assumes nothing.
-use mathlib.Core.Path.{refl, sym, _∙_}
+use mathlib.Core.Path.{refl, sym}
 use Prim.Native.Nat.{_-_}
 use native.Mathlib.Omega.{arith}
-use lib.ListN.{length}
 use borrow.Author.Needs.{needs}
 use Rattle.book.specs.Limits.{maxPredicates}
 use Rattle.book.specs.Held.{clauseAt}
-use Rattle.ordering.specs.Good.{readyAt, afterAt}
 use Rattle.ordering.specs.Held.{tableIn}
 use Rattle.book.proofs.Laws.Held.{clauseAt-count}
-use Rattle.ordering.proofs.Laws.Good.{greedy-is-first}
-use Rattle.ordering.proofs.Laws.Run.{after-read, Run, run-start, run-next, run-stuck, run-end}
-use Rattle.ordering.proofs.Laws.Patterns.{patterns-nil, Turns, turns-start, turns-next, turns-end}
+use Rattle.ordering.proofs.Laws.Run.{after-read}
+use Rattle.ordering.proofs.Laws.Patterns.{patterns-nil, Going, going-start, going-next, going-stuck, going-end}
 use Rattle.ordering.proofs.first_order.Statement.{statement}
 use Rattle.ordering.proofs.first_order.Tie as tie
 
 abbrev Inv-loop : tie.InvT-loop
 Inv-loop rules k table n places₀ patterns₀ used₀ now₀ i₀ places patterns used now i =
-    let body = clauseAt rules k .body in
-    Run (readyAt (tableIn table maxPredicates) body) (afterAt body) now₀ (length body) i now used places × Turns body now₀ i now places patterns
+    Going (tableIn table maxPredicates) (clauseAt rules k .body) now₀ i now used places patterns
 
 abbrev μ-loop : tie.MeasureT-loop
 μ-loop rules k table n places₀ patterns₀ used₀ now₀ i₀ places patterns used now i = n - i
@@ -30,10 +26,8 @@ subgoals-at-requires c κs = c .pre .0
 loop-holds : tie.Need-loop-holds Inv-loop μ-loop
 loop-holds c =
     let s = c .before .args in
-    let n = clauseAt-count (s .rules .now) (s .k) in (
-      run-start (s .bound) (length (clauseAt (s .rules .now) (s .k) .body)) 8 _ (omega arith) (omega arith),
-      turns-start (clauseAt (s .rules .now) (s .k) .body) (s .bound) _ _ (omega arith) (omega arith),
-    )
+    let n = clauseAt-count (s .rules .now) (s .k) in
+    going-start _ (clauseAt (s .rules .now) (s .k) .body) (s .bound) 8 _ _ (omega arith) (omega arith) (omega arith)
 
 first-ready-requires : tie.Need-first-ready-requires Inv-loop μ-loop
 first-ready-requires c κs = c .before .before .before .pre
@@ -43,8 +37,7 @@ returns c =
     let s = c .before .before .before .before .before .args in
     let n = c .before .before .before .before .subgoals-at .ensures in
     let r = c .before .first-ready in (
-      sym (run-stuck (c .before .before .before .loop .inv .0) (r .result .place) (r .ensures .0) (omega arith) (omega arith))
-          ∙ greedy-is-first (tableIn (s .table .now) maxPredicates) (clauseAt (s .rules .now) (s .k) .body) (s .bound),
+      going-stuck (c .before .before .before .loop .inv) (r .result .place) (r .ensures .0) (omega arith) (omega arith),
       sym (patterns-nil (clauseAt (s .rules .now) (s .k) .body) (s .bound)),
     )
 
@@ -92,10 +85,8 @@ loop-again c =
     let n = c .before .before .before .before .before .before .subgoals-at .ensures in
     let l = c .before .before .before .before .before .loop in
     let r = c .before .before .before .first-ready in
-    let e = after-read (clauseAt (s .rules .now) (s .k) .body) (r .result .place) (c .before .subgoal-at .ensures) (l .now) (c .bind-all .ensures) in (
-      run-next (l .inv .0) (r .result .place) (r .ensures .0) (omega arith) (omega arith) e refl refl,
-      turns-next (l .inv .1) (r .result .place) (r .result .pattern) (omega arith) (omega arith) (r .ensures .1) e refl refl,
-    )
+    going-next (l .inv) (r .result .place) (r .result .pattern) (r .ensures .0) (r .ensures .1) (omega arith) (omega arith)
+    (after-read (clauseAt (s .rules .now) (s .k) .body) (r .result .place) (c .before .subgoal-at .ensures) (l .now) (c .bind-all .ensures)) refl refl refl
 
 cast-count : tie.Need-cast-count Inv-loop μ-loop
 cast-count c =
@@ -104,16 +95,7 @@ cast-count c =
     omega (arith, clauseAt-count (s .rules .now) (s .k))
 
 returns-2 : tie.Need-returns-2 Inv-loop μ-loop
-returns-2 c =
-    let s = c .before .before .before .args in
-    let n = c .before .before .subgoals-at .ensures in
-    let w = c .before .loop .inv .0 in
-    let m = w .most in (
-      rw n
-          (sym (run-end w (omega arith))
-          ∙ greedy-is-first (tableIn (s .table .now) maxPredicates) (clauseAt (s .rules .now) (s .k) .body) (s .bound)),
-      turns-end (c .before .loop .inv .1) (c .before .before .subgoals-at .result) (omega arith) (omega arith),
-    )
+returns-2 c = let n = c .before .before .subgoals-at in going-end (c .before .loop .inv) (n .result) (n .ensures) (omega arith)
 
 pub first-order-spec : {M : Type 1} → statement M
 first-order-spec =
