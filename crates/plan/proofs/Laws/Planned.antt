@@ -5,25 +5,28 @@ use mathlib.Core.Path.{_≡_, refl, sym, ap, ap₂, _∙_, subst}
 use mathlib.Core.Bool.{true, false, cond}
 use mathlib.Core.List.{List, [], _∷_, _++_, append-nil}
 use mathlib.Core.Option.{Option, none, some}
-use Prim.Native.Nat.{ℕ, _+_, _*_, _≤_, _<_}
+use Prim.Native.Nat.{ℕ, _+_, _*_, _≤_, _<_, min}
 use native.Mathlib.Omega.{arith}
 use lib.Count.{ones}
 use lib.Dec.{eqb, ltb}
-use lib.ListN.{length, getD, length-append, List·getD-eq-default}
+use lib.ListN.{length, getD, take, length-append, List·getD-eq-default}
+use lib.Seq.{sets}
 use borrow.Author.Tests.{eqb-true, leb-true, ltb-true, lt-ltb, le-ltb}
 use Rattle.masks.specs.Limits.{allPatterns}
 use Rattle.masks.specs.Lists.{joined}
-use Rattle.masks.specs.Outcome.{refused}
+use Rattle.masks.specs.Outcome.{Answers, refused}
 use Rattle.masks.specs.Set.{bitAt}
+use Rattle.masks.specs.declared.reply.Reply.{Reply}
 use Rattle.book.specs.Limits.{maxPredicates, maxClauses}
 use Rattle.book.specs.Book.{Call, Clause, Book}
-use Rattle.book.specs.Encode.{run}
-use Rattle.book.specs.Held.{clauseAt}
+use Rattle.book.specs.Encode.{WellFormed, run}
+use Rattle.book.specs.Held.{clauseAt, clausesOf, bookIn}
 use Rattle.ordering.specs.Adorn.{Table, Bound, nothing, headBound}
 use Rattle.ordering.specs.Good.{firstGood, isSome}
-use Rattle.ordering.specs.Held.{tableIn, callsBelow, orNone, orderOf}
+use Rattle.ordering.specs.Held.{tableIn, callsBelow, orNone, orderOf, placesOf}
 use Rattle.ordering.specs.declared.Order.{Order}
 use Rattle.tables.specs.Table.{final}
+use Rattle.writing.specs.Wrote.{Room, Wrote}
 use Rattle.needs.specs.Sets.{Owns, Known}
 use Rattle.choices.specs.Choice.{clause, Reaches}
 use Rattle.choices.specs.Reached.{marked, reached}
@@ -33,6 +36,7 @@ use Rattle.plan.specs.Lent.{Lent, EachCallable, rowBy, clauseRows, patte
 use Rattle.masks.proofs.Laws.Logic.{byBool, byRange, same, false-of, clash, and-left, and-right}
 use Rattle.masks.proofs.Laws.Lists.{joined-cong, joined-cut}
 use Rattle.masks.proofs.Laws.Set.{bitAt-zero}
+use Rattle.masks.proofs.Laws.Outcome.{answers-short, answers-done}
 use Rattle.book.proofs.Laws.Encode.{run-joined}
 use Rattle.ordering.proofs.Laws.Held.{callsBelow-mono, first-cut}
 use Rattle.tables.proofs.Laws.Sums.{howMany, sum-cong, length-joined, howMany-each, ones-below}
@@ -40,7 +44,7 @@ use Rattle.tables.proofs.Laws.Valid.{query-calls, clause-calls}
 use Rattle.needs.proofs.Laws.Settling.{clauses-count, clause-is, known-clauses}
 use Rattle.choices.proofs.Laws.Reached.{reaches-low, reached-iff, reaches-agree, reaches-back}
 use Rattle.choices.proofs.Laws.Moded.{chosen-choice, reached-good}
-use Rattle.choices.proofs.Laws.Plan.{planned-none}
+use Rattle.choices.proofs.Laws.Plan.{planned-good, planned-none}
 
 -- an order that was found is the one chosen
 standing-none : (n : ℕ) (o : Option (List ℕ)) → isSome o ≡ true → orStanding n o ≡ orNone o
@@ -270,5 +274,34 @@ module _ (B : Book) (preds clauses : ℕ) (rules table : List ℕ) (l : Lent B p
     given-none f = planned-none B (ap isSome (sym (query-order B preds clauses rules table l)) ∙ ap isSome (sym e) ∙ rw f)
 
     -- one was: a plan
-    pub given-some : q .found ≡ true → isSome (firstGood (final B) (B .query) nothing) ≡ true
-    given-some f = ap isSome (sym (query-order B preds clauses rules table l)) ∙ ap isSome (sym e) ∙ rw f
+    module _ (f : q .found ≡ true) (own words : List ℕ) (o : Owns rules clauses own) (m : ReachedIn rules clauses table words) (n : ℕ) (size : n ≡ planLength preds rules own words) where
+      given-some : isSome (firstGood (final B) (B .query) nothing) ≡ true
+      given-some = ap isSome (sym (query-order B preds clauses rules table l)) ∙ ap isSome (sym e) ∙ rw f
+
+      given-bytes : planBytes (placesOf q) preds rules table own words ≡ image B
+      given-bytes = plan-bytes B preds clauses rules table l given-some own words o m (placesOf q) (ap orNone e)
+
+      given-size : n ≡ length (image B)
+      given-size = size ∙ plan-long B preds clauses rules table l given-some own words o m
+
+      -- there is room for it
+      pub given-room : (out : List ℕ) → n ≤ length out → Room out 0 (planBytes (placesOf q) preds rules table own words)
+      given-room out h = let z = given-size in let b = ap length given-bytes in omega arith
+
+      -- 9, or the plan with its length
+      pub given-short : (out : List ℕ) {r : Reply} → length out < n → r ≡ record { number = 9; value = n; rounds = 0 } → Answers (planned B) out r out
+      given-short out h g = rw (planned-good B given-some) (answers-short 0 (image B) out n given-size h g)
+
+      pub given-done : (out : List ℕ) {after : List ℕ} {next : ℕ} {r : Reply} → n ≤ length out → r ≡ record { number = 0; value = n; rounds = 0 }
+          → Wrote out after 0 next (planBytes (placesOf q) preds rules table own words) → Answers (planned B) out r after
+      given-done out h g w = rw (planned-good B given-some) (answers-done 0 (image B) out n given-size h g (w .is ∙ ap (sets out 0) given-bytes))
+
+-- ---- a book that was read
+
+pub lent-read : (preds : ℕ) (arities modes : List ℕ) (clauses : ℕ) (rules table : List ℕ) → length (take preds arities) ≡ preds → clauses ≤ maxClauses
+    → WellFormed (bookIn preds arities modes clauses rules) → tableIn table preds ≡ final (bookIn preds arities modes clauses rules)
+    → Lent (bookIn preds arities modes clauses rules) preds clauses rules table
+unfolding bookIn
+lent-read preds arities modes clauses rules table as-many few w t =
+    let e : min clauses maxClauses ≡ clauses = omega arith in
+    record { well = w; preds· = as-many; few = few; clauses· = ap (clausesOf rules) e; query· = refl; table· = t }

@@ -33,7 +33,7 @@ put-byte-requires-2 c κs = search needs
 
 -- the row of the order found
 row : (c : tie.After-first-order) → let s = c .before .before .before .before .args in let σ = placesOf (c .first-order .result) in 67 ∷ 79 ∷ s .k ∷ s .a ∷ length σ ∷ σ ≡ encRow (rowBy (s .rules .now) (s .table .now) (s .k) (s .a))
-row c = let s = c .before .before .before .before .args in row-found (s .rules .now) (s .table .now) (s .k) (s .a) (c .before .before .head-at .result) (c .first-order .result) (c .before .before .head-at .ensures) (c .before .head-bound .ensures) (c .first-order .ensures)
+row c = let s = c .before .before .before .before .args in row-found (s .rules .now) (s .table .now) (s .k) (s .a) (c .before .before .head-at .result) (c .first-order .result) (c .before .before .head-at .ensures) (c .before .head-bound .ensures) (c .first-order .ensures .0)
 
 put-order-requires : tie.Need-put-order-requires
 put-order-requires c κs =
