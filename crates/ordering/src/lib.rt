@@ -13,6 +13,7 @@ use book::mode::mode_at;
 use masks::constraint::fits;
 ghost use mathlib.Core.Path.{_≡_};
 ghost use mathlib.Core.Bool.{true};
+ghost use mathlib.Core.Option.{none};
 ghost use Prim.Native.Nat.{_≤_};
 ghost use lib.ListN.{length};
 ghost use Rattle.book.specs.Limits.{maxPredicates, maxClauses, maxSubgoals};
@@ -58,12 +59,7 @@ pub fn first_order<'a>(
         let t = first_ready(rules, k, table, now, used);
         let p = t.place;
         if n <= p {
-            return Order {
-                found: false,
-                n: 0,
-                places,
-                patterns,
-            };
+            return no_order();
         }
         let s = subgoal_at(rules, k, p);
         let then = bind_all(now, s);
@@ -79,6 +75,18 @@ pub fn first_order<'a>(
         n: count,
         places,
         patterns,
+    }
+}
+
+// What is answered where no order is good.
+fn no_order() -> Order
+    ensures { λ r. ⌜ orderOf r ≡ none ⌝ }
+{
+    Order {
+        found: false,
+        n: 0,
+        places: [0u8; MAX_SUBGOALS],
+        patterns: [0u8; MAX_SUBGOALS],
     }
 }
 

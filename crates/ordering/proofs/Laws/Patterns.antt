@@ -13,7 +13,7 @@ use Rattle.book.specs.Book.{Call}
 use Rattle.ordering.specs.Adorn.{Table, Bound, patternOf}
 use Rattle.ordering.specs.Good.{at, readyAt, afterAt, firstGood}
 use Rattle.ordering.specs.Asks.{Asked, asks, patternsIn}
-use Rattle.ordering.specs.Held.{picked, PatternAt, placesOf, patternsOf}
+use Rattle.ordering.specs.Held.{orderOf, orNone, placesOf, patternsOf, picked, PatternAt}
 use Rattle.ordering.specs.declared.Order.{Order}
 use Rattle.ordering.proofs.Laws.Greedy.{allAfter}
 use Rattle.ordering.proofs.Laws.Good.{greedy-is-first}
@@ -23,7 +23,7 @@ use Rattle.ordering.proofs.Laws.Steps.{first-at}
 
 -- ---- the patterns of an order, one place more
 
-pub patterns-nil : (body : List Call) (b : Bound) → patternsIn body b [] ≡ []
+patterns-nil : (body : List Call) (b : Bound) → patternsIn body b [] ≡ []
 unfolding asks
 patterns-nil body b = refl
 
@@ -119,3 +119,9 @@ pub pattern-beside : (body : List Call) (b : Bound) (o : Order) → patternsOf o
 pattern-beside body b o e i h =
     let l = ap length e ∙ patterns-long body b (placesOf o) in
     sym (first-at (length (placesOf o)) (o .patterns) i (omega arith)) ∙ ap (λ (l : List ℕ). getD l i 0) e ∙ patterns-at body b (placesOf o) i h
+
+-- of no order
+pub patterns-none : (body : List Call) (b : Bound) (o : Order) → orderOf o ≡ none → patternsOf o ≡ patternsIn body b (placesOf o)
+patterns-none body b o e =
+    let n : placesOf o ≡ [] = ap orNone e in
+    ap (λ (σ : List ℕ). take (length σ) (o .patterns)) n ∙ sym (patterns-nil body b) ∙ ap (patternsIn body b) (sym n)

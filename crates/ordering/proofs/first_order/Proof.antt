@@ -1,6 +1,6 @@
 -- `ordering::first_order` meets its contract. The loop's invariant: the first i places, with what the greedy rule makes of those not used, are what
 -- it makes of all; and that is the first good order. Beside each place stands its subgoal's pattern in its turn. Assumes nothing.
-use mathlib.Core.Path.{refl, sym}
+use mathlib.Core.Path.{refl, _∙_}
 use Prim.Native.Nat.{_-_}
 use native.Mathlib.Omega.{arith}
 use borrow.Author.Needs.{needs}
@@ -9,7 +9,7 @@ use Rattle.book.specs.Held.{clauseAt}
 use Rattle.ordering.specs.Held.{tableIn}
 use Rattle.book.proofs.Laws.Held.{clauseAt-count}
 use Rattle.ordering.proofs.Laws.Run.{after-read}
-use Rattle.ordering.proofs.Laws.Patterns.{patterns-nil, Going, going-start, going-next, going-stuck, going-end}
+use Rattle.ordering.proofs.Laws.Patterns.{patterns-none, Going, going-start, going-next, going-stuck, going-end}
 use Rattle.ordering.proofs.first_order.Statement.{statement}
 use Rattle.ordering.proofs.first_order.Tie as tie
 
@@ -32,13 +32,17 @@ loop-holds c =
 first-ready-requires : tie.Need-first-ready-requires Inv-loop μ-loop
 first-ready-requires c κs = c .before .before .before .pre
 
+no-order-requires : tie.Need-no-order-requires Inv-loop μ-loop
+no-order-requires c κs = search needs
+
 returns : tie.Need-returns Inv-loop μ-loop
 returns c =
-    let s = c .before .before .before .before .before .args in
-    let n = c .before .before .before .before .subgoals-at .ensures in
-    let r = c .before .first-ready in (
-      going-stuck (c .before .before .before .loop .inv) (r .result .place) (r .ensures .0) (omega arith) (omega arith),
-      sym (patterns-nil (clauseAt (s .rules .now) (s .k) .body) (s .bound)),
+    let s = c .before .before .before .before .before .before .args in
+    let n = c .before .before .before .before .before .subgoals-at .ensures in
+    let r = c .before .before .first-ready in
+    let o = c .no-order in (
+      o .ensures ∙ going-stuck (c .before .before .before .before .loop .inv) (r .result .place) (r .ensures .0) (omega arith) (omega arith),
+      patterns-none (clauseAt (s .rules .now) (s .k) .body) (s .bound) (o .result) (o .ensures),
     )
 
 subgoal-at-requires : tie.Need-subgoal-at-requires Inv-loop μ-loop
@@ -106,6 +110,7 @@ first-order-spec =
     subgoals-at-requires
     loop-holds
     first-ready-requires
+    no-order-requires
     returns
     subgoal-at-requires
     bind-all-requires
