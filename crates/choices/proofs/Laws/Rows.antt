@@ -23,13 +23,14 @@ use Rattle.choices.specs.Choice.{clause, Choice, IsChoice}
 use Rattle.choices.specs.Reached.{marked, reached}
 use Rattle.choices.specs.Plan.{orStanding, firstChoice, chosen, Row, rowsFor, rowsUnder, rowsOf, planRows, encQuery, encRow, image}
 use Rattle.masks.proofs.Laws.Logic.{clash}
-use Rattle.masks.proofs.Laws.Lists.{all-at, joined-cong}
+use Rattle.masks.proofs.Laws.Lists.{all-at}
 use Rattle.book.proofs.Laws.Encode.{run-joined}
 use Rattle.book.proofs.Laws.Trip.{clause-few}
-use Rattle.ordering.proofs.Laws.Orders.{count-length, cond-in, in-cond, in-joined, joined-in}
+use Rattle.ordering.proofs.Laws.Orders.{cond-in, in-cond, in-joined, joined-in}
 use Rattle.ordering.proofs.Laws.Greedy.{Least}
 use Rattle.ordering.proofs.Laws.Good.{first-is-least}
 use Rattle.tables.proofs.Laws.Sums.{sum-le, sum-most, sum-times, length-joined, howMany, howMany-times, howMany-parted}
+use Rattle.choices.proofs.Laws.Moded.{chosen-choice}
 
 -- ---- "for each reached predicate with clauses, ascending by predicate and then pattern, for each of its clauses in turn"
 
@@ -82,29 +83,6 @@ module _ (B : Book) (χ : Choice) (f : ℕ → ℕ → Bool) where
       in-joined r (λ p. joined (rowsIf p) allPatterns) (length (B .arities)) p l
       (in-joined r (rowsIf p) allPatterns a s (in-cond r (f p a) (rowsFor B χ p a) t (for-in B χ k a h)))
 
--- ---- what the rows hang on
-
--- two choices that agree where g tells have the same rows of the patterns that f and g tell alike
-pub rows-cong : (B : Book) (χ χ′ : Choice) (f g : ℕ → ℕ → Bool) → ((p a : ℕ) → p < length (B .arities) → a < allPatterns → f p a ≡ g p a)
-    → ((k a : ℕ) → k < length (B .clauses) → g (clause B k .head .pred) a ≡ true → χ .forClause k a ≡ χ′ .forClause k a)
-    → rowsUnder B χ f ≡ rowsUnder B χ′ g
-unfolding rowsUnder rowsFor
-rows-cong B χ χ′ f g same agree =
-    joined-cong (λ p. joined (rowsIf B χ f p) allPatterns) (λ p. joined (rowsIf B χ′ g p) allPatterns) (length (B .arities))
-    (λ p l. joined-cong (rowsIf B χ f p) (rowsIf B χ′ g p) allPatterns
-    (λ a h. ap (λ (b : Bool). cond b (rowsFor B χ p a) []) (same p a l h) ∙ told p a (g p a) refl))
-  where
-    one : (p a k : ℕ) → k < length (B .clauses) → g p a ≡ true → (b : Bool) → eqb (clause B k .head .pred) p ≡ b
-        → cond b (rowAt χ k a ∷ []) [] ≡ cond b (rowAt χ′ k a ∷ []) []
-    one p a k h t true e =
-        let q = agree k a h (ap (λ (u : ℕ). g u a) (eqb-true (clause B k .head .pred) p e) ∙ t) in
-        ap {B = List Row} (λ (σ : List ℕ). record { clause· = k; pattern = a; places = σ } ∷ []) q
-    one p a k h t false e = refl
-
-    told : (p a : ℕ) (b : Bool) → g p a ≡ b → cond b (rowsFor B χ p a) [] ≡ cond b (rowsFor B χ′ p a) []
-    told p a true t = joined-cong (rowIf B χ p a) (rowIf B χ′ p a) (length (B .clauses)) (λ k h. one p a k h t (eqb (clause B k .head .pred) p) refl)
-    told p a false t = refl
-
 -- ---- FIRST: "the smallest list of subgoal places (from 0, compared from the left) among the orders good against the final table"
 
 -- where an order is good, it is taken and not the standing one
@@ -118,14 +96,6 @@ module _ (T : Table) (body : List Call) (b : Bound) where
   first-standing t =
       subst (λ o. Least (λ σ. Rearranges (length body) σ × (goodFrom T body b σ ≡ true)) o) (standing-some (length body) (firstGood T body b) t)
       (first-is-least T body b)
-
-  -- with a good order or without, as long as the body
-  standing-long : length (orStanding (length body) (firstGood T body b)) ≡ length body
-  standing-long = go (firstGood T body b) refl
-    where
-      go : (o : Option (List ℕ)) → firstGood T body b ≡ o → length (orStanding (length body) o) ≡ length body
-      go none e = count-length 0 (length body)
-      go (some σ) e = first-is-least T body b .has σ e .0 .long
 
 -- of "each clause under each reached pattern"
 pub rows-first : (B : Book) (T : Table) (f : ℕ → ℕ → Bool) (r : Row) → In r (rowsUnder B (firstChoice T B) f)
@@ -220,17 +190,10 @@ rows-length B χ f w c =
 
 -- and "QO, n, n places", at most 11 bytes: no plan is longer than 53,259
 pub plan-length : (B : Book) → WellFormed B → length (image B) ≤ 53259
-unfolding image planRows rowsOf chosen firstChoice
+unfolding image planRows rowsOf chosen
 plan-length B w =
-    let χ = firstChoice (final B) B in
-    let asked : length (B .query) ≤ maxSubgoals = leb-true (length (B .query)) maxSubgoals (w .fewAsked) in
-    omega (
-      arith,
-      asked,
-      clauses-few B w,
-      standing-long (final B) (B .query) nothing,
-      under-length B χ
-          (λ k a h. let c = clause B k in omega (arith, body-few B w k h, standing-long (final B) (c .body) (headBound (c .head .args) a)))
-          (marked (reached B χ)),
-      length-append (encQuery (χ .forQuery)) (run encRow (rowsUnder B χ (marked (reached B χ)))),
-    )
+    let χ = chosen B in
+    let c = chosen-choice (final B) B in
+    let f = marked (reached B χ) in
+    let h = leb-true (length (B .query)) maxSubgoals (w .fewAsked) in
+    omega (arith, h, c .query· .long, rows-length B χ f w c, length-append (encQuery (χ .forQuery)) (run encRow (rowsUnder B χ f)))

@@ -43,9 +43,6 @@ module _ {n word : ℕ} {chunk : ℕ → List ℕ} {out : List ℕ} {at : ℕ} w
     pub members-length : length now ≡ length out
     members-length = writing-length (m .over .done (m .over .most))
 
-    pub members-most : rest < 2 ^ n
-    members-most = m .over .small
-
     skip : (i : ℕ) → bitAt word i ≡ false → P i → P (suc i)
     skip i t w h = let v = writing-none (w (omega arith)) h (rw t) in rw add-one at v
 
