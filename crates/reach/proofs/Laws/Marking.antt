@@ -1,5 +1,5 @@
 -- The calls of a body in its first good order, marked one after the other. Assumes nothing.
-use mathlib.Core.Path.{_≡_, refl, sym, ap, ap₂, _∙_, subst}
+use mathlib.Core.Path.{_≡_, refl, ap, ap₂, _∙_, subst}
 use mathlib.Core.List.{List, [], _∷_, _++_}
 use mathlib.Core.Option.{Option}
 use Prim.Native.Nat.{ℕ, zero, suc, _+_, _^_, _≤_, _<_}
@@ -79,17 +79,18 @@ module _ {body : List Call} {places patterns before : List ℕ} {n : ℕ} where
   pub marking-start : length before ≡ maxPredicates → Marking body places patterns before n 0 before 0
   marking-start e = record { most = omega arith; size = e; marked = marked-nil before }
 
-  -- s is the call at the next place
-  pub marking-next : {i : ℕ} {words : List ℕ} {names : ℕ} {s : Call} → Marking body places patterns before n i words names
+  -- s is the call at the next place, w its word with the pattern, and v the names with its own
+  pub marking-next : {i : ℕ} {words : List ℕ} {names : ℕ} {s : Call} {w v : ℕ} → Marking body places patterns before n i words names
       → i < n → s ≡ getD body (getD places i 0) none → s .pred < maxPredicates
-      → Marking body places patterns before n (i + 1) (set words (s .pred) (bitOr (getD words (s .pred) 0) (2 ^ getD patterns i 0))) (bitOr names (2 ^ s .pred))
+      → w ≡ bitOr (getD words (s .pred) 0) (2 ^ getD patterns i 0) → v ≡ bitOr names (2 ^ s .pred)
+      → Marking body places patterns before n (i + 1) (set words (s .pred) w) v
   unfolding at
-  marking-next {i} {words} {names} {s} m h e l =
+  marking-next {i} {words} {names} {s} {w} {v} m h e l f g =
       let z = m .size in
       record {
         most = omega arith;
-        size = length-set words (s .pred) (bitOr (getD words (s .pred) 0) (2 ^ getD patterns i 0)) ∙ z;
-        marked = rw (add-one i, ← e) (marked-append (m .marked) (marked-one words (s .pred) (getD patterns i 0) (omega arith)));
+        size = length-set words (s .pred) w ∙ z;
+        marked = rw (add-one i, ← e, f, g) (marked-append (m .marked) (marked-one words (s .pred) (getD patterns i 0) (omega arith)));
       }
 
 -- ---- at the end they are the calls of the order

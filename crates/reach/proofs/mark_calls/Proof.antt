@@ -1,6 +1,6 @@
 -- `reach::mark_calls` meets its contract. The loop's invariant: the calls at the first i places of the order are marked. Assumes nothing.
-use mathlib.Core.Path.{_≡_, ap, _∙_}
-use Prim.Native.Nat.{ℕ, _-_, _<_}
+use mathlib.Core.Path.{_≡_}
+use Prim.Native.Nat.{_-_, _<_}
 use native.Mathlib.Omega.{arith}
 use lib.ListN.{length, getD}
 use borrow.Author.Needs.{needs}
@@ -9,7 +9,7 @@ use Rattle.book.specs.Held.{clauseAt}
 use Rattle.ordering.specs.Held.{tableIn}
 use Rattle.reach.specs.Marked.{callsBy}
 use Rattle.ordering.proofs.Laws.Run.{pred-read}
-use Rattle.reach.proofs.Laws.Marking.{order-at, order-below, pattern-low, none, Marking, marking-start, marking-next, marking-end}
+use Rattle.reach.proofs.Laws.Marking.{order-below, pattern-low, Marking, marking-start, marking-next, marking-end}
 use Rattle.reach.proofs.mark_calls.Statement.{statement}
 use Rattle.reach.proofs.mark_calls.Tie as tie
 
@@ -75,8 +75,10 @@ with-member-requires c κs =
     let s = d .before .before .before .before .before .before .before .args in
     let o = d .before .before .before .before .before .first-order in
     let n = d .before .before .before .before .placed .ensures .0 in
+    let l =
     pattern-low (tableIn (s .table .now) maxPredicates) (clauseAt (s .rules .now) (s .k) .body) (s .bound) (o .result) (o .ensures .0) (o .ensures .1)
-    (d .before .before .before .loop .i) (omega arith) (d .subgoal-at .result) (d .subgoal-at .ensures) (few (c .before .before))
+    (d .before .before .before .loop .i) (omega arith) (d .subgoal-at .result) (d .subgoal-at .ensures) (few (c .before .before)) in
+    omega arith
 
 mul-words : tie.Need-mul-words Inv-loop μ-loop
 mul-words c = search needs
@@ -96,8 +98,7 @@ loop-less c = search needs
 loop-again : tie.Need-loop-again Inv-loop μ-loop
 loop-again c =
     let d = c .before .before .before .before .before in
-    rw (c .before .with-member .ensures, c .with-member2 .ensures)
-    (marking-next (d .before .before .before .loop .inv) (omega arith) (d .subgoal-at .ensures) (low d))
+    marking-next (d .before .before .before .loop .inv) (omega arith) (d .subgoal-at .ensures) (low d) (c .before .with-member .ensures) (c .with-member2 .ensures)
 
 returns : tie.Need-returns Inv-loop μ-loop
 unfolding callsBy

@@ -56,7 +56,8 @@ mark-patterns-requires : tie.Need-mark-patterns-requires Inv-loop μ-loop
 mark-patterns-requires c κs =
     let d = c .before .before .before .before in
     let s = d .before .before .before .before in
-    own-callable (s .args .rules .now) (s .args .clauses) (s .args .own .now) (s .pre .3) (trailingZeros 64 (d .before .loop .work)) (low d) (s .pre .1)
+    let l = low d in
+    own-callable (s .args .rules .now) (s .args .clauses) (s .args .own .now) (s .pre .3) _ (omega arith) (s .pre .1)
 
 sub-work : tie.Need-sub-work Inv-loop μ-loop
 sub-work c = search needs
