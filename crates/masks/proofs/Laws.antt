@@ -13,3 +13,4 @@ pub mod Outcome
 pub mod Joining
 pub mod Examples
 pub mod Members
+pub mod Words

@@ -2,5 +2,5 @@
 pub mod Marked
 pub mod Marking
 pub mod Passing
-pub mod Words
+pub mod Space
 pub mod Working

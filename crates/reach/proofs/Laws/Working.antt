@@ -30,9 +30,10 @@ use Rattle.masks.proofs.Laws.Set.{bitAt-zero, bitAt-or}
 use Rattle.masks.proofs.Laws.Members.{lowest, others, others-less}
 use Rattle.book.proofs.Laws.Held.{clausesOf-length, clausesOf-at}
 use Rattle.ordering.proofs.Laws.Asks.{called-pred}
+use Rattle.masks.proofs.Laws.Words.{Within, no-members, in-new, new-in, new-none, new-some}
 use Rattle.lanes.proofs.Laws.Words.{member-below}
 use Rattle.needs.proofs.Laws.Calls.{bitAt-none}
-use Rattle.reach.proofs.Laws.Words.{Within, no-members, in-new, new-in, new-none, new-some, space, space-less}
+use Rattle.reach.proofs.Laws.Space.{space, space-less}
 
 -- ---- the calls of the members of a set
 

@@ -6,7 +6,7 @@ use native.Mathlib.Omega.{arith}
 use lib.Count.{trailingZeros}
 use borrow.Author.Needs.{needs}
 use Rattle.ordering.specs.Adorn.{nothing}
-use Rattle.reach.proofs.Laws.Words.{space}
+use Rattle.reach.proofs.Laws.Space.{space}
 use Rattle.reach.proofs.Laws.Working.{own-callable, Working, working-start, Turn, working-low, working-next, working-less, working-end}
 use Rattle.reach.proofs.reach.Statement.{statement}
 use Rattle.reach.proofs.reach.Tie as tie

@@ -1,21 +1,15 @@
--- Words that grow. A set within another is no larger as a number; of the bits in which the two differ, all are new. How far words can still grow is a
--- number that falls when one of them does. Assumes nothing.
+-- Sets in words, one within another: it is no larger as a number, and of the bits in which the two differ all are those of the larger. Assumes nothing.
 use mathlib.Core.Path.{_≡_, sym, ap, _∙_}
 use mathlib.Core.Bool.{true, false}
-use mathlib.Core.List.{List, [], _∷_}
-use Prim.Native.Nat.{ℕ, zero, suc, _+_, _-_, _/_, _%_, _^_, _≤_, _<_}
+use Prim.Native.Nat.{ℕ, suc, _/_, _%_, _≤_, _<_}
 use native.Mathlib.Omega.{arith}
 use lib.Arith.{bin-ind}
 use lib.Bits.{bitXor, and-le-l, and-le-r, xor-add-and, xor-self}
 use lib.Dec.{eqb}
-use lib.ListN.{length, getD, set}
 use borrow.Author.Tests.{eqb-true, eqb-false}
-use Rattle.masks.specs.Limits.{allPatterns}
 use Rattle.masks.specs.Set.{bitAt}
 use Rattle.masks.proofs.Laws.Logic.{byBool, clash}
 use Rattle.masks.proofs.Laws.Members.{bitAt-xor}
-
--- ---- a set within another
 
 -- every member of y is one of x
 abbrev pub Within : ℕ → ℕ → Type 0
@@ -57,15 +51,3 @@ module _ (x y : ℕ) where
         let l = within-le y x h in
         let ne : y ≡ x → ⊥ = λ e. z (ap (bitXor x) e ∙ xor-self x) in
         omega arith
-
--- ---- how far words can grow
-
-unfoldable pub space : List ℕ → ℕ
-space [] = 0
-space (w ∷ words) = 2 ^ allPatterns - w + space words
-
-pub space-less : (words : List ℕ) (p w : ℕ) → p < length words → getD words p 0 < w → w < 2 ^ allPatterns → space (set words p w) < space words
-unfolding space
-space-less [] p w h l s = absurd (omega arith)
-space-less (x ∷ words) zero w h l s = omega arith
-space-less (x ∷ words) (suc p) w h l s = let r = space-less words p w (omega arith) l s in omega arith
