@@ -1,4 +1,4 @@
--- Patterns marked in words, one for each predicate: a pattern is marked where its bit is set. Every definition but the last computes. Assumes nothing.
+-- Patterns marked in words, one for each predicate: a pattern is marked where its bit is set. Assumes nothing.
 use mathlib.Core.Path.{_≡_}
 use mathlib.Core.Bool.{Bool, true, cond, _||_}
 use mathlib.Core.Logic.{_↔_}
@@ -44,7 +44,7 @@ clausesBy rules table own a = joined (λ k. cond (bitAt own k) (clauseBy rules t
 unfoldable pub patternsBy : List ℕ → List ℕ → ℕ → ℕ → List Asked
 patternsBy rules table own set = joined (λ a. cond (bitAt set a) (clausesBy rules table own a) []) allPatterns
 
--- the choice that goes with them
+-- their orders for every clause and pattern, to say what is reached by them
 unfoldable pub taken : Table → Book → Choice
 taken T B =
     record {

@@ -24,7 +24,7 @@ use Rattle.book.proofs.Laws.Trip.{judge-inv}
 use Rattle.ordering.proofs.Laws.Greedy.{Least}
 use Rattle.tables.proofs.Laws.Valid.{clause-own}
 use Rattle.choices.proofs.Laws.Reached.{reaches-low, reached-iff}
-use Rattle.choices.proofs.Laws.Moded.{chosen-choice, reached-good, orderable}
+use Rattle.choices.proofs.Laws.Moded.{chosen-choice, reached-good, sound, orderable}
 use Rattle.choices.proofs.Laws.Rows.{rows-out, rows-in, rows-first, query-first}
 
 -- ---- what planning comes to
@@ -76,13 +76,18 @@ module _ (s : List ℕ) (B : Book) (valid : judge s ≡ book B) where
     λ n. planning-none (false-of (λ t. n (orderable B well .1 t))),
   )
 
+  found : planning s ≡ done 0 (image B) → isSome (firstGood (final B) (B .query) nothing) ≡ true
+  unfolding isPlan
+  found e = byBool (isSome (firstGood (final B) (B .query) nothing)) (λ t. t) (λ t. absurd (false≢true (ap isPlan (sym (planning-none t) ∙ e))))
+
   -- and a plan exactly when one does
   pub plan-iff : (planning s ≡ done 0 (image B)) ↔ Orderable B
-  unfolding isPlan
-  plan-iff = (
-    λ e. byBool (isSome (firstGood (final B) (B .query) nothing)) (orderable B well .1) (λ t. absurd (false≢true (ap isPlan (sym (planning-none t) ∙ e)))),
-    λ x. planning-good (orderable B well .0 x),
-  )
+  plan-iff = (λ e. orderable B well .1 (found e), λ x. planning-good (orderable B well .0 x))
+
+  -- SOUND: the orders of the plan are a choice that does
+  pub plan-sound : planning s ≡ done 0 (image B) → IsChoice B (chosen B) × WellModed B (chosen B)
+  unfolding chosen
+  plan-sound e = (chosen-choice (final B) B, sound B well (found e))
 
 -- ---- what a plan has
 
