@@ -45,7 +45,8 @@ plan-length-requires : tie.Need-plan-length-requires
 plan-length-requires c κs =
     let s = c .before .before .before .before .before .before .before .before .before .args in
     let h = c .before .before .before .before .before .before .before .before .before .pre in
-    few-preds (h .0) (s .preds) (s .clauses) (s .rules .now) (s .table .now) (h .1)
+    let few = few-preds (h .0) (s .preds) (s .clauses) (s .rules .now) (s .table .now) (h .1) in
+    omega arith
 
 refused-requires-2 : tie.Need-refused-requires-2
 refused-requires-2 c κs = search needs

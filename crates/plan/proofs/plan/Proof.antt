@@ -1,5 +1,6 @@
 -- `plan::plan` meets its contract. A fault is the book's; else the book is well formed and its final table is settled, and what is given is its plan. Assumes nothing.
-use mathlib.Core.Path.{_≡_, _∙_}
+use mathlib.Core.Path.{_≡_, ap, _∙_}
+use Prim.Native.Nat.{ℕ}
 use native.Mathlib.Omega.{arith}
 use lib.ListN.{length, take}
 use lib.Seq.{length-take-le}
@@ -30,8 +31,9 @@ returns : tie.Need-returns
 returns c =
     let s = c .before .before .before .before .before .before .before .before .args in
     let r = c .before .before .before .before .before .read-book in
-    let f = read-fault (s .book .now) (r .result) (r .ensures .0) (c .before .before .before .f .given .1) in
-    rw (← planning-fault (s .book .now) _ _ f) (answers-refused _ _ (s .out .now) (c .refused .ensures ∙ rw (c .before .number .ensures)))
+    let v = c .before .before .before .f .given in
+    let f = read-fault (s .book .now) (r .result) (r .ensures .0) (v .1) in
+    rw (← planning-fault (s .book .now) _ _ f) (answers-refused _ _ (s .out .now) (c .refused .ensures ∙ ap (λ (n : ℕ). record { number = n; value = v .0 .1 .0; rounds = 0 }) (c .before .number .ensures)))
 
 enum-told : tie.Need-enum-told
 enum-told c = search needs

@@ -36,7 +36,7 @@ put-bytes-requires : tie.Need-put-bytes-requires
 put-bytes-requires c κs =
     let o = c .before .before .before .before .before .before .before .before .before .args .o in
     let n = c .before .before .before .before .before .before .before .placed .ensures .0 in
-    let r = room-second (placesOf o) (wrote-as (ap (λ (k : ℕ). k ∷ []) n) (c .before .before .before .before .before .put-byte .ensures)) (c .before .before .before .before .before .before .before .before .before .pre) in
+    let r = room-second (placesOf o) (c .before .before .before .before .before .put-byte .ensures) (c .before .before .before .before .before .before .before .before .before .pre) in
     let e = first o n .size in
     omega arith
 

@@ -51,7 +51,7 @@ element-copy-out-put-patterns-2 : tie.Need-element-copy-out-put-patterns-2 Inv-l
 element-copy-out-put-patterns-2 c = omega arith
 
 put-patterns-requires : tie.Need-put-patterns-requires Inv-loop μ-loop
-put-patterns-requires c κs = (c .before .before .before .before .before .before .before .before .before .before .pre .1 (c .before .before .before .before .loop .p), writing-room (c .before .before .before .before .loop .inv) (omega arith))
+put-patterns-requires c κs = (c .before .before .before .before .before .before .before .before .before .before .pre .1 _, writing-room (c .before .before .before .before .loop .inv) (omega arith))
 
 add-p : tie.Need-add-p Inv-loop μ-loop
 add-p c = omega arith
