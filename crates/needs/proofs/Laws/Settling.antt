@@ -30,15 +30,15 @@ use Rattle.ordering.proofs.Laws.Held.{callsBelow-mono}
 
 -- ---- the clauses of a book in an array
 
-module _ (B : Book) (w : WellFormed B) (rules : List ℕ) (clauses : ℕ) (is : B .clauses ≡ clausesOf rules clauses) where
+module _ (B : Book) (rules : List ℕ) (clauses : ℕ) (is : B .clauses ≡ clausesOf rules clauses) where
   pub clauses-count : length (B .clauses) ≡ clauses
   clauses-count = ap length is ∙ clausesOf-length rules clauses
 
   pub clause-is : (d : Clause) (k : ℕ) → k < clauses → getD (B .clauses) k d ≡ clauseAt rules k
   clause-is d k h = ap (λ (cs : List Clause). getD cs k d) is ∙ clausesOf-at rules d clauses k h
 
-  pub known-clauses : Known rules clauses
-  known-clauses =
+  pub known-clauses : WellFormed B → Known rules clauses
+  known-clauses w =
       let n = clauses-count in
       let m = leb-true (length (B .arities)) maxPredicates (w .fewPredicates) in
       record {
@@ -70,12 +70,12 @@ module _ (preds : ℕ) (arities modes : List ℕ) (clauses : ℕ) (rules : List 
     read-clauses = let e : min clauses maxClauses ≡ clauses = omega arith in ap (clausesOf rules) e
 
     read-count : length (B .clauses) ≡ clauses
-    read-count = clauses-count B w rules clauses read-clauses
+    read-count = clauses-count B rules clauses read-clauses
 
     -- ---- the clauses
 
     pub read-known : Known rules clauses
-    read-known = known-clauses B w rules clauses read-clauses
+    read-known = known-clauses B rules clauses read-clauses w
 
     pub read-given : {own : List ℕ} → Owns rules clauses own → Given B arities rules own
     unfolding bookIn

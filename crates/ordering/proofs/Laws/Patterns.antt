@@ -1,25 +1,30 @@
--- The patterns that the code stores beside the places of an order: each is that of its subgoal where all before it are taken. With them, the whole
--- of what the code keeps on its way to an order. Assumes nothing.
+-- The patterns that the code stores beside the places of an order: each is that of its subgoal where all before it are taken. So an order as the code
+-- holds it tells the calls of the first good order. Assumes nothing.
 use mathlib.Core.Path.{_≡_, refl, sym, ap, ap₂, _∙_}
 use mathlib.Core.Bool.{Bool, true, false}
 use mathlib.Core.List.{List, [], _∷_, _++_, map, map-append}
-use mathlib.Core.Option.{none, some}
+use mathlib.Core.Option.{Option, none, some}
 use Prim.Native.Nat.{ℕ, _+_, _≤_, _<_, zero, suc}
 use native.Mathlib.Numerals.{add-one}
 use native.Mathlib.Omega.{arith}
-use lib.ListN.{length, set, take, replicate, length-set, getD}
-use lib.Seq.{length-take-le, take-suc-set}
+use lib.ListN.{length, getD, set, take, replicate, length-set, length-take}
+use lib.Seq.{length-take-le, take-suc, take-suc-set}
+use Rattle.masks.specs.Limits.{maxArity, allPatterns}
+use Rattle.masks.specs.Lists.{values}
 use Rattle.book.specs.Book.{Call}
+use Rattle.book.specs.Held.{callOf}
+use Rattle.book.specs.declared.clause.Call as call
 use Rattle.ordering.specs.Adorn.{Table, Bound, patternOf}
 use Rattle.ordering.specs.Good.{at, readyAt, afterAt, firstGood}
 use Rattle.ordering.specs.Asks.{Asked, asks, patternsIn}
 use Rattle.ordering.specs.Held.{orderOf, orNone, placesOf, patternsOf, picked, PatternAt}
 use Rattle.ordering.specs.declared.Order.{Order}
 use Rattle.ordering.proofs.Laws.Greedy.{allAfter}
-use Rattle.ordering.proofs.Laws.Good.{greedy-is-first}
+use Rattle.ordering.proofs.Laws.Good.{greedy-is-first, first-below}
 use Rattle.ordering.proofs.Laws.Asks.{asks-snoc, after-snoc}
 use Rattle.ordering.proofs.Laws.Run.{Run, run-start, run-next, run-stuck, run-end}
-use Rattle.ordering.proofs.Laws.Steps.{first-at}
+use Rattle.ordering.proofs.Laws.Steps.{first-at, pattern-small}
+use Rattle.ordering.proofs.Laws.Held.{placed-at}
 
 -- ---- the patterns of an order, one place more
 
@@ -125,3 +130,47 @@ pub patterns-none : (body : List Call) (b : Bound) (o : Order) → orderOf o ≡
 patterns-none body b o e =
     let n : placesOf o ≡ [] = ap orNone e in
     ap (λ (σ : List ℕ). take (length σ) (o .patterns)) n ∙ sym (patterns-nil body b) ∙ ap (patternsIn body b) (sym n)
+
+-- ---- the places of the order that was found
+
+module _ (T : Table) (body : List Call) (b : Bound) (o : Order) (e : orderOf o ≡ firstGood T body b) where
+  abbrev pub order : List ℕ
+  order = orNone (firstGood T body b)
+
+  pub order-long : length (placesOf o) ≡ length order
+  order-long = ap (λ σ. length (orNone σ)) e
+
+  pub order-at : (i : ℕ) → i < length (placesOf o) → getD (o .places) i 0 ≡ getD order i 0
+  order-at i h = placed-at o i h ∙ ap (λ σ. getD (orNone σ) i 0) e
+
+  pub order-below : (i : ℕ) → i < length (placesOf o) → getD (o .places) i 0 < length body
+  order-below i h = let q = order-at i h in let l = order-long in let r = first-below T body b i (omega arith) in omega arith
+
+  -- the pattern beside a place is that of the call there
+  pub order-pattern : patternsOf o ≡ patternsIn body b (placesOf o) → (i : ℕ) → i < length (placesOf o)
+      → getD (o .patterns) i 0 ≡ patternOf (allAfter (afterAt body) b (take i order)) (at body (getD order i 0) .args)
+  order-pattern t i h =
+      pattern-beside body b o t i h
+      ∙ ap (λ (σ : Option (List ℕ)). patternOf (allAfter (afterAt body) b (take i (orNone σ))) (at body (getD (orNone σ) i 0) .args)) e
+
+  -- of a call that was read by value, with six arguments at most
+  pub pattern-low : patternsOf o ≡ patternsIn body b (placesOf o) → (i : ℕ) → i < length (placesOf o) → (s : call.Call)
+      → callOf s ≡ getD body (getD (o .places) i 0) (record { pred = 0; args = [] }) → length (s .args) ≡ maxArity → getD (o .patterns) i 0 < allPatterns
+  unfolding at
+  pattern-low t i h s q n =
+      let r = order-pattern t i h in
+      let a : callOf s .args ≡ at body (getD order i 0) .args = ap (λ (c : Call). c .args) (q ∙ ap (λ (p : ℕ). getD body p (record { pred = 0; args = [] })) (order-at i h)) in
+      let l = pattern-small (allAfter (afterAt body) b (take i order)) maxArity (at body (getD order i 0) .args) (rw (← a) (simp length-take (omega arith))) in
+      omega arith
+
+-- ---- the calls of an order, one by one
+
+pub asks-values : (body : List Call) (b : Bound) (σ : List ℕ) (i : ℕ) → i ≤ length σ
+    → values (λ j. record { pred = at body (getD σ j 0) .pred; pattern = patternOf (allAfter (afterAt body) b (take j σ)) (at body (getD σ j 0) .args) }) i
+    ≡ asks body b (take i σ)
+unfolding asks
+asks-values body b σ zero h = refl
+asks-values body b σ (suc i) h =
+    rw (take-suc σ i 0 (omega arith), asks-snoc body b (take i σ) (getD σ i 0))
+    (ap (λ (l : List Asked). l ++ (record { pred = at body (getD σ i 0) .pred; pattern = patternOf (allAfter (afterAt body) b (take i σ)) (at body (getD σ i 0) .args) } ∷ []))
+    (asks-values body b σ i (omega arith)))

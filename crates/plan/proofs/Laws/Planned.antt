@@ -41,10 +41,11 @@ use Rattle.book.proofs.Laws.Encode.{run-joined}
 use Rattle.ordering.proofs.Laws.Held.{callsBelow-mono, first-cut}
 use Rattle.tables.proofs.Laws.Sums.{howMany, sum-cong, length-joined, howMany-each, ones-below}
 use Rattle.tables.proofs.Laws.Valid.{query-calls, clause-calls}
-use Rattle.needs.proofs.Laws.Settling.{clauses-count, clause-is, known-clauses}
+use Rattle.needs.proofs.Laws.Settling.{clauses-count, known-clauses}
 use Rattle.choices.proofs.Laws.Reached.{reaches-low, reached-iff, reaches-agree, reaches-back}
 use Rattle.choices.proofs.Laws.Moded.{chosen-choice, reached-good}
 use Rattle.choices.proofs.Laws.Plan.{planned-good, planned-none}
+use Rattle.reach.proofs.Laws.Working.{book-clause, own-callable}
 
 -- an order that was found is the one chosen
 standing-none : (n : ℕ) (o : Option (List ℕ)) → isSome o ≡ true → orStanding n o ≡ orNone o
@@ -59,14 +60,13 @@ module _ (B : Book) (preds clauses : ℕ) (rules table : List ℕ) (l : Lent B p
   few-preds = let e = l .preds· in let h = leb-true (length (B .arities)) maxPredicates (l .well .fewPredicates) in omega arith
 
   count : length (B .clauses) ≡ clauses
-  count = clauses-count B (l .well) rules clauses (l .clauses·)
+  count = clauses-count B rules clauses (l .clauses·)
 
   pub lent-known : Known rules clauses
-  lent-known = known-clauses B (l .well) rules clauses (l .clauses·)
+  lent-known = known-clauses B rules clauses (l .clauses·) (l .well)
 
   here : (k : ℕ) → k < clauses → clause B k ≡ clauseAt rules k
-  unfolding clause
-  here k h = clause-is B (l .well) rules clauses (l .clauses·) (record { head = record { pred = 0; args = [] }; body = [] }) k h
+  here = book-clause B rules clauses (l .clauses·)
 
   -- ---- the orders found are those against the final table
 
@@ -261,9 +261,7 @@ module _ (B : Book) (preds clauses : ℕ) (rules table : List ℕ) (l : Lent B p
 pub each-callable : (rules own : List ℕ) (clauses : ℕ) → length own ≤ maxPredicates → Known rules clauses → Owns rules clauses own → EachCallable rules own
 each-callable rules own clauses few known o p k h t =
     byRange p maxPredicates
-    (λ q.
-    let w = sym (o p q k) ∙ t in
-    known .bodies k (ltb-true k clauses (and-left (ltb k clauses) (eqb (clauseAt rules k .head .pred) p) w)))
+    (λ q. own-callable rules clauses own o p q known k h t)
     (λ q. clash t (ap (λ (w : ℕ). bitAt w k) (List·getD-eq-default own 0 (omega arith)) ∙ bitAt-zero k))
 
 module _ (B : Book) (preds clauses : ℕ) (rules table : List ℕ) (l : Lent B preds clauses rules table) (q : Order)

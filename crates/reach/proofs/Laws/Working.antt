@@ -28,9 +28,10 @@ use Rattle.masks.proofs.Laws.Logic.{byBool, byRange, clash, false-of, and-intro
 use Rattle.masks.proofs.Laws.Lists.{any-joined, joined-any}
 use Rattle.masks.proofs.Laws.Set.{bitAt-zero, bitAt-or}
 use Rattle.masks.proofs.Laws.Members.{lowest, others, others-less}
-use Rattle.book.proofs.Laws.Held.{clausesOf-length, clausesOf-at}
 use Rattle.ordering.proofs.Laws.Asks.{called-pred}
 use Rattle.masks.proofs.Laws.Words.{Within, no-members, in-new, new-in, new-none, new-some}
+use Rattle.needs.proofs.Laws.Settling.{clauses-count, clause-is}
+use Rattle.choices.proofs.Laws.Reached.{closed-reaches}
 use Rattle.lanes.proofs.Laws.Words.{member-below}
 use Rattle.needs.proofs.Laws.Calls.{bitAt-none}
 use Rattle.reach.proofs.Laws.Space.{space, space-less}
@@ -56,23 +57,18 @@ module _ (p : Asked → Bool) (set : ℕ) (f : ℕ → List Asked) (n : ℕ) whe
 abbrev queryBy : List ℕ → List ℕ → List Asked
 queryBy rules table = callsBy (tableIn table maxPredicates) (clauseAt rules maxClauses .body) nothing
 
+pub book-clause : (B : Book) (rules : List ℕ) (n : ℕ) → B .clauses ≡ clausesOf rules n → (k : ℕ) → k < n → clause B k ≡ clauseAt rules k
+unfolding clause
+book-clause B rules n e = clause-is B rules n e (record { head = record { pred = 0; args = [] }; body = [] })
+
 module _ (rules table : List ℕ) (n : ℕ) (B : Book) (e : B .clauses ≡ clausesOf rules n) (f : B .query ≡ clauseAt rules maxClauses .body) where
-  book-size : length (B .clauses) ≡ n
-  book-size = ap {B = ℕ} length e ∙ clausesOf-length rules n
-
-  book-clause : (k : ℕ) → k < n → clause B k ≡ clauseAt rules k
-  unfolding clause
-  book-clause k h =
-      let d : Clause = record { head = record { pred = 0; args = [] }; body = [] } in
-      ap (λ (cs : List Clause). getD cs k d) e ∙ clausesOf-at rules d n k h
-
   book-query : queryCalls B (taken (tableIn table maxPredicates) B) ≡ queryBy rules table
   unfolding queryCalls taken callsBy
   book-query = ap (λ (body : List Call). callsBy (tableIn table maxPredicates) body nothing) f
 
   book-calls : (k a : ℕ) → k < n → clauseCalls B (taken (tableIn table maxPredicates) B) k a ≡ clauseBy rules table k a
   unfolding clauseCalls taken callsBy
-  book-calls k a h = ap (λ (c : Clause). callsBy (tableIn table maxPredicates) (c .body) (headBound (c .head .args) a)) (book-clause k h)
+  book-calls k a h = ap (λ (c : Clause). callsBy (tableIn table maxPredicates) (c .body) (headBound (c .head .args) a)) (book-clause B rules n e k h)
 
 -- ---- the calls of clauses under patterns
 
@@ -172,14 +168,17 @@ module _ {rules table : List ℕ} {n : ℕ} {reached gone : List ℕ} {work : �
     closed : (p a : ℕ) → markAt reached p a ≡ true → markAt gone p a ≡ true
     closed p a t = byBool (markAt gone p a) (λ u. u) (λ u. clash (w .left p a t u) (ap (λ (x : ℕ). bitAt x p) z ∙ bitAt-zero p))
 
+    -- so the marks are closed
     reached-marked : (q b : ℕ) → Reaches B (taken (tableIn table maxPredicates) B) q b → markAt reached q b ≡ true
-    reached-marked q b (by-query t) = w .query· q b (ap (called q b) (sym (book-query rules table n B e f)) ∙ t)
-    reached-marked q b (by-clause {a = a} k h r t) =
-        let l : k < n = let s = book-size rules table n B e f in omega arith in
-        let g : markAt gone (clauseAt rules k .head .pred) a ≡ true =
-        ap (λ (c : Clause). markAt gone (c .head .pred) a) (sym (book-clause rules table n B e f k l))
-        ∙ closed (clause B k .head .pred) a (reached-marked (clause B k .head .pred) a r) in
-        w .clauses· k a q b l g (ap (called q b) (sym (book-calls rules table n B e f k a l)) ∙ t)
+    reached-marked q b r =
+        closed-reaches B (taken (tableIn table maxPredicates) B) (markAt reached)
+        (λ q b t. w .query· q b (ap (called q b) (sym (book-query rules table n B e f)) ∙ t))
+        (λ k a q b h t u.
+        let l : k < n = let s = clauses-count B rules n e in omega arith in
+        let c = book-clause B rules n e k l in
+        w .clauses· k a q b l (closed (clauseAt rules k .head .pred) a (ap (λ (d : Clause). markAt reached (d .head .pred) a) (sym c) ∙ t))
+        (ap (called q b) (sym (book-calls rules table n B e f k a l)) ∙ u))
+        r
 
   pub working-end : work ≡ 0 → ReachedIn rules n table reached
   working-end z B e f p a = (w .reaches B e f p a, reached-marked z B e f p a)
@@ -239,10 +238,10 @@ module _ {rules table : List ℕ} {n : ℕ} {reached gone : List ℕ} {work : �
           let k = r .1 in
           let c = own-clause rules n own (t .owns) p working-low k (r .3) in
           let l = c .0 in
-          let s = book-size rules table n B e f in
+          let s = clauses-count B rules n e in
           by-clause {a = a} k (omega arith)
           (subst (λ (i : ℕ). Reaches B (taken (tableIn table maxPredicates) B) i a)
-          (sym (ap (λ (d : Clause). d .head .pred) (book-clause rules table n B e f k l) ∙ c .1))
+          (sym (ap (λ (d : Clause). d .head .pred) (book-clause B rules n e k l) ∙ c .1))
           (w .reaches B e f p a (ap (λ (x : ℕ). bitAt x a) (sym (t .is)) ∙ new-in all (getD gone p 0) grown a (r .2))))
           (ap (called q b) (book-calls rules table n B e f k a l) ∙ r .4)
 

@@ -9,7 +9,8 @@ use Rattle.book.specs.Held.{clauseAt}
 use Rattle.ordering.specs.Held.{tableIn}
 use Rattle.reach.specs.Marked.{callsBy}
 use Rattle.ordering.proofs.Laws.Run.{pred-read}
-use Rattle.reach.proofs.Laws.Marking.{order-below, pattern-low, Marking, marking-start, marking-next, marking-end}
+use Rattle.ordering.proofs.Laws.Patterns.{order-below, pattern-low}
+use Rattle.reach.proofs.Laws.Marking.{Marking, marking-start, marking-next, marking-end}
 use Rattle.reach.proofs.mark_calls.Statement.{statement}
 use Rattle.reach.proofs.mark_calls.Tie as tie
 
