@@ -2,6 +2,7 @@
 pub mod Marks
 pub mod Got
 pub mod Trip
+pub mod Answer
 pub mod Encode
 pub mod Bound
 pub mod Examples

@@ -9,8 +9,8 @@ use Rattle.masks.specs.Limits.{allPatterns}
 use Rattle.masks.specs.Lists.{joined}
 use Rattle.masks.specs.Outcome.{Outcome, refused, done}
 use Rattle.book.specs.Book.{Clause, Book}
+use Rattle.book.specs.Answer.{onBook}
 use Rattle.book.specs.Encode.{run}
-use Rattle.book.specs.Format.{number, Judged, fault, book, judge}
 use Rattle.ordering.specs.Adorn.{Table, nothing, headBound}
 use Rattle.ordering.specs.Orders.{count}
 use Rattle.ordering.specs.Good.{firstGood, isSome}
@@ -79,10 +79,5 @@ image B = encQuery (chosen B .forQuery) ++ run encRow (planRows B)
 unfoldable pub planned : Book → Outcome
 planned B = cond (isSome (firstGood (final B) (B .query) nothing)) (done 0 (image B)) (refused 7 0)
 
--- a fault is given with its number and place
-abbrev pub judged : Judged → Outcome
-judged (fault f at) = refused (number f) at
-judged (book B) = planned B
-
-unfoldable pub planning : List ℕ → Outcome
-planning s = judged (judge s)
+abbrev pub planning : List ℕ → Outcome
+planning s = onBook planned s

@@ -130,6 +130,14 @@ pub fn with_member(set: u64, m: u8) -> u64
     set | (1u64 << m)
 }
 
+// A number below 64 is a member of a set.
+pub fn has_member(set: u64, m: u8) -> bool
+    requires { ⌜ m < allPatterns ⌝ }
+    ensures { λ r. ⌜ r ≡ bitAt set m ⌝ }
+{
+    (set >> m) % 2 == 1
+}
+
 // How many patterns an arity has.
 pub fn patterns(arity: u8) -> u8
     requires { ⌜ arity ≤ maxArity ⌝ }

@@ -2,9 +2,9 @@
 use mathlib.Core.List.{List, [], _∷_, _++_}
 use Prim.Native.Nat.{ℕ, zero, suc}
 use lib.ListN.{length}
-use Rattle.masks.specs.Outcome.{Outcome, refused, done}
+use Rattle.masks.specs.Outcome.{Outcome, done}
 use Rattle.book.specs.Book.{Book}
-use Rattle.book.specs.Format.{number, Judged, fault, book, judge}
+use Rattle.book.specs.Answer.{onBook}
 use Rattle.ordering.specs.Adorn.{Table}
 use Rattle.tables.specs.Table.{entry, rounds, final}
 
@@ -21,10 +21,9 @@ rows T (suc n) = rows T n ++ row n (entry T n)
 unfoldable pub image : Book → List ℕ
 image B = rows (final B) (length (B .arities))
 
--- a fault is given with its number and place; "the analysis also gives its rounds"
-abbrev pub analysed : Judged → Outcome
-analysed (fault f at) = refused (number f) at
-analysed (book B) = done (rounds B) (image B)
+-- "the analysis also gives its rounds"
+abbrev pub analysed : Book → Outcome
+analysed B = done (rounds B) (image B)
 
-unfoldable pub analysis : List ℕ → Outcome
-analysis s = analysed (judge s)
+abbrev pub analysis : List ℕ → Outcome
+analysis s = onBook analysed s

@@ -10,16 +10,16 @@ use lib.ListN.{length}
 use Rattle.masks.specs.Outcome.{Outcome, refused, done}
 use Rattle.book.specs.Book.{Book}
 use Rattle.book.specs.Encode.{WellFormed}
-use Rattle.book.specs.Format.{number, fault, book, judge}
-use Rattle.book.specs.declared.fault.Fault.{Fault}
+use Rattle.book.specs.Format.{book, judge}
 use Rattle.ordering.specs.Adorn.{nothing, headBound}
 use Rattle.ordering.specs.Orders.{In, Rearranges}
 use Rattle.ordering.specs.Good.{goodFrom, firstGood, isSome}
 use Rattle.tables.specs.Table.{final}
 use Rattle.choices.specs.Choice.{clause, Choice, IsChoice, Reaches, WellModed}
 use Rattle.choices.specs.Reached.{marked, reached}
-use Rattle.choices.specs.Plan.{Row, chosen, rowsOf, planRows, image, planned, judged, planning}
+use Rattle.choices.specs.Plan.{Row, chosen, rowsOf, planRows, image, planned, planning}
 use Rattle.masks.proofs.Laws.Logic.{byBool, false-of}
+use Rattle.book.proofs.Laws.Answer.{on-book}
 use Rattle.book.proofs.Laws.Trip.{judge-inv}
 use Rattle.ordering.proofs.Laws.Greedy.{Least}
 use Rattle.tables.proofs.Laws.Valid.{clause-own}
@@ -28,15 +28,6 @@ use Rattle.choices.proofs.Laws.Moded.{chosen-choice, reached-good, soun
 use Rattle.choices.proofs.Laws.Rows.{rows-out, rows-in, rows-first, query-first}
 
 -- ---- what planning comes to
-
--- a fault, or what comes of the book
-pub planning-fault : (s : List ℕ) (v : Fault) (at : ℕ) → fault v at ≡ judge s → refused (number v) at ≡ planning s
-unfolding planning
-planning-fault s v at e = ap judged e
-
-pub planning-book : (s : List ℕ) (B : Book) → book B ≡ judge s → planned B ≡ planning s
-unfolding planning
-planning-book s B e = ap judged e
 
 -- by whether the query has an order good against the final table
 pub planned-good : (B : Book) → isSome (firstGood (final B) (B .query) nothing) ≡ true → planned B ≡ done 0 (image B)
@@ -63,10 +54,10 @@ module _ (s : List ℕ) (B : Book) (valid : judge s ≡ book B) where
   well = judge-inv s B valid .1
 
   planning-good : isSome (firstGood (final B) (B .query) nothing) ≡ true → planning s ≡ done 0 (image B)
-  planning-good t = sym (planning-book s B (sym valid)) ∙ planned-good B t
+  planning-good t = sym (on-book planned s B (sym valid)) ∙ planned-good B t
 
   planning-none : isSome (firstGood (final B) (B .query) nothing) ≡ false → planning s ≡ refused 7 0
-  planning-none t = sym (planning-book s B (sym valid)) ∙ planned-none B t
+  planning-none t = sym (on-book planned s B (sym valid)) ∙ planned-none B t
 
   -- "Reply 7 is given exactly when no choice does."
   pub seven-iff : (planning s ≡ refused 7 0) ↔ (Orderable B → ⊥)

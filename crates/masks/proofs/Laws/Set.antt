@@ -9,6 +9,7 @@ use native.Mathlib.Nat.{pow-suc}
 use lib.Bits.{bitOr, or-step, or-lt}
 use lib.Dec.{eqb}
 use lib.ListN.{length, getD, take}
+use lib.Pow.{shr-shr}
 use borrow.Author.Tests.{eq-eqb, ne-eqb, eqb-true, eqb-false}
 use Rattle.masks.specs.Limits.{allPatterns}
 use Rattle.masks.specs.Constraint.{written, inRange, minimise, choice}
@@ -25,6 +26,18 @@ pub bitAt-zero : (k : ℕ) → bitAt 0 k ≡ false
 unfolding bitAt
 bitAt-zero zero = refl
 bitAt-zero (suc k) = bitAt-zero k
+
+-- the bits from place n on
+pub bitAt-shift : (w n k : ℕ) → bitAt (w / 2 ^ n) k ≡ bitAt w (n + k)
+unfolding bitAt
+bitAt-shift w zero k =
+    let e : w / 2 ^ 0 ≡ w = omega arith in
+    let f : 0 + k ≡ k = omega arith in
+    ap (λ (z : ℕ). bitAt z k) e ∙ ap (bitAt w) (sym f)
+bitAt-shift w (suc n) k =
+    let e : 1 + n ≡ suc n = omega arith in
+    let f : suc n + k ≡ suc (n + k) = omega arith in
+    ap (λ (z : ℕ). bitAt (w / 2 ^ z) k) (sym e) ∙ ap (λ (z : ℕ). bitAt z k) (sym (shr-shr w 1 n)) ∙ bitAt-shift (w / 2) n k ∙ ap (bitAt w) (sym f)
 
 or-digit : (x y : ℕ) → eqb (bitOr x y % 2) 1 ≡ (eqb (x % 2) 1 || eqb (y % 2) 1)
 or-digit x y =

@@ -5,8 +5,11 @@ use lib.Seq.{length-take-le}
 use lib.ListN.{length, take}
 use borrow.Author.Needs.{needs}
 use Rattle.book.specs.Held.{bookIn, bookOf}
-use Rattle.needs.proofs.Laws.Analysed.{analysed-fault, analysed-book, read-well, read-fault, read-book}
+use Rattle.tables.specs.Image.{analysed}
 use Rattle.masks.proofs.Laws.Outcome.{answers-refused}
+use Rattle.book.proofs.Laws.Answer.{on-fault}
+use Rattle.reading.proofs.Laws.Judged.{read-well, read-fault, read-book}
+use Rattle.needs.proofs.Laws.Analysed.{analysed-book}
 use Rattle.needs.proofs.analyse.Statement.{statement}
 use Rattle.needs.proofs.analyse.Tie as tie
 
@@ -26,7 +29,7 @@ returns : tie.Need-returns
 returns c =
     let s = c .before .before .before .before .before .before .before .before .args in
     let f = read-fault (s .book .now) (c .before .before .before .before .before .read-book .result) (c .before .before .before .before .before .read-book .ensures .0) (c .before .before .before .f .given .1) in
-    analysed-fault (s .book .now) (s .out .now) _ _ f (answers-refused _ _ (s .out .now) (c .refused .ensures ∙ rw (c .before .number .ensures)))
+    rw (← on-fault analysed (s .book .now) _ _ f) (answers-refused _ _ (s .out .now) (c .refused .ensures ∙ rw (c .before .number .ensures)))
 
 enum-told : tie.Need-enum-told
 enum-told c = search needs

@@ -7,10 +7,11 @@ use lib.Seq.{length-take-le}
 use borrow.Author.Needs.{needs}
 use Rattle.book.specs.Encode.{WellFormed}
 use Rattle.book.specs.Held.{bookOf}
+use Rattle.choices.specs.Plan.{planned}
 use Rattle.plan.specs.Lent.{Lent}
 use Rattle.masks.proofs.Laws.Outcome.{answers-refused}
-use Rattle.needs.proofs.Laws.Analysed.{read-well, read-fault, read-book}
-use Rattle.choices.proofs.Laws.Plan.{planning-fault, planning-book}
+use Rattle.book.proofs.Laws.Answer.{on-fault, on-book}
+use Rattle.reading.proofs.Laws.Judged.{read-well, read-fault, read-book}
 use Rattle.plan.proofs.Laws.Planned.{lent-read}
 use Rattle.plan.proofs.plan.Statement.{statement}
 use Rattle.plan.proofs.plan.Tie as tie
@@ -33,7 +34,7 @@ returns c =
     let r = c .before .before .before .before .before .read-book in
     let v = c .before .before .before .f .given in
     let f = read-fault (s .book .now) (r .result) (r .ensures .0) (v .1) in
-    rw (← planning-fault (s .book .now) _ _ f) (answers-refused _ _ (s .out .now) (c .refused .ensures ∙ ap (λ (n : ℕ). record { number = n; value = v .0 .1 .0; rounds = 0 }) (c .before .number .ensures)))
+    rw (← on-fault planned (s .book .now) _ _ f) (answers-refused _ _ (s .out .now) (c .refused .ensures ∙ ap (λ (n : ℕ). record { number = n; value = v .0 .1 .0; rounds = 0 }) (c .before .number .ensures)))
 
 enum-told : tie.Need-enum-told
 enum-told c = search needs
@@ -76,7 +77,7 @@ returns-2 c =
     let r = c .before .before .before .before .before .before .before .before .before .before .before .before .before .before .before .before .before .read-book in
     let b = r .result .book in
     let f = read-book (s .book .now) (r .result) (r .ensures .0) (c .before .before .before .before .before .before .before .before .before .before .before .before .before .before .before .enum-told .given .1) in
-    rw (← planning-book (s .book .now) (bookOf b) f) (c .before .before .give .ensures (bookOf b) (lent (c .before .before .before)))
+    rw (← on-book planned (s .book .now) (bookOf b) f) (c .before .before .give .ensures (bookOf b) (lent (c .before .before .before)))
 
 pub plan-spec : {M : Type 1} → statement M
 plan-spec =

@@ -1,15 +1,20 @@
--- What the check's reply means: 0 exactly for the bytes of a well-formed book. Assumes nothing.
-use mathlib.Core.Path.{_≡_, refl, ap}
+-- What the check's reply means: 0 exactly for the bytes of a well-formed book; and what reading finds is what the bytes are judged to be. Assumes
+-- nothing.
+use mathlib.Core.Path.{_≡_, refl, sym, ap, subst}
 use mathlib.Core.List.{List}
 use Prim.Native.Nat.{ℕ}
 use native.Mathlib.Omega.{arith}
 use Rattle.book.specs.Book.{Book}
 use Rattle.book.specs.Format.{number, Judged, fault, book, judge}
 use Rattle.book.specs.Encode.{encode, WellFormed}
+use Rattle.book.specs.Held.{bookOf}
 use Rattle.book.specs.declared.fault.Fault.{Fault}
 use Rattle.book.specs.declared.fault.Fault.the-variants.{PastEnd, NoMark, OutOfTurn, OutOfRange, TooMany, Conflict}
+use Rattle.records.specs.declared.field.Found.{Found}
+use Rattle.records.specs.declared.field.Found.the-variants.{Next, Bad}
+use Rattle.reading.specs.Judged.{judgement, found, checked}
+use Rattle.reading.specs.declared.Reading.{Reading}
 use Rattle.book.proofs.Laws.Trip.{judge-encode, judge-inv}
-use Rattle.reading.specs.Judged.{checked}
 
 number-some : (f : Fault) → number f ≡ 0 → ⊥
 number-some PastEnd e = omega arith
@@ -28,3 +33,15 @@ check-zero s e = go (judge s) refl e
 
 pub zero-check : (b : Book) → WellFormed b → checked (judge (encode b)) ≡ record { number = 0; value = 0; rounds = 0 }
 zero-check b w = ap checked (judge-encode b w)
+
+-- a book that was read is well formed
+pub read-well : (s : List ℕ) (B : Book) → book B ≡ judge s → WellFormed B
+read-well s B e = judge-inv s B (sym e) .1
+
+-- what reading found
+module _ (s : List ℕ) (r : Reading) (h : found r ≡ judge s) where
+  pub read-fault : {v : Fault} {at : ℕ} → r .found ≡ Bad v at → fault v at ≡ judge s
+  read-fault e = subst (λ (f : Found). judgement f (bookOf (r .book)) ≡ judge s) e h
+
+  pub read-book : {at n : ℕ} → r .found ≡ Next at n → book (bookOf (r .book)) ≡ judge s
+  read-book e = subst (λ (f : Found). judgement f (bookOf (r .book)) ≡ judge s) e h

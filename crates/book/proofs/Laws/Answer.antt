@@ -1,0 +1,18 @@
+-- What an operation on books comes to: the fault of the bytes, or what it makes of the book. Assumes nothing.
+use mathlib.Core.Path.{_≡_}
+use mathlib.Core.List.{List}
+use Prim.Native.Nat.{ℕ}
+use Rattle.masks.specs.Outcome.{Outcome, refused}
+use Rattle.book.specs.Book.{Book}
+use Rattle.book.specs.Format.{number, fault, book, judge}
+use Rattle.book.specs.Answer.{ofJudged, onBook}
+use Rattle.book.specs.declared.fault.Fault.{Fault}
+
+module _ (made : Book → Outcome) (s : List ℕ) where
+  pub on-fault : (v : Fault) (at : ℕ) → fault v at ≡ judge s → refused (number v) at ≡ onBook made s
+  unfolding onBook
+  on-fault v at e = rw (← e)
+
+  pub on-book : (B : Book) → book B ≡ judge s → made B ≡ onBook made s
+  unfolding onBook
+  on-book B e = rw (← e)

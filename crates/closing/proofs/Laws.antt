@@ -1,0 +1,1 @@
+-- The laws of this crate's definitions, for its own proofs and for those of the crates above.

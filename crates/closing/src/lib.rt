@@ -1,0 +1,96 @@
+// Closed books: chosen predicates lose their clauses and are given what they need instead. A set of predicates is held in a word: predicate p is in
+// it where bit p is set.
+use book::clause::clause_at;
+use book::clause::head_at;
+use book::clause::put_clause;
+use book::fault::number;
+use book::limits::MODES_SIZE;
+use book::limits::PREDICATES;
+use book::limits::RULES_SIZE;
+use book::mode::mode_at;
+use book::mode::put_mode;
+use masks::constraint::has_member;
+use masks::reply::Reply;
+use needs::settle;
+use reading::read_book;
+use records::field::Found;
+use writing::write_book;
+ghost use Prim.Native.Nat.{_+_, _≤_};
+ghost use Rattle.masks.specs.Outcome.{Answers};
+ghost use Rattle.masks.specs.Set.{bitAt, Holds};
+ghost use Rattle.book.specs.Limits.{maxClauses};
+ghost use Rattle.book.specs.Held.{clauseAt, StoredClause};
+ghost use Rattle.needs.specs.Sets.{Known};
+ghost use Rattle.closing.specs.Close.{closing};
+ghost use Rattle.closing.specs.Held.{ModesClosed, ClausesKept};
+
+// The closed book, written into the output: the chosen predicates without their clauses, each with its final constraint as `MO`. 8 with the lowest
+// chosen number that the book lacks.
+pub fn close(book: &[u8], set: u64, out: &mut [u8]) -> Reply
+    ensures { λ r. ⌜ Answers (closing set (now (book .entry))) (now (out .entry)) r (now (out .exit)) ⌝ }
+{
+    let r = read_book(book);
+    let f = r.found;
+    if let Found::Bad(v, at) = f {
+        return Reply::refused(number(v), at as u64);
+    }
+    let mut b = r.book;
+    let beyond = chosen_from(set, b.preds);
+    if beyond != 0 {
+        return Reply::refused(8, b.preds as u64 + u64::trailing_zeros(beyond) as u64);
+    }
+    let d = settle(b.preds, &b.arities, &b.modes, b.clauses, &b.rules);
+    let t = d.table;
+    close_modes(&mut b.modes, set, &t.needs);
+    let n = keep_clauses(&mut b.rules, b.clauses, set);
+    write_book(b.preds, &b.arities, &b.modes, n, &b.rules, out)
+}
+
+// The chosen numbers from n on, counted from n.
+fn chosen_from(set: u64, n: u8) -> u64
+    ensures { λ r. ⌜ Holds r (λ k. bitAt set (n + k)) ⌝ }
+{
+    if n < PREDICATES { set >> n } else { 0 }
+}
+
+// Gives each chosen predicate `MO` with its constraint in a table.
+fn close_modes(modes: &mut [u8; MODES_SIZE], set: u64, table: &[u8; MODES_SIZE])
+    ensures { λ _. ⌜ ModesClosed (bitAt set) (now (table .entry)) (now (modes .entry)) (now (modes .exit)) ⌝ }
+{
+    let mut rest = set;
+    while rest != 0 {
+        let p = u64::trailing_zeros(rest) as u8;
+        rest = rest & (rest - 1);
+        let c = mode_at(table, p);
+        put_mode(modes, p, c);
+    }
+}
+
+// Drops the clauses of the chosen predicates, so that the others stand from the start on; how many they are.
+fn keep_clauses(rules: &mut [u8; RULES_SIZE], clauses: u8, set: u64) -> u8
+    requires { ⌜ (clauses ≤ maxClauses) × Known (now rules) clauses ⌝ }
+    ensures { λ r. ⌜ ClausesKept (bitAt set) (now (rules .entry)) clauses (now (rules .exit)) r ⌝ }
+{
+    let mut n: u8 = 0;
+    let mut k: u8 = 0;
+    while k < clauses {
+        let h = head_at(rules, k as usize);
+        if !has_member(set, h.pred) {
+            move_clause(rules, k as usize, n as usize);
+            n += 1;
+        }
+        k += 1;
+    }
+    n
+}
+
+// Makes clause `to` of an array what clause `from` is.
+fn move_clause(rules: &mut [u8; RULES_SIZE], from: usize, to: usize)
+    requires { ⌜ (from ≤ maxClauses) × (to ≤ maxClauses) ⌝ }
+    ensures { λ _. ⌜ StoredClause (now (rules .entry)) (now (rules .exit)) to (clauseAt (now (rules .entry)) from) ⌝ }
+{
+    if from != to {
+        let c = clause_at(rules, from);
+        put_clause(rules, to, c);
+    }
+}
