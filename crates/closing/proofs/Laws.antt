@@ -1,1 +1,2 @@
 -- The laws of this crate's definitions, for its own proofs and for those of the crates above.
+pub mod Examples

@@ -42,7 +42,8 @@ pub fn close(book: &[u8], set: u64, out: &mut [u8]) -> Reply
     let d = settle(b.preds, &b.arities, &b.modes, b.clauses, &b.rules);
     let t = d.table;
     close_modes(&mut b.modes, set, &t.needs);
-    let n = keep_clauses(&mut b.rules, b.clauses, set);
+    let clauses = b.clauses;
+    let n = keep_clauses(&mut b.rules, clauses, set);
     write_book(b.preds, &b.arities, &b.modes, n, &b.rules, out)
 }
 
