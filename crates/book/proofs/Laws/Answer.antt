@@ -2,11 +2,22 @@
 use mathlib.Core.Path.{_≡_}
 use mathlib.Core.List.{List}
 use Prim.Native.Nat.{ℕ}
+use native.Mathlib.Omega.{arith}
 use Rattle.masks.specs.Outcome.{Outcome, refused}
 use Rattle.book.specs.Book.{Book}
 use Rattle.book.specs.Format.{number, fault, book, judge}
 use Rattle.book.specs.Answer.{ofJudged, onBook}
 use Rattle.book.specs.declared.fault.Fault.{Fault}
+use Rattle.book.specs.declared.fault.Fault.the-variants.{PastEnd, NoMark, OutOfTurn, OutOfRange, TooMany, Conflict}
+
+-- no fault has number 0, which is no fault
+pub number-some : (f : Fault) → number f ≡ 0 → ⊥
+number-some PastEnd e = omega arith
+number-some NoMark e = omega arith
+number-some OutOfTurn e = omega arith
+number-some OutOfRange e = omega arith
+number-some TooMany e = omega arith
+number-some Conflict e = omega arith
 
 module _ (made : Book → Outcome) (s : List ℕ) where
   pub on-fault : (v : Fault) (at : ℕ) → fault v at ≡ judge s → refused (number v) at ≡ onBook made s

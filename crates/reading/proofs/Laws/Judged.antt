@@ -3,26 +3,17 @@
 use mathlib.Core.Path.{_≡_, refl, sym, ap, subst}
 use mathlib.Core.List.{List}
 use Prim.Native.Nat.{ℕ}
-use native.Mathlib.Omega.{arith}
 use Rattle.book.specs.Book.{Book}
-use Rattle.book.specs.Format.{number, Judged, fault, book, judge}
+use Rattle.book.specs.Format.{Judged, fault, book, judge}
 use Rattle.book.specs.Encode.{encode, WellFormed}
 use Rattle.book.specs.Held.{bookOf}
 use Rattle.book.specs.declared.fault.Fault.{Fault}
-use Rattle.book.specs.declared.fault.Fault.the-variants.{PastEnd, NoMark, OutOfTurn, OutOfRange, TooMany, Conflict}
 use Rattle.records.specs.declared.field.Found.{Found}
 use Rattle.records.specs.declared.field.Found.the-variants.{Next, Bad}
 use Rattle.reading.specs.Judged.{judgement, found, checked}
 use Rattle.reading.specs.declared.Reading.{Reading}
+use Rattle.book.proofs.Laws.Answer.{number-some}
 use Rattle.book.proofs.Laws.Trip.{judge-encode, judge-inv}
-
-number-some : (f : Fault) → number f ≡ 0 → ⊥
-number-some PastEnd e = omega arith
-number-some NoMark e = omega arith
-number-some OutOfTurn e = omega arith
-number-some OutOfRange e = omega arith
-number-some TooMany e = omega arith
-number-some Conflict e = omega arith
 
 pub check-zero : (s : List ℕ) → checked (judge s) .number ≡ 0 → (b : Book) × (encode b ≡ s) × WellFormed b
 check-zero s e = go (judge s) refl e

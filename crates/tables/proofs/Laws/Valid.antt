@@ -25,20 +25,19 @@ use Rattle.tables.specs.Table.{modeOf, defined}
 
 -- ---- a mode
 
-mode-masks : (ar : List ℕ) (ms : List Mode) → all (modeFits ar) ms ≡ true → (p : ℕ) (masks : List ℕ) → modeOf ms p ≡ some masks
-    → inRange (2 ^ getD ar p 0) masks ≡ true
-unfolding modeOf inRange within
-mode-masks ar [] t p masks e = absurd (Option·none-ne-some masks e)
-mode-masks ar (m ∷ ms) t p masks e = go (eqb (m .pred) p) refl (mode-masks ar ms (and-right (modeFits ar m) (all (modeFits ar) ms) t) p masks) e
+-- what holds of every MO holds of that of p
+pub modeOf-all : (t : Mode → Bool) (ms : List Mode) → all t ms ≡ true → (p : ℕ) (masks : List ℕ) → modeOf ms p ≡ some masks
+    → t (record { pred = p; masks = masks }) ≡ true
+unfolding modeOf
+modeOf-all t [] h p masks e = absurd (Option·none-ne-some masks e)
+modeOf-all t (m ∷ ms) h p masks e = go (eqb (m .pred) p) refl (modeOf-all t ms (and-right (t m) (all t ms) h) p masks) e
   where
-    go : (b : Bool) → eqb (m .pred) p ≡ b → (modeOf ms p ≡ some masks → inRange (2 ^ getD ar p 0) masks ≡ true)
-        → cond b (some (m .masks)) (modeOf ms p) ≡ some masks → inRange (2 ^ getD ar p 0) masks ≡ true
-    go true q r e =
-        rw (← Option·some-injective (m .masks) masks e, ← eqb-true (m .pred) p q)
-        (mode-range ar m (and-left (modeFits ar m) (all (modeFits ar) ms) t))
+    go : (b : Bool) → eqb (m .pred) p ≡ b → (modeOf ms p ≡ some masks → t (record { pred = p; masks = masks }) ≡ true)
+        → cond b (some (m .masks)) (modeOf ms p) ≡ some masks → t (record { pred = p; masks = masks }) ≡ true
+    go true q r e = rw (← Option·some-injective (m .masks) masks e, ← eqb-true (m .pred) p q) (and-left (t m) (all t ms) h)
     go false q r e = r e
 
-mode-none : (ms : List Mode) (p : ℕ) → hasMode ms p ≡ false → modeOf ms p ≡ none
+pub mode-none : (ms : List Mode) (p : ℕ) → hasMode ms p ≡ false → modeOf ms p ≡ none
 unfolding modeOf hasMode
 mode-none [] p e = refl
 mode-none (m ∷ ms) p e = go (eqb (m .pred) p) (mode-none ms p) e
@@ -93,7 +92,8 @@ module _ (B : Book) (w : WellFormed B) where
   arity-low p = arities-at (B .arities) (w .aritiesFit) p
 
   pub masks-low : (p : ℕ) (masks : List ℕ) → modeOf (B .modes) p ≡ some masks → inRange (2 ^ getD (B .arities) p 0) masks ≡ true
-  masks-low p masks e = mode-masks (B .arities) (B .modes) (w .modesFit) p masks e
+  unfolding inRange within
+  masks-low p masks e = mode-range (B .arities) (record { pred = p; masks = masks }) (modeOf-all (modeFits (B .arities)) (B .modes) (w .modesFit) p masks e)
 
   pub defined-known : (p : ℕ) → defined (B .clauses) p ≡ true → p < length (B .arities)
   defined-known p d = defined-fits (B .arities) (B .modes) (B .clauses) (w .clausesFit) p d .0
