@@ -4,4 +4,6 @@ pub mod Modes
 pub mod Valid
 pub mod Close
 pub mod Parts
+pub mod Lacked
 pub mod Closing
+pub mod Held

@@ -1,15 +1,13 @@
 -- Demand 3, of what closing any bytes comes to: the closed bytes are a valid book, closing in parts comes to what closing at once comes to, and the
 -- empty set gives back the same bytes. Assumes nothing.
 use mathlib.Core.Path.{_≡_, refl, sym, ap, ap₂, _∙_}
-use mathlib.Core.Bool.{Bool, true, false, cond}
+use mathlib.Core.Bool.{Bool, true, false}
 use mathlib.Core.List.{List, []}
-use mathlib.Core.Option.{Option, none, some, Option·some-ne-none}
-use Prim.Native.Nat.{ℕ, zero, suc, _+_, _-_, _≤_, _<_}
+use mathlib.Core.Option.{Option, none, some}
+use Prim.Native.Nat.{ℕ, _-_}
 use native.Mathlib.Omega.{arith}
 use lib.Bits.{bitOr, or-comm, or-self}
-use lib.Dec.{eqb}
 use lib.ListN.{length, take}
-use borrow.Author.Tests.{eqb-true, eqb-false}
 use Rattle.masks.specs.Outcome.{Outcome, refused, done, Answers}
 use Rattle.masks.specs.Set.{bitAt}
 use Rattle.masks.specs.declared.reply.Reply.{Reply}
@@ -18,41 +16,15 @@ use Rattle.book.specs.Book.{Book}
 use Rattle.book.specs.Format.{Judged, fault, book, judge}
 use Rattle.book.specs.Encode.{encode}
 use Rattle.book.specs.Answer.{ofJudged, onBook}
-use Rattle.closing.specs.Close.{closeOver, close, firstFrom, lacked, unlessLacked, closed, closing}
-use Rattle.masks.proofs.Laws.Logic.{byBool, clash}
+use Rattle.closing.specs.Close.{closeOver, close, lacked, unlessLacked, closed, closing}
+use Rattle.masks.proofs.Laws.Logic.{clash}
 use Rattle.masks.proofs.Laws.Outcome.{answers-number, answers-bytes}
 use Rattle.masks.proofs.Laws.Set.{bitAt-zero, bitAt-or}
 use Rattle.book.proofs.Laws.Answer.{number-some, on-book}
 use Rattle.book.proofs.Laws.Trip.{judge-encode, judge-inv}
+use Rattle.closing.proofs.Laws.Lacked.{none-firstFrom, lacked-or}
 use Rattle.closing.proofs.Laws.Valid.{closed-well}
 use Rattle.closing.proofs.Laws.Parts.{close-cong, close-close, close-none}
-
--- ---- the lowest chosen number from n on
-
-pub firstFrom-none : (f : ℕ → Bool) (n d : ℕ) → firstFrom f n d ≡ none → (p : ℕ) → n ≤ p → p < n + d → f p ≡ false
-firstFrom-none f n zero e p a b = absurd (omega arith)
-firstFrom-none f n (suc d) e p a b = go (f n) refl (firstFrom-none f (suc n) d) e
-  where
-    go : (t : Bool) → f n ≡ t → (firstFrom f (suc n) d ≡ none → (p : ℕ) → suc n ≤ p → p < suc n + d → f p ≡ false)
-        → cond t (some n) (firstFrom f (suc n) d) ≡ none → f p ≡ false
-    go true t r e = absurd (Option·some-ne-none n e)
-    go false t r e = byBool (eqb n p) (λ q. rw (← eqb-true n p q) t) (λ q. let ne = eqb-false n p q in r e p (omega arith) (omega arith))
-
-pub none-firstFrom : (f : ℕ → Bool) (n d : ℕ) → ((p : ℕ) → n ≤ p → p < n + d → f p ≡ false) → firstFrom f n d ≡ none
-none-firstFrom f n zero h = refl
-none-firstFrom f n (suc d) h = rw (h n (omega arith) (omega arith)) (none-firstFrom f (suc n) d (λ p a b. h p (omega arith) (omega arith)))
-
-firstFrom-cong : (f g : ℕ → Bool) (n d : ℕ) → ((p : ℕ) → n ≤ p → p < n + d → f p ≡ g p) → firstFrom f n d ≡ firstFrom g n d
-firstFrom-cong f g n zero h = refl
-firstFrom-cong f g n (suc d) h =
-    rw (h n (omega arith) (omega arith)) (ap (λ (o : Option ℕ). cond (g n) (some n) o) (firstFrom-cong f g (suc n) d (λ p a b. h p (omega arith) (omega arith))))
-
--- a set that the book has lacks nothing beside another
-lacked-or : (S R n : ℕ) → lacked S n ≡ none → lacked R n ≡ lacked (bitOr S R) n
-unfolding lacked
-lacked-or S R n e =
-    firstFrom-cong (bitAt R) (bitAt (bitOr S R)) n (maxPredicates - n)
-    (λ p a b. sym (bitAt-or S R p ∙ rw (firstFrom-none (bitAt S) n (maxPredicates - n) e p a b)))
 
 -- ---- where closing is not refused
 
