@@ -53,3 +53,7 @@ asked (some masks) = masks
 
 unfoldable pub WellModed : Book → Choice → Type 0
 WellModed B χ = (p a : ℕ) → Reaches B χ p a → defined (B .clauses) p ≡ false → admits (asked (modeOf (B .modes) p)) a ≡ true
+
+-- some choice does
+abbrev pub Orderable : Book → Type 0
+Orderable B = (χ : Choice) × IsChoice B χ × WellModed B χ

@@ -33,6 +33,12 @@ LexLt [] (y ∷ ys) = Unit {0}
 LexLt (x ∷ xs) [] = ⊥
 LexLt (x ∷ xs) (y ∷ ys) = (x < y) ⊎ ((x ≡ y) × LexLt xs ys)
 
+-- o holds the smallest list with the property P, or nothing where no list has it
+pub record Least (P : List ℕ → Type 0) (o : Option (List ℕ)) : Type 0 where
+  pub has : (σ : List ℕ) → o ≡ some σ → P σ
+  pub least : (σ : List ℕ) → o ≡ some σ → (τ : List ℕ) → P τ → (σ ≡ τ) ⊎ LexLt σ τ
+  pub fails : o ≡ none → (τ : List ℕ) → P τ → ⊥
+
 -- each element is before all the later ones
 abbrev pub Sorted : {A : Type 0} → (A → A → Type 0) → List A → Type 0
 Sorted R [] = Unit {0}

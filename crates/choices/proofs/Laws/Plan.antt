@@ -12,16 +12,15 @@ use Rattle.book.specs.Book.{Book}
 use Rattle.book.specs.Encode.{WellFormed}
 use Rattle.book.specs.Format.{book, judge}
 use Rattle.ordering.specs.Adorn.{nothing, headBound}
-use Rattle.ordering.specs.Orders.{In, Rearranges}
+use Rattle.ordering.specs.Orders.{In, Rearranges, Least}
 use Rattle.ordering.specs.Good.{goodFrom, firstGood, isSome}
 use Rattle.tables.specs.Table.{final}
-use Rattle.choices.specs.Choice.{clause, Choice, IsChoice, Reaches, WellModed}
+use Rattle.choices.specs.Choice.{clause, IsChoice, Reaches, WellModed, Orderable}
 use Rattle.choices.specs.Reached.{marked, reached}
 use Rattle.choices.specs.Plan.{Row, chosen, rowsOf, planRows, image, planned, planning}
 use Rattle.masks.proofs.Laws.Logic.{byBool, false-of}
 use Rattle.book.proofs.Laws.Answer.{on-book}
 use Rattle.book.proofs.Laws.Trip.{judge-inv}
-use Rattle.ordering.proofs.Laws.Greedy.{Least}
 use Rattle.tables.proofs.Laws.Valid.{clause-own}
 use Rattle.choices.proofs.Laws.Reached.{reaches-low, reached-iff}
 use Rattle.choices.proofs.Laws.Moded.{chosen-choice, reached-good, sound, orderable}
@@ -39,10 +38,6 @@ unfolding planned
 planned-none B t = rw t
 
 -- ---- reply 7, or a plan
-
--- some choice makes the book well-moded
-abbrev pub Orderable : Book → Type 0
-Orderable B = (χ : Choice) × IsChoice B χ × WellModed B χ
 
 isPlan : Outcome → Bool
 isPlan (refused number value) = false

@@ -16,7 +16,7 @@ use Rattle.book.specs.Limits.{maxClauses, maxSubgoals}
 use Rattle.book.specs.Book.{Call, Book}
 use Rattle.book.specs.Encode.{run, clauseFits, WellFormed}
 use Rattle.ordering.specs.Adorn.{Table, Bound, nothing, headBound, bit}
-use Rattle.ordering.specs.Orders.{In, Rearranges}
+use Rattle.ordering.specs.Orders.{In, Rearranges, Least}
 use Rattle.ordering.specs.Good.{goodFrom, firstGood, isSome}
 use Rattle.tables.specs.Table.{sumBelow, final}
 use Rattle.choices.specs.Choice.{clause, Choice, IsChoice}
@@ -27,7 +27,6 @@ use Rattle.masks.proofs.Laws.Lists.{all-at}
 use Rattle.book.proofs.Laws.Encode.{run-joined}
 use Rattle.book.proofs.Laws.Trip.{clause-few}
 use Rattle.ordering.proofs.Laws.Orders.{cond-in, in-cond, in-joined, joined-in}
-use Rattle.ordering.proofs.Laws.Greedy.{Least}
 use Rattle.ordering.proofs.Laws.Good.{first-is-least}
 use Rattle.tables.proofs.Laws.Sums.{sum-le, sum-most, sum-times, length-joined, howMany, howMany-times, howMany-parted}
 use Rattle.choices.proofs.Laws.Moded.{chosen-choice}

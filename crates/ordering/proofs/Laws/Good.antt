@@ -10,7 +10,7 @@ use lib.ListN.{length, getD}
 use Rattle.masks.specs.Lists.{any}
 use Rattle.masks.specs.Mask.{within}
 use Rattle.book.specs.Book.{Call, Clause}
-use Rattle.ordering.specs.Orders.{Rearranges, count}
+use Rattle.ordering.specs.Orders.{Rearranges, Least, count}
 use Rattle.ordering.specs.Adorn.{Table, Bound, headBound, ready, after}
 use Rattle.ordering.specs.Good.{at, readyAt, afterAt, goodFrom, firstGood, isSome, goodClause}
 use Rattle.ordering.specs.Held.{orNone}
@@ -18,7 +18,7 @@ use Rattle.masks.proofs.Laws.Logic.{clash, false-of}
 use Rattle.masks.proofs.Laws.Lists.{any-at}
 use Rattle.masks.proofs.Laws.Mask.{within-refl}
 use Rattle.ordering.proofs.Laws.Orders.{in-at, right-takes}
-use Rattle.ordering.proofs.Laws.Greedy.{Least, Growing, first-least, first-good, good-first, first-mono, first-same, greedy-first, allAfter, all-same}
+use Rattle.ordering.proofs.Laws.Greedy.{Growing, first-least, first-good, good-first, first-mono, first-same, greedy-first, allAfter, all-same}
 use Rattle.ordering.proofs.Laws.Greedy as turns
 use Rattle.ordering.proofs.Laws.Adorn.{Le, le-refl, le-trans, More, more-refl, ready-mono, ready-same, after-grows, after-mono, after-swap, after-twice, headBound-mono}
 

@@ -9,19 +9,13 @@ use Prim.Native.Nat.{ℕ, zero, suc, _<_}
 use native.Mathlib.Nat.{suc-inj}
 use native.Mathlib.Omega.{arith}
 use lib.ListN.{length}
-use Rattle.ordering.specs.Orders.{In, Rearranges, LexLt, find, without, count, orders}
+use Rattle.ordering.specs.Orders.{In, Rearranges, LexLt, Least, find, without, count, orders}
 use Rattle.ordering.specs.Turns.{goodFrom, firstGood}
 use Rattle.ordering.specs.Good.{isSome}
 use Rattle.masks.proofs.Laws.Logic.{clash}
 use Rattle.ordering.proofs.Laws.Orders.{find-some, find-none, find-least, same?, without-same, without-other, without-length, Takes, takes-has, takes-front, takes-right, right-takes, Ascends, ascends-without, count-length, count-ascends, orders-right, orders-all, orders-rising, lex-asym}
 
 -- ---- the least of the lists that have a property
-
--- o holds the smallest list with the property P, or nothing where no list has it
-pub record Least (P : List ℕ → Type 0) (o : Option (List ℕ)) : Type 0 where
-  pub has : (σ : List ℕ) → o ≡ some σ → P σ
-  pub least : (σ : List ℕ) → o ≡ some σ → (τ : List ℕ) → P τ → (σ ≡ τ) ⊎ LexLt σ τ
-  pub fails : o ≡ none → (τ : List ℕ) → P τ → ⊥
 
 -- there is one such o
 least-one : (P : List ℕ → Type 0) (o o′ : Option (List ℕ)) → Least P o → Least P o′ → o ≡ o′
