@@ -3,7 +3,7 @@
 use mathlib.Core.Path.{_≡_, refl, sym, ap, ap₂, _∙_}
 use mathlib.Core.Bool.{Bool, true, false, _||_, or-assoc, or-false}
 use mathlib.Core.List.{List, [], _∷_, _++_, map}
-use Prim.Native.Nat.{ℕ, zero, suc, _+_, _/_, _%_, _^_, _<_}
+use Prim.Native.Nat.{ℕ, zero, suc, _+_, _/_, _%_, _^_, _≤_, _<_}
 use native.Mathlib.Omega.{arith}
 use native.Mathlib.Nat.{pow-suc}
 use lib.Bits.{bitOr, or-step, or-lt}
@@ -38,6 +38,13 @@ bitAt-shift w (suc n) k =
     let e : 1 + n ≡ suc n = omega arith in
     let f : suc n + k ≡ suc (n + k) = omega arith in
     ap (λ (z : ℕ). bitAt (w / 2 ^ z) k) (sym e) ∙ ap (λ (z : ℕ). bitAt z k) (sym (shr-shr w 1 n)) ∙ bitAt-shift (w / 2) n k ∙ ap (bitAt w) (sym f)
+
+-- a word of n bits has none from place n on
+pub bitAt-high : (n w k : ℕ) → w < 2 ^ n → n ≤ k → bitAt w k ≡ false
+unfolding bitAt
+bitAt-high zero w k l h = let e : w ≡ 0 = omega arith in ap (λ (z : ℕ). bitAt z k) e ∙ bitAt-zero k
+bitAt-high (suc n) w zero l h = absurd (omega arith)
+bitAt-high (suc n) w (suc k) l h = let p = pow-suc 2 n in bitAt-high n (w / 2) k (omega arith) (omega arith)
 
 or-digit : (x y : ℕ) → eqb (bitOr x y % 2) 1 ≡ (eqb (x % 2) 1 || eqb (y % 2) 1)
 or-digit x y =
