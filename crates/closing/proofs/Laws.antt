@@ -1,2 +1,3 @@
 -- The laws of this crate's definitions, for its own proofs and for those of the crates above.
+pub mod Moding
 pub mod Examples
