@@ -6,4 +6,6 @@ pub mod Close
 pub mod Parts
 pub mod Lacked
 pub mod Closing
+pub mod Moding
+pub mod Keeping
 pub mod Held
