@@ -1,11 +1,12 @@
 // What the operations that write answer about a book, for each line of standard input:
 //
-//     NAME BYTES [analyse|plan ROOM]
+//     NAME BYTES [SET [analyse|plan|close ROOM]]
 //
-// Bytes are hexadecimal digits, two a byte; `-` is the empty string. ROOM is decimal. For each line it prints NAME, and of each operation its name, the
-// number, value and rounds of its reply, and the bytes written, or `-`. Without ROOM there is more than any output takes; then, where a byte was
-// written at all, it goes on with `short` and the same for a room of one byte less. A reply that altered a byte it had to leave adds the word
-// `spoiled`. It reads at most 262,144 bytes, and of a book at most 8,192.
+// Bytes are hexadecimal digits, two a byte; `-` is the empty string. SET is the set of predicates for the closing, up to 16 hexadecimal digits, bit p for
+// predicate p; where it is missing it is empty. ROOM is decimal. For each line it prints NAME, and of each operation its name, the number, value and
+// rounds of its reply, and the bytes written, or `-`. Without ROOM there is more than any output takes; then, where a byte was written at all, it
+// goes on with `short` and the same for a room of one byte less. A reply that altered a byte it had to leave adds the word `spoiled`. It reads at
+// most 262,144 bytes, and of a book at most 8,192.
 use libc::STDIN_FILENO;
 use libc::STDOUT_FILENO;
 use masks::reply::Reply;
@@ -13,12 +14,13 @@ use masks::reply::Reply;
 // What the room holds before a call.
 const OLD: u8 = 238;
 
-// More than any table or plan takes.
+// More than any table, plan or closed book takes.
 const ROOM: usize = 53260;
 
 enum Operation {
     Analyse,
     Plan,
+    Close,
 }
 
 fn main() {
@@ -39,20 +41,25 @@ fn answer(line: &[u8]) {
     let mut raw = [0u8; 8192];
     let n = lines::unhex(lines::field(line, 1), &mut raw);
     let bytes = &raw[..n];
-    let word = lines::field(line, 2);
+    let set = lines::hex_number(lines::field(line, 2));
+    let word = lines::field(line, 3);
     if word.len() == 0 {
-        show_both(Operation::Analyse, bytes);
-        show_both(Operation::Plan, bytes);
+        show_both(Operation::Analyse, bytes, set);
+        show_both(Operation::Plan, bytes, set);
+        show_both(Operation::Close, bytes, set);
     } else {
         let op = named(word);
         show_name(op);
-        show_in(op, room(lines::field(line, 3)), bytes);
+        show_in(op, room(lines::field(line, 4)), bytes, set);
     }
     io::write_all(STDOUT_FILENO, b"\n");
 }
 
 // The operation that a word names; a word that is none counts as the analysis.
 fn named(word: &[u8]) -> Operation {
+    if check::same(word, b"close") {
+        return Operation::Close;
+    }
     if check::same(word, b"plan") {
         Operation::Plan
     } else {
@@ -61,27 +68,28 @@ fn named(word: &[u8]) -> Operation {
 }
 
 // An operation in a room that is large enough, and in one that is a byte short.
-fn show_both(op: Operation, bytes: &[u8]) {
+fn show_both(op: Operation, bytes: &[u8], set: u64) {
     show_name(op);
-    let k = show_in(op, ROOM, bytes);
+    let k = show_in(op, ROOM, bytes, set);
     if k != 0 {
         io::write_all(STDOUT_FILENO, b" short");
-        show_in(op, k - 1, bytes);
+        show_in(op, k - 1, bytes, set);
     }
 }
 
 // An operation in a room of n bytes; how many it wrote.
-fn show_in(op: Operation, n: usize, bytes: &[u8]) -> usize {
+fn show_in(op: Operation, n: usize, bytes: &[u8], set: u64) -> usize {
     let mut out = [OLD; ROOM];
     let m = lines::clip(n, &out);
-    let r = call(op, bytes, &mut out[..m]);
+    let r = call(op, bytes, set, &mut out[..m]);
     show_all(r, &out)
 }
 
-fn call(op: Operation, bytes: &[u8], out: &mut [u8]) -> Reply {
+fn call(op: Operation, bytes: &[u8], set: u64, out: &mut [u8]) -> Reply {
     match op {
         Operation::Analyse => needs::analyse(bytes, out),
         Operation::Plan => plan::plan(bytes, out),
+        Operation::Close => closing::close(bytes, set, out),
     }
 }
 
@@ -92,6 +100,9 @@ fn show_name(op: Operation) {
         }
         Operation::Plan => {
             io::write_all(STDOUT_FILENO, b" plan");
+        }
+        Operation::Close => {
+            io::write_all(STDOUT_FILENO, b" close");
         }
     }
 }
@@ -128,14 +139,9 @@ fn with_digit(n: usize, digit: u8) -> usize {
 
 // A reply's number, value and rounds.
 fn show(r: Reply) {
-    show_number(r.number as u64);
-    show_number(r.value);
-    show_number(r.rounds);
-}
-
-fn show_number(n: u64) {
-    io::write_all(STDOUT_FILENO, b" ");
-    io::print_decimal(STDOUT_FILENO, n);
+    lines::show_number(r.number as u64);
+    lines::show_number(r.value);
+    lines::show_number(r.rounds);
 }
 
 // How many bytes a reply says are written.

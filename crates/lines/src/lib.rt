@@ -3,6 +3,7 @@ ghost use mathlib.Core.Path.{_≡_};
 ghost use Prim.Native.Nat.{_+_, _≤_, min};
 ghost use lib.ListN.{length};
 ghost use Rattle.io.specs.Counts.{Counts};
+use libc::STDOUT_FILENO;
 
 // Field k of a line, counted from 0; past the last it is empty.
 pub fn field(line: &[u8], k: usize) -> &[u8]
@@ -57,6 +58,18 @@ pub fn unhex(word: &[u8], to: &mut [u8]) -> usize
     n
 }
 
+// The number of a word of hexadecimal digits; only the first 16 count.
+pub fn hex_number(word: &[u8]) -> u64 {
+    let end = clip(16, word);
+    let mut n: u64 = 0;
+    let mut i: usize = 0;
+    while i < end {
+        n = (n << 4) | digit(word[i]) as u64;
+        i += 1;
+    }
+    n
+}
+
 // The value of a hexadecimal digit; any other byte counts as 0.
 pub fn digit(x: u8) -> u8
     ensures { λ r. ⌜ r ≤ 15 ⌝ }
@@ -81,4 +94,10 @@ pub fn clip(n: usize, s: &[u8]) -> usize
     ensures { λ r. ⌜ Counts r (now (s .entry)) ⌝ }
 {
     if n < s.len() { n } else { s.len() }
+}
+
+// Prints a space and a number.
+pub fn show_number(n: u64) {
+    io::write_all(STDOUT_FILENO, b" ");
+    io::print_decimal(STDOUT_FILENO, n);
 }
