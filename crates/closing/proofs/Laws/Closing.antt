@@ -26,6 +26,16 @@ use Rattle.closing.proofs.Laws.Lacked.{none-firstFrom, lacked-or}
 use Rattle.closing.proofs.Laws.Valid.{closed-well}
 use Rattle.closing.proofs.Laws.Parts.{close-cong, close-close, close-none}
 
+-- ---- a book that lacks a chosen predicate, and one that has all
+
+pub closed-lacks : (S : ℕ) (B : Book) (p : ℕ) → lacked S (length (B .arities)) ≡ some p → closed S B ≡ refused 8 p
+unfolding closed
+closed-lacks S B p h = rw h
+
+pub closed-has : (S : ℕ) (B : Book) → lacked S (length (B .arities)) ≡ none → closed S B ≡ done 0 (encode (close S B))
+unfolding closed
+closed-has S B h = rw h
+
 -- ---- where closing is not refused
 
 isDone : Outcome → Bool
@@ -61,8 +71,7 @@ closing-done S s t = go (judge s) refl
 
 module _ (S : ℕ) (s : List ℕ) (B : Book) (valid : judge s ≡ book B) where
   pub done-closing : lacked S (length (B .arities)) ≡ none → closing S s ≡ done 0 (encode (close S B))
-  unfolding closed
-  done-closing h = sym (on-book (closed S) s B (sym valid)) ∙ rw h
+  done-closing h = sym (on-book (closed S) s B (sym valid)) ∙ closed-has S B h
 
 -- "A closed book is a valid book"
 pub closing-valid : (S : ℕ) (s t : List ℕ) (c : Closed S s t) → judge t ≡ book (close S (c .book·))

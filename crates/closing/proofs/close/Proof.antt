@@ -1,0 +1,152 @@
+-- `closing::close` meets its contract. A fault is the book's; a book that lacks a chosen predicate has its lowest in the word that begins behind its
+-- predicates; else what is written is held as the closed book is. Assumes nothing.
+use mathlib.Core.Path.{_≡_, ap, _∙_}
+use mathlib.Core.Option.{some}
+use Prim.Native.Nat.{ℕ, _+_, _^_, _<_}
+use native.Mathlib.Omega.{arith}
+use lib.Seq.{length-take-le}
+use lib.Count.{trailingZeros}
+use lib.ListN.{length, take}
+use borrow.Author.Needs.{needs}
+use Rattle.masks.specs.Outcome.{refused}
+use Rattle.book.specs.Format.{book, judge}
+use Rattle.book.specs.Encode.{WellFormed}
+use Rattle.book.specs.Held.{bookOf}
+use Rattle.closing.specs.Close.{lacked, close, closed}
+use Rattle.masks.proofs.Laws.Members.{lowest}
+use Rattle.masks.proofs.Laws.Outcome.{answers-refused}
+use Rattle.book.proofs.Laws.Answer.{on-fault, on-book}
+use Rattle.reading.proofs.Laws.Judged.{read-well, read-fault, read-book}
+use Rattle.needs.proofs.Laws.Settling.{read-size, read-known}
+use Rattle.closing.proofs.Laws.Lacked.{lacked-lowest, lacked-none}
+use Rattle.closing.proofs.Laws.Closing.{closed-lacks, closed-has}
+use Rattle.closing.proofs.Laws.Held.{close-held}
+use Rattle.closing.proofs.close.Statement.{statement}
+use Rattle.closing.proofs.close.Tie as tie
+
+read-book-requires : tie.Need-read-book-requires
+read-book-requires c κs = search needs
+
+enum-known-f : tie.Need-enum-known-f
+enum-known-f c = search needs
+
+number-requires : tie.Need-number-requires
+number-requires c κs = search needs
+
+refused-requires : tie.Need-refused-requires
+refused-requires c κs = search needs
+
+returns : tie.Need-returns
+returns c =
+    let s = c .before .before .before .before .before .before .before .before .args in
+    let r = c .before .before .before .before .before .read-book in
+    let v = c .before .before .before .f .given in
+    let f = read-fault (s .book .now) (r .result) (r .ensures .0) (v .1) in
+    rw (← on-fault (closed (s .set)) (s .book .now) _ _ f) (answers-refused _ _ (s .out .now) (c .refused .ensures ∙ ap (λ (n : ℕ). record { number = n; value = v .0 .1 .0; rounds = 0 }) (c .before .number .ensures)))
+
+enum-told : tie.Need-enum-told
+enum-told c = search needs
+
+chosen-from-requires : tie.Need-chosen-from-requires
+chosen-from-requires c κs = search needs
+
+cast-refused : tie.Need-cast-refused
+cast-refused c = search needs
+
+-- the book that was read is well formed
+told : (c : tie.After-chosen-from) → book (bookOf (c .before .before .before .before .read-book .result .book)) ≡ judge (c .before .before .before .before .before .before .before .args .book .now)
+told c =
+    let r = c .before .before .before .before .read-book in
+    read-book (c .before .before .before .before .before .before .before .args .book .now) (r .result) (r .ensures .0) (c .before .before .enum-told .given .1)
+
+as-many : (c : tie.After-chosen-from) → let b = c .before .before .before .before .read-book .result .book in length (take (b .preds) (b .arities)) ≡ b .preds
+as-many c =
+    let r = c .before .before .before .before .read-book in
+    let b = r .result .book in
+    let e : length (b .arities) ≡ 64 = search needs in
+    let n = r .ensures .1 in
+    length-take-le (b .preds) (b .arities) (omega arith)
+
+well : (c : tie.After-chosen-from) → WellFormed (bookOf (c .before .before .before .before .read-book .result .book))
+well c = read-well (c .before .before .before .before .before .before .before .args .book .now) (bookOf (c .before .before .before .before .read-book .result .book)) (told c)
+
+size : (c : tie.After-chosen-from) → let b = c .before .before .before .before .read-book .result .book in length (bookOf b .arities) ≡ b .preds
+size c =
+    let r = c .before .before .before .before .read-book in
+    let b = r .result .book in
+    read-size (b .preds) (b .arities) (b .modes) (b .clauses) (b .rules) (as-many c) (r .ensures .1 .1) (well c)
+
+-- a set is a word
+small : (c : tie.After-chosen-from) → c .before .before .before .before .before .before .before .args .set < 2 ^ 64
+small c = search needs
+
+-- what is beyond has a lowest member
+lowest-small : (c : tie.After-chosen-from) → (c .chosen-from .result ≡ 0 → ⊥) → trailingZeros 64 (c .chosen-from .result) < 64
+lowest-small c z = lowest 64 (c .chosen-from .result) (search needs) z .small
+
+cast-refused-2 : tie.Need-cast-refused-2
+cast-refused-2 c = let l = lowest-small (c .before) (c .if1 .taken) in omega arith
+
+add-refused : tie.Need-add-refused
+add-refused c = let l = lowest-small (c .before) (c .if1 .taken) in omega arith
+
+refused-requires-2 : tie.Need-refused-requires-2
+refused-requires-2 c κs = search needs
+
+returns-2 : tie.Need-returns-2
+returns-2 c =
+    let s = c .before .before .before .before .before .before .before .before .before .args in
+    let b = c .before .before .before .before .before .before .read-book .result .book in
+    let h : lacked (s .set) (length (bookOf b .arities)) ≡ some (b .preds + trailingZeros 64 (c .before .before .chosen-from .result)) =
+    rw (size (c .before .before)) (lacked-lowest (s .set) (b .preds) (c .before .before .chosen-from .result) (small (c .before .before)) (c .before .before .chosen-from .ensures) (search needs) (c .before .if1 .taken)) in
+    rw (← on-book (closed (s .set)) (s .book .now) (bookOf b) (told (c .before .before)), closed-lacks (s .set) (bookOf b) _ h)
+    (answers-refused 8 _ (s .out .now) (c .refused2 .ensures))
+
+settle-requires : tie.Need-settle-requires
+settle-requires c κs = (as-many (c .before .before .before .before .before), c .before .before .before .before .before .before .before .before .before .read-book .ensures .1 .1, well (c .before .before .before .before .before))
+
+close-modes-requires : tie.Need-close-modes-requires
+close-modes-requires c κs = search needs
+
+keep-clauses-requires : tie.Need-keep-clauses-requires
+keep-clauses-requires c κs =
+    let b = c .before .before .before .before .before .before .before .before .before .before .before .before .before .before .before .before .read-book .result .book in
+    (c .before .before .before .before .before .before .before .before .before .before .before .before .before .before .before .before .read-book .ensures .1 .1, read-known (b .preds) (b .arities) (b .modes) (b .clauses) (b .rules) (as-many (c .before .before .before .before .before .before .before .before .before .before .before .before)) (c .before .before .before .before .before .before .before .before .before .before .before .before .before .before .before .before .read-book .ensures .1 .1) (well (c .before .before .before .before .before .before .before .before .before .before .before .before)))
+
+write-book-requires : tie.Need-write-book-requires
+write-book-requires c κs = search needs
+
+same-length : tie.Need-same-length
+same-length c = search needs
+
+returns-3 : tie.Need-returns-3
+returns-3 c =
+    let s = c .before .before .before .before .before .before .before .before .before .before .before .before .before .before .before .before .before .before .before .before .before .before .before .before .before .before .before .before .args in
+    let b = c .before .before .before .before .before .before .before .before .before .before .before .before .before .before .before .before .before .before .before .before .before .before .before .before .before .read-book .result .book in
+    let few = c .before .before .before .before .before .before .before .before .before .before .before .before .before .before .before .before .before .before .before .before .before .before .before .before .before .read-book .ensures .1 .1 in
+    let h = lacked-none (s .set) (b .preds) (c .before .before .before .before .before .before .before .before .before .before .before .before .before .before .before .before .before .before .before .before .before .chosen-from .result) (small (c .before .before .before .before .before .before .before .before .before .before .before .before .before .before .before .before .before .before .before .before .before)) (c .before .before .before .before .before .before .before .before .before .before .before .before .before .before .before .before .before .before .before .before .before .chosen-from .ensures) (c .before .before .before .before .before .before .before .before .before .before .before .before .before .before .before .before .before .before .before .before .if1 .left) in
+    let e = close-held (b .preds) (b .arities) (b .modes) (b .clauses) (b .rules) (as-many (c .before .before .before .before .before .before .before .before .before .before .before .before .before .before .before .before .before .before .before .before .before)) few (well (c .before .before .before .before .before .before .before .before .before .before .before .before .before .before .before .before .before .before .before .before .before)) (s .set) (c .before .before .before .before .before .before .before .before .before .before .before .before .before .before .before .settle .result .table .needs) _ _ (c .before .before .before .before .before .before .before .before .keep-clauses .result) (small (c .before .before .before .before .before .before .before .before .before .before .before .before .before .before .before .before .before .before .before .before .before)) h (c .before .before .before .before .before .before .before .before .before .before .before .before .before .before .before .settle .ensures .0) (c .before .before .before .before .before .before .before .before .before .before .close-modes .ensures) (c .before .before .before .before .before .before .before .before .keep-clauses .ensures) in
+    rw (← on-book (closed (s .set)) (s .book .now) (bookOf b) (told (c .before .before .before .before .before .before .before .before .before .before .before .before .before .before .before .before .before .before .before .before .before)), closed-has (s .set) (bookOf b) (rw (size (c .before .before .before .before .before .before .before .before .before .before .before .before .before .before .before .before .before .before .before .before .before)) h), ← e) (c .before .before .write-book .ensures)
+
+pub close-spec : {M : Type 1} → statement M
+close-spec =
+    tie.close
+    (tie.spec
+    read-book-requires
+    enum-known-f
+    number-requires
+    refused-requires
+    returns
+    enum-told
+    chosen-from-requires
+    cast-refused
+    cast-refused-2
+    add-refused
+    refused-requires-2
+    returns-2
+    settle-requires
+    close-modes-requires
+    keep-clauses-requires
+    write-book-requires
+    same-length
+    returns-3)
