@@ -95,23 +95,27 @@ refused-requires-2 c κs = search needs
 
 returns-2 : tie.Need-returns-2
 returns-2 c =
-    let s = c .before .before .before .before .before .before .before .before .before .args in
-    let b = c .before .before .before .before .before .before .read-book .result .book in
-    let h : lacked (s .set) (length (bookOf b .arities)) ≡ some (b .preds + trailingZeros 64 (c .before .before .chosen-from .result)) =
-    rw (size (c .before .before)) (lacked-lowest (s .set) (b .preds) (c .before .before .chosen-from .result) (small (c .before .before)) (c .before .before .chosen-from .ensures) (search needs) (c .before .if1 .taken)) in
-    rw (← on-book (closed (s .set)) (s .book .now) (bookOf b) (told (c .before .before)), closed-lacks (s .set) (bookOf b) _ h)
+    let k = c .before .before in
+    let s = k .before .before .before .before .before .before .before .args in
+    let b = k .before .before .before .before .read-book .result .book in
+    let beyond = k .chosen-from .result in
+    let h : lacked (s .set) (length (bookOf b .arities)) ≡ some (b .preds + trailingZeros 64 beyond) =
+    rw (size k) (lacked-lowest (s .set) (b .preds) beyond (small k) (k .chosen-from .ensures) (search needs) (c .before .if1 .taken)) in
+    rw (← on-book (closed (s .set)) (s .book .now) (bookOf b) (told k), closed-lacks (s .set) (bookOf b) _ h)
     (answers-refused 8 _ (s .out .now) (c .refused2 .ensures))
 
 settle-requires : tie.Need-settle-requires
-settle-requires c κs = (as-many (c .before .before .before .before .before), c .before .before .before .before .before .before .before .before .before .read-book .ensures .1 .1, well (c .before .before .before .before .before))
+settle-requires c κs = let k = c .before .before .before .before .before in (as-many k, k .before .before .before .before .read-book .ensures .1 .1, well k)
 
 close-modes-requires : tie.Need-close-modes-requires
 close-modes-requires c κs = search needs
 
 keep-clauses-requires : tie.Need-keep-clauses-requires
 keep-clauses-requires c κs =
-    let b = c .before .before .before .before .before .before .before .before .before .before .before .before .before .before .before .before .read-book .result .book in
-    (c .before .before .before .before .before .before .before .before .before .before .before .before .before .before .before .before .read-book .ensures .1 .1, read-known (b .preds) (b .arities) (b .modes) (b .clauses) (b .rules) (as-many (c .before .before .before .before .before .before .before .before .before .before .before .before)) (c .before .before .before .before .before .before .before .before .before .before .before .before .before .before .before .before .read-book .ensures .1 .1) (well (c .before .before .before .before .before .before .before .before .before .before .before .before)))
+    let k = c .before .before .before .before .before .before .before .before .before .before .before .before in
+    let r = k .before .before .before .before .read-book in
+    let b = r .result .book in
+    (r .ensures .1 .1, read-known (b .preds) (b .arities) (b .modes) (b .clauses) (b .rules) (as-many k) (r .ensures .1 .1) (well k))
 
 write-book-requires : tie.Need-write-book-requires
 write-book-requires c κs = search needs
@@ -121,12 +125,17 @@ same-length c = search needs
 
 returns-3 : tie.Need-returns-3
 returns-3 c =
-    let s = c .before .before .before .before .before .before .before .before .before .before .before .before .before .before .before .before .before .before .before .before .before .before .before .before .before .before .before .before .args in
-    let b = c .before .before .before .before .before .before .before .before .before .before .before .before .before .before .before .before .before .before .before .before .before .before .before .before .before .read-book .result .book in
-    let few = c .before .before .before .before .before .before .before .before .before .before .before .before .before .before .before .before .before .before .before .before .before .before .before .before .before .read-book .ensures .1 .1 in
-    let h = lacked-none (s .set) (b .preds) (c .before .before .before .before .before .before .before .before .before .before .before .before .before .before .before .before .before .before .before .before .before .chosen-from .result) (small (c .before .before .before .before .before .before .before .before .before .before .before .before .before .before .before .before .before .before .before .before .before)) (c .before .before .before .before .before .before .before .before .before .before .before .before .before .before .before .before .before .before .before .before .before .chosen-from .ensures) (c .before .before .before .before .before .before .before .before .before .before .before .before .before .before .before .before .before .before .before .before .if1 .left) in
-    let e = close-held (b .preds) (b .arities) (b .modes) (b .clauses) (b .rules) (as-many (c .before .before .before .before .before .before .before .before .before .before .before .before .before .before .before .before .before .before .before .before .before)) few (well (c .before .before .before .before .before .before .before .before .before .before .before .before .before .before .before .before .before .before .before .before .before)) (s .set) (c .before .before .before .before .before .before .before .before .before .before .before .before .before .before .before .settle .result .table .needs) _ _ (c .before .before .before .before .before .before .before .before .keep-clauses .result) (small (c .before .before .before .before .before .before .before .before .before .before .before .before .before .before .before .before .before .before .before .before .before)) h (c .before .before .before .before .before .before .before .before .before .before .before .before .before .before .before .settle .ensures .0) (c .before .before .before .before .before .before .before .before .before .before .close-modes .ensures) (c .before .before .before .before .before .before .before .before .keep-clauses .ensures) in
-    rw (← on-book (closed (s .set)) (s .book .now) (bookOf b) (told (c .before .before .before .before .before .before .before .before .before .before .before .before .before .before .before .before .before .before .before .before .before)), closed-has (s .set) (bookOf b) (rw (size (c .before .before .before .before .before .before .before .before .before .before .before .before .before .before .before .before .before .before .before .before .before)) h), ← e) (c .before .before .write-book .ensures)
+    let kept = c .before .before .before .before .before .before .before .before in
+    let settled = kept .before .before .before .before .before .before .before in
+    let k = settled .before .before .before .before .before .before in
+    let s = k .before .before .before .before .before .before .before .args in
+    let r = k .before .before .before .before .read-book in
+    let b = r .result .book in
+    let h = lacked-none (s .set) (b .preds) (k .chosen-from .result) (small k) (k .chosen-from .ensures) (settled .before .before .before .before .before .if1 .left) in
+    let e = close-held (b .preds) (b .arities) (b .modes) (b .clauses) (b .rules) (as-many k) (r .ensures .1 .1) (well k) (s .set)
+    (settled .settle .result .table .needs) _ _ (kept .keep-clauses .result) (small k) h
+    (settled .settle .ensures .0) (kept .before .before .close-modes .ensures) (kept .keep-clauses .ensures) in
+    rw (← on-book (closed (s .set)) (s .book .now) (bookOf b) (told k), closed-has (s .set) (bookOf b) (rw (size k) h), ← e) (c .before .before .write-book .ensures)
 
 pub close-spec : {M : Type 1} → statement M
 close-spec =
