@@ -1,23 +1,53 @@
--- What an operation on books comes to: the fault of the bytes, or what it makes of the book. Assumes nothing.
-use mathlib.Core.Path.{_≡_}
+-- What bytes are judged to be, and what an operation on books comes to: the fault of the bytes, or what it makes of the book. Assumes nothing.
+use mathlib.Core.Path.{_≡_, ap}
 use mathlib.Core.List.{List}
-use Prim.Native.Nat.{ℕ}
+use Prim.Native.Nat.{ℕ, _≤_}
 use native.Mathlib.Omega.{arith}
+use lib.ListN.{length}
 use Rattle.masks.specs.Outcome.{Outcome, refused}
 use Rattle.book.specs.Book.{Book}
-use Rattle.book.specs.Format.{number, fault, book, judge}
-use Rattle.book.specs.Answer.{ofJudged, onBook}
+use Rattle.book.specs.Format.{number, Got, bad, got, readBook, Judged, fault, book, judged, judge}
+use Rattle.book.specs.Answer.{onBook}
 use Rattle.book.specs.declared.fault.Fault.{Fault}
 use Rattle.book.specs.declared.fault.Fault.the-variants.{PastEnd, NoMark, OutOfTurn, OutOfRange, TooMany, Conflict}
 
--- no fault has number 0, which is no fault
+-- ---- what bytes are judged to be
+
+-- "1" to "6": no fault has number 0, which is no fault
+pub number-range : (f : Fault) → (1 ≤ number f) × (number f ≤ 6)
+number-range PastEnd = (omega arith, omega arith)
+number-range NoMark = (omega arith, omega arith)
+number-range OutOfTurn = (omega arith, omega arith)
+number-range OutOfRange = (omega arith, omega arith)
+number-range TooMany = (omega arith, omega arith)
+number-range Conflict = (omega arith, omega arith)
+
 pub number-some : (f : Fault) → number f ≡ 0 → ⊥
-number-some PastEnd e = omega arith
-number-some NoMark e = omega arith
-number-some OutOfTurn e = omega arith
-number-some OutOfRange e = omega arith
-number-some TooMany e = omega arith
-number-some Conflict e = omega arith
+number-some f e = let r = number-range f in omega arith
+
+-- a fault's place is in the bytes or at their end
+placeOf : Judged → ℕ
+placeOf (fault f at) = at
+placeOf (book B) = 0
+
+pub fault-place : (s : List ℕ) (f : Fault) (at : ℕ) → judge s ≡ fault f at → at ≤ length s
+unfolding judge placeOf
+fault-place s f at = go (readBook s)
+  where
+    go : (g : Got Book) → judged s g ≡ fault f at → at ≤ length s
+    go (bad v k) e = let p = ap placeOf e in omega arith
+    go (got B t) e = let p = ap placeOf e in omega arith
+
+-- a string of bytes is one book
+bookOr : Book → Judged → Book
+bookOr d (fault f at) = d
+bookOr d (book B) = B
+
+pub book-injective : (B C : Book) → book B ≡ book C → B ≡ C
+unfolding bookOr
+book-injective B C e = ap (bookOr B) e
+
+-- ---- what comes of them
 
 module _ (made : Book → Outcome) (s : List ℕ) where
   pub on-fault : (v : Fault) (at : ℕ) → fault v at ≡ judge s → refused (number v) at ≡ onBook made s

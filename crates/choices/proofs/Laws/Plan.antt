@@ -1,13 +1,13 @@
 -- Demand 2, of what planning comes to: a valid book is refused as unorderable exactly when no choice makes it well-moded, and a plan has exactly what is
 -- reached, each in the first of the good orders. Assumes nothing.
-use mathlib.Core.Path.{_≡_, sym, ap, _∙_}
-use mathlib.Core.Bool.{Bool, true, false, false≢true}
+use mathlib.Core.Path.{_≡_, sym, _∙_}
+use mathlib.Core.Bool.{true, false}
 use mathlib.Core.Logic.{_↔_}
 use mathlib.Core.List.{List}
 use mathlib.Core.Option.{some}
 use Prim.Native.Nat.{ℕ, _<_}
 use lib.ListN.{length}
-use Rattle.masks.specs.Outcome.{Outcome, refused, done}
+use Rattle.masks.specs.Outcome.{refused, done}
 use Rattle.book.specs.Book.{Book}
 use Rattle.book.specs.Encode.{WellFormed}
 use Rattle.book.specs.Format.{book, judge}
@@ -19,6 +19,7 @@ use Rattle.choices.specs.Choice.{clause, IsChoice, Reaches, WellModed, O
 use Rattle.choices.specs.Reached.{marked, reached}
 use Rattle.choices.specs.Plan.{Row, chosen, rowsOf, planRows, image, planned, planning}
 use Rattle.masks.proofs.Laws.Logic.{byBool, false-of}
+use Rattle.masks.proofs.Laws.Outcome.{refused-done}
 use Rattle.book.proofs.Laws.Answer.{on-book}
 use Rattle.book.proofs.Laws.Trip.{judge-inv}
 use Rattle.tables.proofs.Laws.Valid.{clause-own}
@@ -39,10 +40,6 @@ planned-none B t = rw t
 
 -- ---- reply 7, or a plan
 
-isPlan : Outcome → Bool
-isPlan (refused number value) = false
-isPlan (done rounds bytes) = true
-
 -- of a string of bytes that is a valid book
 module _ (s : List ℕ) (B : Book) (valid : judge s ≡ book B) where
   well : WellFormed B
@@ -54,17 +51,19 @@ module _ (s : List ℕ) (B : Book) (valid : judge s ≡ book B) where
   planning-none : isSome (firstGood (final B) (B .query) nothing) ≡ false → planning s ≡ refused 7 0
   planning-none t = sym (on-book planned s B (sym valid)) ∙ planned-none B t
 
+  -- "7: the query of a valid book has no order good against the final table"
+  pub seven-none : (planning s ≡ refused 7 0) ↔ (isSome (firstGood (final B) (B .query) nothing) ≡ false)
+  seven-none = (λ e. false-of (λ t. refused-done (sym e ∙ planning-good t)), planning-none)
+
   -- "Reply 7 is given exactly when no choice does."
   pub seven-iff : (planning s ≡ refused 7 0) ↔ (Orderable B → ⊥)
-  unfolding isPlan
   seven-iff = (
-    λ e x. false≢true (ap isPlan (sym e ∙ planning-good (orderable B well .0 x))),
+    λ e x. refused-done (sym e ∙ planning-good (orderable B well .0 x)),
     λ n. planning-none (false-of (λ t. n (orderable B well .1 t))),
   )
 
   found : planning s ≡ done 0 (image B) → isSome (firstGood (final B) (B .query) nothing) ≡ true
-  unfolding isPlan
-  found e = byBool (isSome (firstGood (final B) (B .query) nothing)) (λ t. t) (λ t. absurd (false≢true (ap isPlan (sym (planning-none t) ∙ e))))
+  found e = byBool (isSome (firstGood (final B) (B .query) nothing)) (λ t. t) (λ t. refused-done (sym (planning-none t) ∙ e))
 
   -- and a plan exactly when one does
   pub plan-iff : (planning s ≡ done 0 (image B)) ↔ Orderable B

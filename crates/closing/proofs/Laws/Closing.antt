@@ -1,14 +1,13 @@
 -- Demand 3, of what closing any bytes comes to: the closed bytes are a valid book, closing in parts comes to what closing at once comes to, and the
 -- empty set gives back the same bytes. Assumes nothing.
 use mathlib.Core.Path.{_≡_, refl, sym, ap, ap₂, _∙_}
-use mathlib.Core.Bool.{Bool, true, false}
-use mathlib.Core.List.{List, []}
+use mathlib.Core.List.{List}
 use mathlib.Core.Option.{Option, none, some}
 use Prim.Native.Nat.{ℕ, _-_}
 use native.Mathlib.Omega.{arith}
 use lib.Bits.{bitOr, or-comm, or-self}
 use lib.ListN.{length, take}
-use Rattle.masks.specs.Outcome.{Outcome, refused, done, Answers}
+use Rattle.masks.specs.Outcome.{refused, done, Answers}
 use Rattle.masks.specs.Set.{bitAt}
 use Rattle.masks.specs.declared.reply.Reply.{Reply}
 use Rattle.book.specs.Limits.{maxPredicates}
@@ -17,8 +16,7 @@ use Rattle.book.specs.Format.{Judged, fault, book, judge}
 use Rattle.book.specs.Encode.{encode}
 use Rattle.book.specs.Answer.{ofJudged, onBook}
 use Rattle.closing.specs.Close.{closeOver, close, lacked, unlessLacked, closed, closing}
-use Rattle.masks.proofs.Laws.Logic.{clash}
-use Rattle.masks.proofs.Laws.Outcome.{answers-number, answers-bytes}
+use Rattle.masks.proofs.Laws.Outcome.{answers-number, answers-bytes, refused-done, done-bytes}
 use Rattle.masks.proofs.Laws.Set.{bitAt-zero, bitAt-or}
 use Rattle.book.proofs.Laws.Answer.{number-some, on-book}
 use Rattle.book.proofs.Laws.Trip.{judge-encode, judge-inv}
@@ -38,18 +36,6 @@ closed-has S B h = rw h
 
 -- ---- where closing is not refused
 
-isDone : Outcome → Bool
-isDone (refused number value) = false
-isDone (done rounds bytes) = true
-
-bytesOf : Outcome → List ℕ
-bytesOf (refused number value) = []
-bytesOf (done rounds bytes) = bytes
-
-no-refusal : {P : Type 0} {number value rounds : ℕ} {bytes : List ℕ} → refused number value ≡ done rounds bytes → P
-unfolding isDone
-no-refusal e = clash refl (sym (ap isDone e))
-
 -- the bytes are then a valid book that has each chosen predicate, and what comes of it is the closed book
 pub record Closed (S : ℕ) (s t : List ℕ) : Type 0 where
   pub book· : Book
@@ -58,16 +44,16 @@ pub record Closed (S : ℕ) (s t : List ℕ) : Type 0 where
   pub bytes : t ≡ encode (close S book·)
 
 pub closing-done : (S : ℕ) (s t : List ℕ) → closing S s ≡ done 0 t → Closed S s t
-unfolding onBook closed bytesOf
+unfolding onBook closed
 closing-done S s t = go (judge s) refl
   where
     go : (j : Judged) → judge s ≡ j → ofJudged (closed S) j ≡ done 0 t → Closed S s t
-    go (fault f at) d e = no-refusal e
+    go (fault f at) d e = refused-done e
     go (book B) d e = tried (lacked S (length (B .arities))) refl e
       where
         tried : (o : Option ℕ) → lacked S (length (B .arities)) ≡ o → unlessLacked o (encode (close S B)) ≡ done 0 t → Closed S s t
-        tried none h e = record { book· = B; judged = d; has = h; bytes = sym (ap bytesOf e) }
-        tried (some p) h e = no-refusal e
+        tried none h e = record { book· = B; judged = d; has = h; bytes = sym (done-bytes e) }
+        tried (some p) h e = refused-done e
 
 module _ (S : ℕ) (s : List ℕ) (B : Book) (valid : judge s ≡ book B) where
   pub done-closing : lacked S (length (B .arities)) ≡ none → closing S s ≡ done 0 (encode (close S B))

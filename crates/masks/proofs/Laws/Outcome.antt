@@ -1,7 +1,8 @@
 -- An outcome fixes the reply and every byte of the room: two answers that it allows are equal, a refusal leaves the room as it was, and a
 -- success leaves every byte after the result. Assumes nothing.
 use mathlib.Core.Path.{_≡_, refl, sym, ap, _∙_}
-use mathlib.Core.List.{List, _++_}
+use mathlib.Core.Bool.{Bool, true, false}
+use mathlib.Core.List.{List, [], _++_}
 use Prim.Native.Nat.{ℕ, _+_, _≤_, _<_}
 use native.Mathlib.Omega.{arith}
 use lib.Dec.{ltb}
@@ -10,7 +11,7 @@ use lib.Seq.{take-at, drop-at, sets, sets-eq}
 use borrow.Author.Tests.{lt-ltb, le-ltb, ltb-false}
 use Rattle.masks.specs.Outcome.{Outcome, refused, done, reply, left, Answers}
 use Rattle.masks.specs.declared.reply.Reply.{Reply}
-use Rattle.masks.proofs.Laws.Logic.{byBool}
+use Rattle.masks.proofs.Laws.Logic.{byBool, clash}
 
 -- ---- how an operation comes to answer: by a refusal, for want of room, or with the bytes stored
 
@@ -102,3 +103,27 @@ answers-bytes {rounds} {bytes} {out} {r} {after} a z =
     (λ t. let v : r .value ≡ length bytes = ap (λ (x : Reply). x .value) (a .replies) ∙ rw t in
     let e : after ≡ bytes ++ drop (length bytes) out = a .leaves ∙ rw t in
     rw (v, e) (take-at bytes (drop (length bytes) out) (length bytes) refl))
+
+pub answers-zero : {rounds : ℕ} {bytes out : List ℕ} {r : Reply} {after : List ℕ} → Answers (done rounds bytes) out r after → length bytes ≤ length out
+    → r .number ≡ 0
+unfolding reply
+answers-zero {rounds} {bytes} {out} {r} {after} a h =
+    let t = le-ltb (length out) (length bytes) h in ap (λ (x : Reply). x .number) (a .replies) ∙ rw t
+
+-- ---- outcomes that are equal
+
+isDone : Outcome → Bool
+isDone (refused number value) = false
+isDone (done rounds bytes) = true
+
+bytesOf : Outcome → List ℕ
+bytesOf (refused number value) = []
+bytesOf (done rounds bytes) = bytes
+
+pub refused-done : {P : Type 0} {number value rounds : ℕ} {bytes : List ℕ} → refused number value ≡ done rounds bytes → P
+unfolding isDone
+refused-done e = clash refl (sym (ap isDone e))
+
+pub done-bytes : {rounds more : ℕ} {xs ys : List ℕ} → done rounds xs ≡ done more ys → xs ≡ ys
+unfolding bytesOf
+done-bytes e = ap bytesOf e

@@ -1,0 +1,2 @@
+-- That the demands are met.
+pub mod Demands

@@ -1,0 +1,155 @@
+-- The demands are met. Assumes nothing.
+use mathlib.Core.Path.{_≡_, refl, sym, ap, _∙_, subst}
+use mathlib.Core.Bool.{true}
+use mathlib.Core.List.{List}
+use mathlib.Core.Option.{none}
+use Prim.Native.Nat.{ℕ, suc, _≤_}
+use native.Mathlib.Omega.{arith}
+use lib.Bits.{bitOr}
+use lib.ListN.{length}
+use Rattle.masks.specs.Outcome.{Outcome, done, reply, left, Answers}
+use Rattle.masks.specs.Set.{bitAt}
+use Rattle.masks.specs.declared.reply.Reply.{Reply}
+use Rattle.book.specs.Limits.{longest}
+use Rattle.book.specs.Book.{Book}
+use Rattle.book.specs.Format.{number, fault, book, judge}
+use Rattle.book.specs.Encode.{WellFormed}
+use Rattle.book.specs.declared.fault.Fault.{Fault}
+use Rattle.reading.specs.Judged.{checked}
+use Rattle.ordering.specs.Adorn.{Table, nothing}
+use Rattle.ordering.specs.Good.{firstGood, isSome}
+use Rattle.tables.specs.Table.{table, settled, rounds, final}
+use Rattle.tables.specs.Image.{analysed}
+use Rattle.choices.specs.Choice.{Orderable}
+use Rattle.choices.specs.Plan.{planned}
+use Rattle.closing.specs.Close.{closeOver, close, lacked, closed, closing}
+use Rattle.demands.specs.Demands as say
+use Rattle.masks.proofs.Laws.Logic.{byRange, clash}
+use Rattle.masks.proofs.Laws.Outcome.{answers-unique, answers-kept, answers-rest, answers-zero, done-bytes}
+use Rattle.book.proofs.Laws.Answer.{number-range, fault-place, book-injective, on-fault, on-book}
+use Rattle.book.proofs.Laws.Bound.{encode-length}
+use Rattle.book.proofs.Laws.Trip.{judge-encode, judge-inv}
+use Rattle.tables.proofs.Laws.Rounds.{sameTable-true, true-sameTable, rounds-least, rounds-settled}
+use Rattle.choices.proofs.Laws.Examples.{rows, EachHolds, examples}
+use Rattle.choices.proofs.Laws.Moded.{orderable}
+use Rattle.choices.proofs.Laws.Plan.{seven-none, seven-iff, plan-iff, plan-sound, plan-exact, plan-query-first, plan-first}
+use Rattle.closing.proofs.Laws.Valid.{closed-well}
+use Rattle.closing.proofs.Laws.Close.{final-close}
+use Rattle.closing.proofs.Laws.Closing.{closed-lacks, closing-done, closing-valid, done-closing, closing-twice, closing-turned, closing-again, closing-none, closing-gave}
+
+-- ---- demand 1
+
+one-answer : (o : Outcome) (out : List ℕ) → say.OneAnswer o out
+one-answer o out =
+    let this : Answers o out (reply o (length out)) (left o out) = record { replies = refl; leaves = refl } in
+    record { reply· = reply o (length out); after = left o out; answers = this; only = λ r a x. answers-unique x this }
+
+faulty : (s : List ℕ) (f : Fault) (at : ℕ) → judge s ≡ fault f at → say.Faulty s (number f) at
+faulty s f at e =
+    record {
+      least = number-range f .0;
+      most = number-range f .1;
+      place = fault-place s f at e;
+      check· = ap checked e;
+      analyse· = sym (on-fault analysed s f at (sym e));
+      plan· = sym (on-fault planned s f at (sym e));
+      close· = λ set. sym (on-fault (closed set) s f at (sym e));
+    }
+
+pub demand-1 : say.Demand1
+demand-1 =
+    record {
+      defined = λ op out. one-answer (say.outcome op) out;
+      kept = λ op a. answers-kept a;
+      rest = λ op a. answers-rest a;
+      books = λ s B. (judge-inv s B, λ x. subst (λ (t : List ℕ). judge t ≡ book B) (x .0) (judge-encode B (x .1)));
+      faults = faulty;
+    }
+
+-- ---- demand 2
+
+module _ (s : List ℕ) (B : Book) (valid : judge s ≡ book B) where
+  well : WellFormed B
+  well = judge-inv s B valid .1
+
+  no-sooner : (k : ℕ) → table B (suc k) ≡ table B k → rounds B ≤ k
+  unfolding settled
+  no-sooner k e = byRange k (rounds B) (λ l. clash (true-sameTable (table B (suc k)) (table B k) e) (rounds-least B k l)) (λ h. h)
+
+  its-own-next : table B (suc (rounds B)) ≡ table B (rounds B)
+  unfolding settled
+  its-own-next = sameTable-true (table B (suc (rounds B))) (table B (rounds B)) (rounds-settled B well)
+
+  ordered : Orderable B → isSome (firstGood (final B) (B .query) nothing) ≡ true
+  ordered x = orderable B well .0 x
+
+  pub demand-2 : say.Demand2 s B
+  demand-2 =
+      record {
+        needs = sym (on-book analysed s B (sym valid));
+        settled = its-own-next;
+        least = no-sooner;
+        seven = seven-iff s B valid;
+        planned = plan-iff s B valid;
+        choice· = λ x. plan-sound s B valid (plan-iff s B valid .1 x) .0;
+        wellModed = λ x. plan-sound s B valid (plan-iff s B valid .1 x) .1;
+        reached = plan-exact B well;
+        queryFirst = λ x. plan-query-first B well (ordered x);
+        clauseFirst = λ x. plan-first B well (ordered x);
+      }
+
+-- ---- demand 3
+
+-- a call that was not refused wrote what closing comes to
+gave : (set : ℕ) (s t : List ℕ) → say.Closes set s t → closing set s ≡ done 0 t
+gave set s t c = closing-gave set s (c .out) (c .answers) (c .zero) ∙ ap (done 0) (c .bytes)
+
+module _ (s : List ℕ) (B : Book) (valid : judge s ≡ book B) where
+  -- the book that was closed is this one
+  closed-is : (set : ℕ) (t : List ℕ) → closing set s ≡ done 0 t → judge t ≡ book (close set B)
+  closed-is set t e =
+      let c = closing-done set s t e in
+      closing-valid set s t c ∙ ap (λ (C : Book). book (close set C)) (book-injective (c .book·) B (sym (c .judged) ∙ valid))
+
+  same-needs : (set : ℕ) (t : List ℕ) → say.Closes set s t → say.SameNeeds s B t
+  unfolding closeOver
+  same-needs set t c =
+      let v = closed-is set t (gave set s t c) in
+      let f = final-close (bitAt set) B (judge-inv s B valid .1) in
+      let q : isSome (firstGood (final (close set B)) (B .query) nothing) ≡ isSome (firstGood (final B) (B .query) nothing) =
+      ap (λ (T : Table). isSome (firstGood T (B .query) nothing)) f in
+      record {
+        closed = close set B;
+        valid = v;
+        arities = refl;
+        needs = f;
+        accepted = (
+          λ e. seven-none s B valid .1 (sym q ∙ seven-none t (close set B) v .0 e),
+          λ e. seven-none t (close set B) v .1 (q ∙ seven-none s B valid .0 e),
+        );
+      }
+
+  room-enough : (set : ℕ) → lacked set (length (B .arities)) ≡ none → {out : List ℕ} {r : Reply} {after : List ℕ} → Answers (closing set s) out r after
+      → longest ≤ length out → r .number ≡ 0
+  room-enough set h {out} {r} {after} a l =
+      let n = encode-length (close set B) (closed-well (bitAt set) B (judge-inv s B valid .1)) .1 in
+      answers-zero (subst (λ (o : Outcome). Answers o out r after) (done-closing set s B valid h) a) (omega arith)
+
+  pub demand-3 : say.Demand3 s B
+  demand-3 =
+      record {
+        lacks = λ set p h. sym (on-book (closed set) s B (sym valid)) ∙ closed-lacks set B p h;
+        closes = room-enough;
+        same = same-needs;
+        parts = λ S R t u v x y z. done-bytes (sym (gave R t u y) ∙ closing-twice S R s t (gave S s t x) ∙ gave (bitOr S R) s v z);
+        turned = λ S R t u v w x y z q. done-bytes (sym (gave R t u y) ∙ closing-turned S R s t v (gave S s t x) (gave R s v z) ∙ gave S v w q);
+        again = λ set t u x y. done-bytes (sym (gave set t u y) ∙ closing-again set s t (gave set s t x));
+        none· = λ t x. done-bytes (sym (gave 0 s t x) ∙ closing-none s B valid);
+        one = λ set t u x y. done-bytes (sym (gave set s t x) ∙ gave set s u y);
+      }
+
+-- ---- document 01's examples
+
+-- K1 to K12: their rounds, constraints, orders and replies are those that document 01 gives
+pub bench : EachHolds rows
+bench = examples

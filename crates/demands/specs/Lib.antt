@@ -1,0 +1,2 @@
+-- What this repository promises as a whole.
+pub mod Demands
