@@ -1,8 +1,9 @@
 // Lines and their fields, for the programs: fields are parted by single spaces, and lines end in a newline. Bytes stand in them as hexadecimal digits.
 ghost use mathlib.Core.Path.{_≡_};
 ghost use Prim.Native.Nat.{_+_, _≤_, min};
-ghost use lib.ListN.{length};
+ghost use lib.ListN.{length, take};
 ghost use Rattle.io.specs.Counts.{Counts};
+ghost use Rattle.lines.specs.Hex.{digitOf, numberFrom};
 use libc::STDOUT_FILENO;
 
 // Field k of a line, counted from 0; past the last it is empty.
@@ -59,12 +60,16 @@ pub fn unhex(word: &[u8], to: &mut [u8]) -> usize
 }
 
 // The number of a word of hexadecimal digits; only the first 16 count.
-pub fn hex_number(word: &[u8]) -> u64 {
-    let end = clip(16, word);
+pub fn hex_number(word: &[u8]) -> u64
+    ensures { λ r. ⌜ r ≡ numberFrom 0 (take 16 (now (word .entry))) ⌝ }
+{
     let mut n: u64 = 0;
     let mut i: usize = 0;
-    while i < end {
-        n = (n << 4) | digit(word[i]) as u64;
+    while i < 16 {
+        if i == word.len() {
+            return n;
+        }
+        n = n * 16 + digit(word[i]) as u64;
         i += 1;
     }
     n
@@ -72,6 +77,7 @@ pub fn hex_number(word: &[u8]) -> u64 {
 
 // The value of a hexadecimal digit; any other byte counts as 0.
 pub fn digit(x: u8) -> u8
+    ensures { λ r. ⌜ r ≡ digitOf x ⌝ }
     ensures { λ r. ⌜ r ≤ 15 ⌝ }
 {
     if x < b'0' {

@@ -1,0 +1,2 @@
+-- What a reader has to believe of this crate: hexadecimal digits.
+pub mod Hex
