@@ -45,10 +45,8 @@ fn answer(line: &[u8]) {
 
 // A reply's number and value.
 fn show(r: Reply) {
-    io::write_all(STDOUT_FILENO, b" ");
-    io::print_decimal(STDOUT_FILENO, r.number as u64);
-    io::write_all(STDOUT_FILENO, b" ");
-    io::print_decimal(STDOUT_FILENO, r.value);
+    lines::show_number(r.number as u64);
+    lines::show_number(r.value);
 }
 
 // A valid book, written again: into more room than it needs, and into one byte less than it needs.
@@ -61,8 +59,8 @@ fn show_again(bytes: &[u8]) {
         io::write_all(STDOUT_FILENO, b" differs");
         return;
     }
-    io::write_all(STDOUT_FILENO, b" written ");
-    io::print_decimal(STDOUT_FILENO, all.value);
+    io::write_all(STDOUT_FILENO, b" written");
+    lines::show_number(all.value);
     let mut less = [OLD; ROOM];
     let n = one_less(bytes, &less);
     let short = write(b, &mut less[..n]);

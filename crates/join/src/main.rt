@@ -66,10 +66,8 @@ fn try_one(joint: bool, line: &[u8]) -> Tried {
 
 // The reply, the masks written, and whether the bytes after them are as they were.
 fn show(t: Tried) {
-    io::write_all(STDOUT_FILENO, b" ");
-    io::print_decimal(STDOUT_FILENO, t.reply.number as u64);
-    io::write_all(STDOUT_FILENO, b" ");
-    io::print_decimal(STDOUT_FILENO, t.reply.value);
+    lines::show_number(t.reply.number as u64);
+    lines::show_number(t.reply.value);
     io::write_all(STDOUT_FILENO, b" ");
     let out = t.out;
     if t.reply.number == 0 {
