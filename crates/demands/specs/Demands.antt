@@ -85,6 +85,7 @@ FirstGood T body b σ = Least (λ τ. Rearranges (length body) τ × (goodFrom T
 pub record Demand2 (s : List ℕ) (B : Book) : Type 0 where
   -- the analysis gives the image of table k and k rounds, where k is the least at which table k+1 equals table k
   pub needs : analysed.analysis s ≡ done (rounds B) (analysed.image B)
+  pub last : final B ≡ table B (rounds B)
   pub settled : table B (suc (rounds B)) ≡ table B (rounds B)
   pub least : (k : ℕ) → table B (suc k) ≡ table B k → rounds B ≤ k
   -- reply 7 is given exactly when no choice of orders makes the book well-moded; else there is a plan

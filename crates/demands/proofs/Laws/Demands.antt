@@ -84,9 +84,11 @@ module _ (s : List ℕ) (B : Book) (valid : judge s ≡ book B) where
   ordered x = orderable B well .0 x
 
   pub demand-2 : say.Demand2 s B
+  unfolding final
   demand-2 =
       record {
         needs = sym (on-book analysed s B (sym valid));
+        last = refl;
         settled = its-own-next;
         least = no-sooner;
         seven = seven-iff s B valid;
