@@ -71,6 +71,8 @@ pub record Demand1 : Type 0 where
       → drop (r .value) after ≡ drop (r .value) out
   -- the strings that are books are the bytes of the books that keep to all limits
   pub books : (s : List ℕ) (B : Book) → (judge s ≡ book B) ↔ ((encode B ≡ s) × WellFormed B)
+  -- and the check answers 0 with the value 0 exactly for these
+  pub checks : (s : List ℕ) → (checked (judge s) ≡ record { number = 0; value = 0; rounds = 0 }) ↔ ((B : Book) × (judge s ≡ book B))
   -- all others have a first fault, with which they are refused
   pub faults : (s : List ℕ) (f : Fault) (at : ℕ) → judge s ≡ fault f at → Faulty s (number f) at
 

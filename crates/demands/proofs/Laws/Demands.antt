@@ -12,7 +12,7 @@ use Rattle.masks.specs.Set.{bitAt}
 use Rattle.masks.specs.declared.reply.Reply.{Reply}
 use Rattle.book.specs.Limits.{longest}
 use Rattle.book.specs.Book.{Book}
-use Rattle.book.specs.Format.{number, fault, book, judge}
+use Rattle.book.specs.Format.{number, Judged, fault, book, judge}
 use Rattle.book.specs.Encode.{WellFormed}
 use Rattle.book.specs.declared.fault.Fault.{Fault}
 use Rattle.reading.specs.Judged.{checked}
@@ -26,7 +26,7 @@ use Rattle.closing.specs.Close.{closeOver, close, lacked, closed, closing}
 use Rattle.demands.specs.Demands as say
 use Rattle.masks.proofs.Laws.Logic.{byRange, clash}
 use Rattle.masks.proofs.Laws.Outcome.{answers-unique, answers-kept, answers-rest, answers-zero, done-bytes}
-use Rattle.book.proofs.Laws.Answer.{number-range, fault-place, book-injective, on-fault, on-book}
+use Rattle.book.proofs.Laws.Answer.{number-range, number-some, fault-place, book-injective, on-fault, on-book}
 use Rattle.book.proofs.Laws.Bound.{encode-length}
 use Rattle.book.proofs.Laws.Trip.{judge-encode, judge-inv}
 use Rattle.tables.proofs.Laws.Rounds.{sameTable-true, true-sameTable, rounds-least, rounds-settled}
@@ -56,6 +56,13 @@ faulty s f at e =
       close· = λ set. sym (on-fault (closed set) s f at (sym e));
     }
 
+checked-book : (s : List ℕ) → checked (judge s) .number ≡ 0 → (B : Book) × (judge s ≡ book B)
+checked-book s = go (judge s)
+  where
+    go : (j : Judged) → checked j .number ≡ 0 → (B : Book) × (j ≡ book B)
+    go (fault f at) e = absurd (number-some f e)
+    go (book B) e = (B, refl)
+
 pub demand-1 : say.Demand1
 demand-1 =
     record {
@@ -63,6 +70,7 @@ demand-1 =
       kept = λ op a. answers-kept a;
       rest = λ op a. answers-rest a;
       books = λ s B. (judge-inv s B, λ x. subst (λ (t : List ℕ). judge t ≡ book B) (x .0) (judge-encode B (x .1)));
+      checks = λ s. (λ e. checked-book s (ap (λ (r : Reply). r .number) e), λ x. ap checked (x .1));
       faults = faulty;
     }
 
