@@ -135,6 +135,8 @@ pub record Demand3 (s : List ℕ) (B : Book) : Type 0 where
   -- one set and then another gives the same bytes as both at once, in either turn
   pub parts : (S R : ℕ) (t u v : List ℕ) → Closes S s t → Closes R t u → Closes (bitOr S R) s v → u ≡ v
   pub turned : (S R : ℕ) (t u v w : List ℕ) → Closes S s t → Closes R t u → Closes R s v → Closes S v w → u ≡ w
+  -- and is refused where both at once are, with the same number and value
+  pub refusals : (S R : ℕ) (t : List ℕ) → Closes S s t → outcome (close R t) ≡ outcome (close (bitOr S R) s)
   -- a set again changes nothing; the empty set gives back the same bytes; a set gives one string of bytes
   pub again : (set : ℕ) (t u : List ℕ) → Closes set s t → Closes set t u → u ≡ t
   pub none· : (t : List ℕ) → Closes 0 s t → t ≡ s

@@ -153,6 +153,7 @@ module _ (s : List ℕ) (B : Book) (valid : judge s ≡ book B) where
         same = same-needs;
         parts = λ S R t u v x y z. done-bytes (sym (gave R t u y) ∙ closing-twice S R s t (gave S s t x) ∙ gave (bitOr S R) s v z);
         turned = λ S R t u v w x y z q. done-bytes (sym (gave R t u y) ∙ closing-turned S R s t v (gave S s t x) (gave R s v z) ∙ gave S v w q);
+        refusals = λ S R t x. closing-twice S R s t (gave S s t x);
         again = λ set t u x y. done-bytes (sym (gave set t u y) ∙ closing-again set s t (gave set s t x));
         none· = λ t x. done-bytes (sym (gave 0 s t x) ∙ closing-none s B valid);
         one = λ set t u x y. done-bytes (sym (gave set s t x) ∙ gave set s u y);
