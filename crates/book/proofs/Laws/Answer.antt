@@ -7,7 +7,7 @@ use lib.ListN.{length}
 use Rattle.masks.specs.Outcome.{Outcome, refused}
 use Rattle.book.specs.Book.{Book}
 use Rattle.book.specs.Format.{number, Got, bad, got, readBook, Judged, fault, book, judged, judge}
-use Rattle.book.specs.Answer.{onBook}
+use Rattle.book.specs.Answer.{ofJudged, onBook}
 use Rattle.book.specs.declared.fault.Fault.{Fault}
 use Rattle.book.specs.declared.fault.Fault.the-variants.{PastEnd, NoMark, OutOfTurn, OutOfRange, TooMany, Conflict}
 
@@ -52,8 +52,8 @@ book-injective B C e = ap (bookOr B) e
 module _ (made : Book → Outcome) (s : List ℕ) where
   pub on-fault : (v : Fault) (at : ℕ) → fault v at ≡ judge s → refused (number v) at ≡ onBook made s
   unfolding onBook
-  on-fault v at e = rw (← e)
+  on-fault v at e = ap (ofJudged made) e
 
   pub on-book : (B : Book) → book B ≡ judge s → made B ≡ onBook made s
   unfolding onBook
-  on-book B e = rw (← e)
+  on-book B e = ap (ofJudged made) e

@@ -2,7 +2,7 @@
 use mathlib.Core.Path.{_≡_, refl}
 use mathlib.Core.List.{List, [], _∷_, _++_}
 use mathlib.Core.Option.{none, some}
-use Prim.Native.Nat.{ℕ}
+use Prim.Native.Nat.{ℕ, _^_}
 use Rattle.masks.specs.Outcome.{refused, done}
 use Rattle.masks.specs.Set.{bitAt}
 use Rattle.book.specs.Book.{Mode, Clause}
@@ -37,6 +37,11 @@ pub modes-turn : closedModes (bitAt 5) ((0 ∷ []) ∷ (1 ∷ []) ∷ [] ∷ (0 
 unfolding compute-close
 modes-turn = refl
 
+-- "gives each chosen predicate an MO with its final constraint in written form": one that had MO, with alternatives not in written form
+pub mode-anew : closedModes (bitAt 1) ((1 ∷ []) ∷ []) (needs 0 (3 ∷ 1 ∷ 1 ∷ []) ∷ []) 1 ≡ needs 0 (1 ∷ []) ∷ []
+unfolding compute-close
+mode-anew = refl
+
 -- "the lowest such number": of 0, 1, 5 and 6 the lowest that a book of four predicates lacks
 pub lowest : lacked 99 4 ≡ some 5
 unfolding compute-close
@@ -65,7 +70,7 @@ pub k1-lacks : closed 580 (k1 .book) ≡ refused 8 6
 unfolding compute-close
 k1-lacks = refl
 
--- "A valid book is next tried for 8": QU twice is 3 at 2, whatever is chosen
-pub fault-first : closing 1 (81 ∷ 85 ∷ 81 ∷ 85 ∷ []) ≡ refused 3 2
-unfolding onBook judge readBook many markAt predicate rules
+-- "A valid book is next tried for 8": QU twice is 3 at 2, also with 63 chosen
+pub fault-first : closing (2 ^ 63) (81 ∷ 85 ∷ 81 ∷ 85 ∷ []) ≡ refused 3 2
+unfolding compute-close onBook judge readBook many markAt predicate rules
 fault-first = refl

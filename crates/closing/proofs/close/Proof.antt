@@ -5,7 +5,7 @@ use mathlib.Core.Option.{some}
 use Prim.Native.Nat.{ℕ, _+_, _^_, _<_}
 use native.Mathlib.Omega.{arith}
 use lib.Seq.{length-take-le}
-use lib.Count.{trailingZeros}
+use lib.Count.{trailingZeros, trailing-le}
 use lib.ListN.{length, take}
 use borrow.Author.Needs.{needs}
 use Rattle.masks.specs.Outcome.{refused}
@@ -13,7 +13,6 @@ use Rattle.book.specs.Format.{book, judge}
 use Rattle.book.specs.Encode.{WellFormed}
 use Rattle.book.specs.Held.{bookOf}
 use Rattle.closing.specs.Close.{lacked, close, closed}
-use Rattle.masks.proofs.Laws.Members.{lowest}
 use Rattle.masks.proofs.Laws.Outcome.{answers-refused}
 use Rattle.book.proofs.Laws.Answer.{on-fault, on-book}
 use Rattle.reading.proofs.Laws.Judged.{read-well, read-fault, read-book}
@@ -80,15 +79,18 @@ size c =
 small : (c : tie.After-chosen-from) → c .before .before .before .before .before .before .before .args .set < 2 ^ 64
 small c = search needs
 
--- what is beyond has a lowest member
-lowest-small : (c : tie.After-chosen-from) → (c .chosen-from .result ≡ 0 → ⊥) → trailingZeros 64 (c .chosen-from .result) < 64
-lowest-small c z = lowest 64 (c .chosen-from .result) (search needs) z .small
+-- the count of a word's zeros, and a byte with it
+count-small : (w : ℕ) → trailingZeros 64 w < 2 ^ 64
+count-small w = let l = trailing-le 64 w in omega arith
+
+sum-small : (n w : ℕ) → n < 2 ^ 8 → n + trailingZeros 64 w < 2 ^ 64
+sum-small n w h = let l = trailing-le 64 w in omega arith
 
 cast-refused-2 : tie.Need-cast-refused-2
-cast-refused-2 c = let l = lowest-small (c .before) (c .if1 .taken) in omega arith
+cast-refused-2 c = record { fits = count-small _ }
 
 add-refused : tie.Need-add-refused
-add-refused c = let l = lowest-small (c .before) (c .if1 .taken) in omega arith
+add-refused c = record { fits = sum-small _ _ (search needs) }
 
 refused-requires-2 : tie.Need-refused-requires-2
 refused-requires-2 c κs = search needs

@@ -23,7 +23,7 @@ sub-rest : tie.Need-sub-rest Inv-loop μ-loop
 sub-rest c = search needs
 
 mode-at-requires : tie.Need-mode-at-requires Inv-loop μ-loop
-mode-at-requires c κs = moding-low (c .before .loop .inv) (c .loop-test .taken)
+mode-at-requires c κs = let l = moding-low (c .before .loop .inv) (c .loop-test .taken) in omega arith
 
 put-mode-requires : tie.Need-put-mode-requires Inv-loop μ-loop
 put-mode-requires c κs = moding-low (c .before .before .before .loop .inv) (c .before .before .loop-test .taken)

@@ -56,8 +56,8 @@ loop-again c =
     let q = c .before .before .head-at .ensures in
     let has = sym (c .before .has-member .ensures) in
     ⊎-elim
-    (λ w. rw (w .3, w .4) (keeping-move l (omega arith) q (has ∙ not-true _ (w .0 .taken)) (w .2 .ensures)))
-    (λ w. rw (w .1, w .2) (keeping-drop l (omega arith) q (has ∙ not-false _ (w .0 .left))))
+    (λ w. rw (w .3, w .4) (keeping-move l (omega arith) q (has ∙ search (not-true, w .0 .taken)) (w .2 .ensures)))
+    (λ w. rw (w .1, w .2) (keeping-drop l (omega arith) q (has ∙ search (not-false, w .0 .left))))
     (c .if1 .came)
 
 returns : tie.Need-returns Inv-loop μ-loop

