@@ -59,7 +59,7 @@ module _ (S : ℕ) (s : List ℕ) (B : Book) (valid : judge s ≡ book B) where
   pub done-closing : lacked S (length (B .arities)) ≡ none → closing S s ≡ done 0 (encode (close S B))
   done-closing h = sym (on-book (closed S) s B (sym valid)) ∙ closed-has S B h
 
--- "A closed book is a valid book"
+-- what comes of it is a valid book
 pub closing-valid : (S : ℕ) (s t : List ℕ) (c : Closed S s t) → judge t ≡ book (close S (c .book·))
 closing-valid S s t c =
     rw (c .bytes) (judge-encode (close S (c .book·)) (closed-well (bitAt S) (c .book·) (judge-inv s (c .book·) (c .judged) .1)))
@@ -84,7 +84,7 @@ pub closing-turned : (S R : ℕ) (s t u : List ℕ) → closing S s ≡ done 0 t
 closing-turned S R s t u e f =
     closing-twice S R s t e ∙ ap (λ (X : ℕ). closing X s) (or-comm S R) ∙ sym (closing-twice R S s u f)
 
--- "closing a set again changes nothing"
+-- a set again changes nothing
 pub closing-again : (S : ℕ) (s t : List ℕ) → closing S s ≡ done 0 t → closing S t ≡ done 0 t
 closing-again S s t e = closing-twice S S s t e ∙ ap (λ (X : ℕ). closing X s) (or-self S) ∙ e
 

@@ -24,7 +24,7 @@ use Rattle.masks.proofs.Laws.Logic.{byBool}
 use Rattle.masks.proofs.Laws.Lists.{getD-values, joined-cong, joined-cut, all-mono}
 use Rattle.book.proofs.Laws.Trip.{mode-known}
 use Rattle.tables.proofs.Laws.Held.{modeOf-modesOf}
-use Rattle.tables.proofs.Laws.Valid.{modeOf-all}
+use Rattle.tables.proofs.Laws.Modes.{modeOf-all}
 use Rattle.closing.proofs.Laws.Lacked.{member-known}
 
 -- ---- modes

@@ -48,7 +48,7 @@ firstFrom-some f (suc m) n (suc d) l t h =
 
 -- ---- what a book of n predicates lacks
 
--- a set that the book has lacks nothing beside another
+-- where the book has each of S, it lacks of both sets what it lacks of R
 pub lacked-or : (S R n : ℕ) → lacked S n ≡ none → lacked R n ≡ lacked (bitOr S R) n
 unfolding lacked
 lacked-or S R n e =

@@ -1,13 +1,13 @@
 -- Modes made from what each predicate is given: they say of each predicate what it was given, they rise, and modes that rise are made again from
 -- what they say. Assumes nothing.
 use mathlib.Core.Path.{_≡_, refl, sym, ap, ap₂, _∙_}
-use mathlib.Core.Bool.{Bool, true, false, cond, or-false}
+use mathlib.Core.Bool.{Bool, true, or-false}
 use mathlib.Core.List.{List, [], _∷_, _++_}
-use mathlib.Core.Option.{Option, none, some, Option·none-ne-some, Option·some-injective}
+use mathlib.Core.Option.{Option, none, some}
 use Prim.Native.Nat.{ℕ, zero, suc, _≤_, _<_}
 use native.Mathlib.Omega.{arith}
 use lib.Dec.{eqb, ltb, leb}
-use borrow.Author.Tests.{eqb-true, eqb-false, eq-eqb, ne-eqb, ltb-true, lt-ltb, leb-true, le-leb}
+use borrow.Author.Tests.{eqb-true, eqb-false, eq-eqb, ne-eqb, ltb-true, lt-ltb, le-leb}
 use Rattle.masks.specs.Lists.{any, all, joined}
 use Rattle.book.specs.Book.{Mode}
 use Rattle.book.specs.Format.{hasMode}
@@ -16,27 +16,9 @@ use Rattle.tables.specs.Table.{modeOf}
 use Rattle.closing.specs.Close.{modeWith}
 use Rattle.masks.proofs.Laws.Logic.{byBool, byRange, clash, and-intro, and-left, and-right}
 use Rattle.masks.proofs.Laws.Lists.{all-append, joined-any}
+use Rattle.tables.proofs.Laws.Modes.{either, either-none, modeOf-append, modeOf-over, rises-ext}
 
 -- ---- one mode, and modes one after the other
-
--- the first of two that is there
-abbrev first : Option (List ℕ) → Option (List ℕ) → Option (List ℕ)
-first none o = o
-first (some masks) o = some masks
-
-first-none : (o : Option (List ℕ)) → first o none ≡ o
-first-none none = refl
-first-none (some masks) = refl
-
-modeOf-append : (xs ys : List Mode) (p : ℕ) → modeOf (xs ++ ys) p ≡ first (modeOf xs p) (modeOf ys p)
-unfolding modeOf
-modeOf-append [] ys p = refl
-modeOf-append (m ∷ xs) ys p = go (eqb (m .pred) p) (modeOf-append xs ys p)
-  where
-    go : (b : Bool) → modeOf (xs ++ ys) p ≡ first (modeOf xs p) (modeOf ys p)
-        → cond b (some (m .masks)) (modeOf (xs ++ ys) p) ≡ first (cond b (some (m .masks)) (modeOf xs p)) (modeOf ys p)
-    go true e = refl
-    go false e = e
 
 modeOf-with : (q : ℕ) (o : Option (List ℕ)) → modeOf (modeWith q o) q ≡ o
 unfolding modeOf
@@ -61,7 +43,7 @@ module _ (f : ℕ → Option (List ℕ)) where
   modeOf-past zero p h = refl
   modeOf-past (suc n) p h =
       modeOf-append (joined (λ q. modeWith q (f q)) n) (modeWith n (f n)) p
-      ∙ ap₂ first (modeOf-past n p (omega arith)) (modeOf-other n (f n) p (λ e. omega arith))
+      ∙ ap₂ either (modeOf-past n p (omega arith)) (modeOf-other n (f n) p (λ e. omega arith))
 
   pub modeOf-made : (n p : ℕ) → p < n → modeOf (joined (λ q. modeWith q (f q)) n) p ≡ f p
   modeOf-made zero p h = absurd (omega arith)
@@ -69,9 +51,9 @@ module _ (f : ℕ → Option (List ℕ)) where
       modeOf-append (joined (λ q. modeWith q (f q)) n) (modeWith n (f n)) p
       ∙ byBool (eqb n p)
       (λ t. let e : n ≡ p = eqb-true n p t in
-      ap₂ first (modeOf-past n p (omega arith)) (ap (λ (k : ℕ). modeOf (modeWith n (f n)) k) (sym e) ∙ modeOf-with n (f n)) ∙ ap f e)
+      ap₂ either (modeOf-past n p (omega arith)) (ap (λ (k : ℕ). modeOf (modeWith n (f n)) k) (sym e) ∙ modeOf-with n (f n)) ∙ ap f e)
       (λ t. let ne : n ≡ p → ⊥ = eqb-false n p t in
-      ap₂ first (modeOf-made n p (omega arith)) (modeOf-other n (f n) p ne) ∙ first-none (f p))
+      ap₂ either (modeOf-made n p (omega arith)) (modeOf-other n (f n) p ne) ∙ either-none (f p))
 
   pub hasMode-made : (n p : ℕ) → hasMode (joined (λ q. modeWith q (f q)) n) p ≡ true → (p < n) × ((masks : List ℕ) × (f p ≡ some masks))
   unfolding hasMode
@@ -112,66 +94,7 @@ made-rises f (suc n) =
     rises-with 0 n (f n) (joined (λ q. modeWith q (f q)) n) (omega arith) (made-rises f n)
     (all-made (λ (m : Mode). ltb (m .pred) n) f n (λ p masks l e. lt-ltb p n l))
 
--- ---- modes that rise say of each predicate one thing, and are told by what they say
-
--- none below the least
-rising-low : (b : ℕ) (ms : List Mode) (p : ℕ) → rises b ms ≡ true → p < b → modeOf ms p ≡ none
-unfolding modeOf
-rising-low b [] p r l = refl
-rising-low b (m ∷ ms) p r l =
-    let h : b ≤ m .pred = leb-true b (m .pred) (and-left (leb b (m .pred)) (rises (suc (m .pred)) ms) r) in
-    rw (ne-eqb (m .pred) p (λ e. omega arith))
-    (rising-low (suc (m .pred)) ms p (and-right (leb b (m .pred)) (rises (suc (m .pred)) ms) r) (omega arith))
-
--- none from n on
-modeOf-over : (n : ℕ) (ms : List Mode) (p : ℕ) → all (λ (m : Mode). ltb (m .pred) n) ms ≡ true → n ≤ p → modeOf ms p ≡ none
-unfolding modeOf
-modeOf-over n [] p t h = refl
-modeOf-over n (m ∷ ms) p t h =
-    let k : m .pred < n = ltb-true (m .pred) n (and-left (ltb (m .pred) n) (all (λ (m : Mode). ltb (m .pred) n) ms) t) in
-    rw (ne-eqb (m .pred) p (λ e. omega arith)) (modeOf-over n ms p (and-right (ltb (m .pred) n) (all (λ (m : Mode). ltb (m .pred) n) ms) t) h)
-
-modeOf-here : (m : Mode) (ms : List Mode) → modeOf (m ∷ ms) (m .pred) ≡ some (m .masks)
-unfolding modeOf
-modeOf-here m ms = rw (eq-eqb (m .pred) (m .pred) refl)
-
--- where modes that rise say something of a predicate, it is not below the first
-not-below : (m : Mode) (ms : List Mode) (p : ℕ) (masks : List ℕ) → rises (suc (m .pred)) ms ≡ true → modeOf (m ∷ ms) p ≡ some masks → m .pred ≤ p
-not-below m ms p masks r e =
-    byRange p (m .pred)
-    (λ l. absurd (Option·none-ne-some masks
-    (sym (rising-low (m .pred) (m ∷ ms) p (and-intro (le-leb (m .pred) (m .pred) (omega arith)) r) l) ∙ e)))
-    (λ l. l)
-
-rises-ext : (b c : ℕ) (xs ys : List Mode) → rises b xs ≡ true → rises c ys ≡ true → ((p : ℕ) → modeOf xs p ≡ modeOf ys p) → xs ≡ ys
-unfolding modeOf
-rises-ext b c [] [] r s h = refl
-rises-ext b c [] (y ∷ ys) r s h = absurd (Option·none-ne-some (y .masks) (h (y .pred) ∙ modeOf-here y ys))
-rises-ext b c (x ∷ xs) [] r s h = absurd (Option·none-ne-some (x .masks) (sym (h (x .pred)) ∙ modeOf-here x xs))
-rises-ext b c (x ∷ xs) (y ∷ ys) r s h =
-    ap₂ {C = List Mode} _∷_ (λ i. record { pred = e i; masks = masks i }) (rises-ext (suc (x .pred)) (suc (y .pred)) xs ys u v rest)
-  where
-    u : rises (suc (x .pred)) xs ≡ true
-    u = and-right (leb b (x .pred)) (rises (suc (x .pred)) xs) r
-
-    v : rises (suc (y .pred)) ys ≡ true
-    v = and-right (leb c (y .pred)) (rises (suc (y .pred)) ys) s
-
-    e : x .pred ≡ y .pred
-    e =
-        let k = not-below x xs (y .pred) (y .masks) u (h (y .pred) ∙ modeOf-here y ys) in
-        let l = not-below y ys (x .pred) (x .masks) v (sym (h (x .pred)) ∙ modeOf-here x xs) in
-        omega arith
-
-    masks : x .masks ≡ y .masks
-    masks = Option·some-injective (x .masks) (y .masks) (sym (modeOf-here x xs) ∙ h (x .pred) ∙ ap (modeOf (y ∷ ys)) e ∙ modeOf-here y ys)
-
-    rest : (p : ℕ) → modeOf xs p ≡ modeOf ys p
-    rest p =
-        byBool (eqb (x .pred) p)
-        (λ t. let q : x .pred ≡ p = eqb-true (x .pred) p t in
-        rising-low (suc (x .pred)) xs p u (omega arith) ∙ sym (rising-low (suc (y .pred)) ys p v (omega (arith, e))))
-        (λ t. let o : eqb (y .pred) p ≡ false = ap (λ (k : ℕ). eqb k p) (sym e) ∙ t in rw (t, o) at (h p))
+-- ---- modes that rise are made again from what they say
 
 pub made-back : (ms : List Mode) (n : ℕ) → rises 0 ms ≡ true → all (λ (m : Mode). ltb (m .pred) n) ms ≡ true
     → joined (λ q. modeWith q (modeOf ms q)) n ≡ ms

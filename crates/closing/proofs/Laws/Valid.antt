@@ -23,7 +23,8 @@ use Rattle.masks.proofs.Laws.Constraint.{written-inRange}
 use Rattle.masks.proofs.Laws.Chains.{at-most-twenty}
 use Rattle.book.proofs.Laws.Trip.{clause-head, clause-free, clause-few, clause-goals}
 use Rattle.tables.proofs.Laws.Rounds.{final-proper}
-use Rattle.tables.proofs.Laws.Valid.{modeOf-all, mode-none, arity-low}
+use Rattle.tables.proofs.Laws.Modes.{modeOf-all, mode-none}
+use Rattle.tables.proofs.Laws.Valid.{arity-low}
 use Rattle.closing.proofs.Laws.Modes.{hasMode-made, made-rises, all-made}
 
 kept-few : (S : ℕ → Bool) (cs : List Clause) → length (keptClauses S cs) ≤ length cs

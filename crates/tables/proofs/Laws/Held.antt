@@ -2,7 +2,7 @@
 use mathlib.Core.Path.{_≡_, refl, ap, ap₂, _∙_}
 use mathlib.Core.Bool.{Bool, true, false, cond}
 use mathlib.Core.List.{List, [], _∷_, _++_}
-use mathlib.Core.Option.{Option, none, some}
+use mathlib.Core.Option.{none, some}
 use Prim.Native.Nat.{ℕ, zero, suc, _+_, _*_, _≤_, _<_}
 use native.Mathlib.Numerals.{add-one}
 use native.Mathlib.Omega.{arith}
@@ -21,6 +21,7 @@ use Rattle.book.proofs.Laws.Windows.{getD-window}
 use Rattle.ordering.specs.Adorn.{Table}
 use Rattle.ordering.specs.Held.{entryIn, tableIn, Low}
 use Rattle.writing.proofs.Laws.Chunks.{Chunks}
+use Rattle.tables.proofs.Laws.Modes.{either, either-none, modeOf-append}
 use Rattle.tables.specs.Table.{modeOf, firstNeed, firstNeeds}
 use Rattle.tables.specs.Image.{row, rows}
 
@@ -51,24 +52,6 @@ stored-low {modes} {after} {p} s h low i l =
 -- ---- table 0
 
 -- the mode of p among those of an array
-abbrev either : Option (List ℕ) → Option (List ℕ) → Option (List ℕ)
-either none y = y
-either (some x) y = some x
-
-either-none : (x : Option (List ℕ)) → either x none ≡ x
-either-none none = refl
-either-none (some x) = refl
-
-modeOf-append : (xs ys : List Mode) (p : ℕ) → modeOf (xs ++ ys) p ≡ either (modeOf xs p) (modeOf ys p)
-unfolding modeOf
-modeOf-append [] ys p = refl
-modeOf-append (m ∷ xs) ys p = go (eqb (m .pred) p) (modeOf-append xs ys p)
-  where
-    go : (b : Bool) → modeOf (xs ++ ys) p ≡ either (modeOf xs p) (modeOf ys p)
-        → cond b (some (m .masks)) (modeOf (xs ++ ys) p) ≡ either (cond b (some (m .masks)) (modeOf xs p)) (modeOf ys p)
-    go true r = refl
-    go false r = r
-
 module _ (modes : List ℕ) (p : ℕ) where
   modeAt-other : (i : ℕ) → (i ≡ p → ⊥) → modeOf (modeAt modes i) p ≡ none
   unfolding modeOf modeAt

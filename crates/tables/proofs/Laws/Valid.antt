@@ -1,9 +1,9 @@
 -- What a well-formed book says of its predicates: their arities and masks are in range, none has both clauses and MO, and every clause is of a
 -- predicate of the book and calls such only, each with as many arguments as its arity. Assumes nothing.
 use mathlib.Core.Path.{_≡_, refl}
-use mathlib.Core.Bool.{Bool, true, false, cond, _||_}
+use mathlib.Core.Bool.{true, false}
 use mathlib.Core.List.{List, [], _∷_}
-use mathlib.Core.Option.{none, some, Option·none-ne-some, Option·some-injective}
+use mathlib.Core.Option.{none, some}
 use Prim.Native.Nat.{ℕ, _^_, _≤_, _<_}
 use lib.Dec.{eqb, ltb}
 use lib.ListN.{length, getD}
@@ -22,30 +22,7 @@ use Rattle.book.proofs.Laws.Bound.{arities-at}
 use Rattle.ordering.specs.Good.{at}
 use Rattle.ordering.specs.Held.{callsBelow}
 use Rattle.tables.specs.Table.{modeOf, defined}
-
--- ---- a mode
-
--- what holds of every MO holds of that of p
-pub modeOf-all : (t : Mode → Bool) (ms : List Mode) → all t ms ≡ true → (p : ℕ) (masks : List ℕ) → modeOf ms p ≡ some masks
-    → t (record { pred = p; masks = masks }) ≡ true
-unfolding modeOf
-modeOf-all t [] h p masks e = absurd (Option·none-ne-some masks e)
-modeOf-all t (m ∷ ms) h p masks e = go (eqb (m .pred) p) refl (modeOf-all t ms (and-right (t m) (all t ms) h) p masks) e
-  where
-    go : (b : Bool) → eqb (m .pred) p ≡ b → (modeOf ms p ≡ some masks → t (record { pred = p; masks = masks }) ≡ true)
-        → cond b (some (m .masks)) (modeOf ms p) ≡ some masks → t (record { pred = p; masks = masks }) ≡ true
-    go true q r e = rw (← Option·some-injective (m .masks) masks e, ← eqb-true (m .pred) p q) (and-left (t m) (all t ms) h)
-    go false q r e = r e
-
-pub mode-none : (ms : List Mode) (p : ℕ) → hasMode ms p ≡ false → modeOf ms p ≡ none
-unfolding modeOf hasMode
-mode-none [] p e = refl
-mode-none (m ∷ ms) p e = go (eqb (m .pred) p) (mode-none ms p) e
-  where
-    go : (b : Bool) → (any (λ (m : Mode). eqb (m .pred) p) ms ≡ false → modeOf ms p ≡ none) → (b || any (λ (m : Mode). eqb (m .pred) p) ms) ≡ false
-        → cond b (some (m .masks)) (modeOf ms p) ≡ none
-    go true r e = clash refl e
-    go false r e = r e
+use Rattle.tables.proofs.Laws.Modes.{modeOf-all, mode-none}
 
 -- ---- a clause
 
