@@ -130,6 +130,8 @@ pub record Demand3 (s : List ℕ) (B : Book) : Type 0 where
   pub lacks : (set p : ℕ) → lacked set (length (B .arities)) ≡ some p → closing set s ≡ refused 8 p
   pub closes : (set : ℕ) → lacked set (length (B .arities)) ≡ none → {out : List ℕ} {r : Reply} {after : List ℕ} → Answers (closing set s) out r after
       → longest ≤ length out → r .number ≡ 0
+  -- a book that cannot be ordered is closed like any other
+  pub seven : (set : ℕ) {out : List ℕ} {r : Reply} {after : List ℕ} → Answers (closing set s) out r after → r .number ≡ 7 → ⊥
   -- no need and no acceptance changes
   pub same : (set : ℕ) (t : List ℕ) → Closes set s t → SameNeeds s B t
   -- one set and then another gives the same bytes as both at once, in either turn

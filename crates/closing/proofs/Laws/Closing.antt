@@ -1,6 +1,7 @@
 -- Demand 3, of what closing any bytes comes to: the closed bytes are a valid book, closing in parts comes to what closing at once comes to, and the
 -- empty set gives back the same bytes. Assumes nothing.
 use mathlib.Core.Path.{_≡_, refl, sym, ap, ap₂, _∙_}
+use mathlib.Core.Logic.{⊎-elim}
 use mathlib.Core.List.{List}
 use mathlib.Core.Option.{Option, none, some}
 use Prim.Native.Nat.{ℕ, _-_}
@@ -16,9 +17,9 @@ use Rattle.book.specs.Format.{Judged, fault, book, judge}
 use Rattle.book.specs.Encode.{encode}
 use Rattle.book.specs.Answer.{ofJudged, onBook}
 use Rattle.closing.specs.Close.{closeOver, close, lacked, unlessLacked, closed, closing}
-use Rattle.masks.proofs.Laws.Outcome.{answers-number, answers-bytes, refused-done, done-bytes}
+use Rattle.masks.proofs.Laws.Outcome.{answers-number, answers-number-done, answers-bytes, refused-done, done-bytes}
 use Rattle.masks.proofs.Laws.Set.{bitAt-zero, bitAt-or}
-use Rattle.book.proofs.Laws.Answer.{number-some, on-book}
+use Rattle.book.proofs.Laws.Answer.{number-range, number-some, on-book}
 use Rattle.book.proofs.Laws.Trip.{judge-encode, judge-inv}
 use Rattle.closing.proofs.Laws.Lacked.{none-firstFrom, lacked-or}
 use Rattle.closing.proofs.Laws.Valid.{closed-well}
@@ -97,7 +98,22 @@ closing-none s B valid =
     ∙ ap (λ (C : Book). done 0 (encode C)) (close-none (bitAt 0) bitAt-zero B (i .1))
     ∙ ap (done 0) (i .0)
 
--- ---- of a reply: 0 is given where closing is not refused
+-- ---- of a reply
+
+-- "Reply 7 never comes here"
+pub never-seven : (S : ℕ) (s out : List ℕ) {r : Reply} {after : List ℕ} → Answers (closing S s) out r after → r .number ≡ 7 → ⊥
+unfolding onBook closed
+never-seven S s out {r} {after} a z = go (judge s) a
+  where
+    go : (j : Judged) → Answers (ofJudged (closed S) j) out r after → ⊥
+    go (fault f at) a = let n = number-range f in let e = sym (answers-number a) ∙ z in omega arith
+    go (book B) a = tried (lacked S (length (B .arities))) a
+      where
+        tried : (o : Option ℕ) → Answers (unlessLacked o (encode (close S B))) out r after → ⊥
+        tried none a = ⊎-elim (λ e. omega (arith, e, z)) (λ e. omega (arith, e, z)) (answers-number-done a)
+        tried (some p) a = let e = sym (answers-number a) ∙ z in omega arith
+
+-- 0 is given where closing is not refused
 
 pub closing-gave : (S : ℕ) (s out : List ℕ) {r : Reply} {after : List ℕ} → Answers (closing S s) out r after → r .number ≡ 0
     → closing S s ≡ done 0 (take (r .value) after)

@@ -35,7 +35,7 @@ use Rattle.choices.proofs.Laws.Moded.{orderable}
 use Rattle.choices.proofs.Laws.Plan.{seven-none, seven-iff, plan-iff, plan-sound, plan-exact, plan-query-first, plan-first}
 use Rattle.closing.proofs.Laws.Valid.{closed-well}
 use Rattle.closing.proofs.Laws.Close.{final-close}
-use Rattle.closing.proofs.Laws.Closing.{closed-lacks, closing-done, closing-valid, done-closing, closing-twice, closing-turned, closing-again, closing-none, closing-gave}
+use Rattle.closing.proofs.Laws.Closing.{closed-lacks, closing-done, closing-valid, done-closing, closing-twice, closing-turned, closing-again, closing-none, never-seven, closing-gave}
 
 -- ---- demand 1
 
@@ -150,6 +150,7 @@ module _ (s : List ℕ) (B : Book) (valid : judge s ≡ book B) where
       record {
         lacks = λ set p h. sym (on-book (closed set) s B (sym valid)) ∙ closed-lacks set B p h;
         closes = room-enough;
+        seven = λ set a. never-seven set s _ a;
         same = same-needs;
         parts = λ S R t u v x y z. done-bytes (sym (gave R t u y) ∙ closing-twice S R s t (gave S s t x) ∙ gave (bitOr S R) s v z);
         turned = λ S R t u v w x y z q. done-bytes (sym (gave R t u y) ∙ closing-turned S R s t v (gave S s t x) (gave R s v z) ∙ gave S v w q);

@@ -2,6 +2,7 @@
 -- success leaves every byte after the result. Assumes nothing.
 use mathlib.Core.Path.{_≡_, refl, sym, ap, _∙_}
 use mathlib.Core.Bool.{Bool, true, false}
+use mathlib.Core.Logic.{_⊎_, inl, inr}
 use mathlib.Core.List.{List, [], _++_}
 use Prim.Native.Nat.{ℕ, _+_, _≤_, _<_}
 use native.Mathlib.Omega.{arith}
@@ -109,6 +110,14 @@ pub answers-zero : {rounds : ℕ} {bytes out : List ℕ} {r : Reply} {after : Li
 unfolding reply
 answers-zero {rounds} {bytes} {out} {r} {after} a h =
     let t = le-ltb (length out) (length bytes) h in ap (λ (x : Reply). x .number) (a .replies) ∙ rw t
+
+-- a result is answered by 0 or 9
+pub answers-number-done : {rounds : ℕ} {bytes out : List ℕ} {r : Reply} {after : List ℕ} → Answers (done rounds bytes) out r after
+    → (r .number ≡ 0) ⊎ (r .number ≡ 9)
+unfolding reply
+answers-number-done {rounds} {bytes} {out} {r} {after} a =
+    byBool (ltb (length out) (length bytes)) (λ t. inr (ap (λ (x : Reply). x .number) (a .replies) ∙ rw t))
+    (λ t. inl (ap (λ (x : Reply). x .number) (a .replies) ∙ rw t))
 
 -- ---- outcomes that are equal
 
