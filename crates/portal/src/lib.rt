@@ -1,0 +1,60 @@
+// The operations as C functions: a slice is a pointer and a length, and the reply is given back as C lays it out. What each promises is what the
+// operation under it promises; include/shodhvirup.h says it in words.
+use masks::reply::Reply;
+ghost use mathlib.Core.Path.{_≡_};
+ghost use Rattle.masks.specs.declared.Way.{Way};
+ghost use Rattle.masks.specs.Outcome.{Answers};
+ghost use Rattle.masks.specs.Joining.{joining};
+ghost use Rattle.book.specs.Format.{judge};
+ghost use Rattle.reading.specs.Judged.{checked};
+ghost use Rattle.tables.specs.Image.{analysis};
+ghost use Rattle.choices.specs.Plan.{planning};
+ghost use Rattle.closing.specs.Close.{closing};
+
+// Whether the bytes are a book: 0, or the first fault.
+#[no_mangle]
+pub extern "C" fn shodh_check(book: &[u8]) -> Reply
+    ensures { λ r. ⌜ r ≡ checked (judge (now (book .entry))) ⌝ }
+{
+    reading::check(book)
+}
+
+// The table of needs of a book, and its rounds.
+#[no_mangle]
+pub extern "C" fn shodh_analyse(book: &[u8], out: &mut [u8]) -> Reply
+    ensures { λ r. ⌜ Answers (analysis (now (book .entry))) (now (out .entry)) r (now (out .exit)) ⌝ }
+{
+    needs::analyse(book, out)
+}
+
+// The plan of a book.
+#[no_mangle]
+pub extern "C" fn shodh_plan(book: &[u8], out: &mut [u8]) -> Reply
+    ensures { λ r. ⌜ Answers (planning (now (book .entry))) (now (out .entry)) r (now (out .exit)) ⌝ }
+{
+    plan::plan(book, out)
+}
+
+// The book closed over a set of predicates: predicate p is in it where bit p is set.
+#[no_mangle]
+pub extern "C" fn shodh_close(book: &[u8], set: u64, out: &mut [u8]) -> Reply
+    ensures { λ r. ⌜ Answers (closing set (now (book .entry))) (now (out .entry)) r (now (out .exit)) ⌝ }
+{
+    closing::close(book, set, out)
+}
+
+// The choice of two lists of masks.
+#[no_mangle]
+pub extern "C" fn shodh_choice(arity: u8, first: &[u8], second: &[u8], out: &mut [u8]) -> Reply
+    ensures { λ r. ⌜ Answers (joining Way.Choice arity (now (first .entry)) (now (second .entry))) (now (out .entry)) r (now (out .exit)) ⌝ }
+{
+    masks::choice(arity, first, second, out)
+}
+
+// The joint of two lists of masks.
+#[no_mangle]
+pub extern "C" fn shodh_joint(arity: u8, first: &[u8], second: &[u8], out: &mut [u8]) -> Reply
+    ensures { λ r. ⌜ Answers (joining Way.Joint arity (now (first .entry)) (now (second .entry))) (now (out .entry)) r (now (out .exit)) ⌝ }
+{
+    masks::joint(arity, first, second, out)
+}
