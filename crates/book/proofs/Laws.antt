@@ -7,4 +7,5 @@ pub mod Encode
 pub mod Bound
 pub mod Examples
 pub mod Windows
+pub mod Words
 pub mod Held

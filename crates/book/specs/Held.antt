@@ -1,16 +1,16 @@
--- How the code holds a book: small things by value, and the whole in arrays of bytes. Assumes nothing.
+-- How the code holds a book: small things by value, and the whole in arrays of bytes and words. Assumes nothing.
 use mathlib.Core.Path.{_≡_}
 use mathlib.Core.Bool.{Bool, not, cond}
 use mathlib.Core.List.{List, [], _∷_, _++_, map}
-use Prim.Native.Nat.{ℕ, zero, suc, _+_, _*_, min}
+use Prim.Native.Nat.{ℕ, zero, suc, _+_, _*_, _/_, _%_, _^_, min}
 use lib.Dec.{eqb}
 use lib.ListN.{getD, take, drop}
+use Rattle.masks.specs.Limits.{maxArity}
 use Rattle.masks.specs.Lists.{values}
 use Rattle.book.specs.Limits.{maxPredicates, maxClauses, maxSubgoals}
 use Rattle.book.specs.Book.{Call, Mode, Clause, Book}
 use Rattle.book.specs.declared.clause.Call as call
 use Rattle.book.specs.declared.clause.Clause as clause
-use Rattle.book.specs.declared.Book as held
 
 -- ---- by value
 
@@ -24,41 +24,29 @@ clauseOf c = record { head = callOf (c .head); body = map callOf (take (c .n) (c
 
 -- ---- in arrays
 
--- k bytes from a place on
-abbrev pub window : ℕ → ℕ → List ℕ → List ℕ
-window at k l = take k (drop at l)
+-- byte i of a word, the lowest first
+abbrev pub byteOf : ℕ → ℕ → ℕ
+byteOf w i = w / 2 ^ (8 * i) % 256
 
--- the bytes of a call: its predicate, the number of its arguments, and six arguments
-abbrev pub callSize : ℕ
-callSize = 8
+-- a call in a word, a byte each from the lowest on: its predicate, the number of its arguments, and six arguments
+abbrev pub callIn : ℕ → Call
+callIn w = record { pred = byteOf w 0; args = take (byteOf w 1) (values (λ i. byteOf w (2 + i)) maxArity) }
 
-abbrev pub callIn : List ℕ → Call
-callIn b = record { pred = getD b 0 0; args = take (getD b 1 0) (drop 2 b) }
-
--- the bytes from a place on are now those of a call, and all others are as they were
-pub record StoredCall (rules after : List ℕ) (at : ℕ) (c : Call) : Type 0 where
-  pub is : callIn (window at callSize after) ≡ c
-  pub before : take at after ≡ take at rules
-  pub behind : drop (at + callSize) after ≡ drop (at + callSize) rules
-
--- n calls, from a place on
-unfoldable pub callsIn : List ℕ → ℕ → ℕ → List Call
-callsIn b at n = values (λ i. callIn (window (at + i * callSize) callSize b)) n
-
--- the bytes of a clause: the number of its subgoals, its head, and eight subgoals
+-- the words of a clause: the number of its subgoals, its head, and eight subgoals
 abbrev pub clauseSize : ℕ
-clauseSize = 73
-
-unfoldable pub clauseIn : List ℕ → Clause
-clauseIn b = record { head = callIn (window 1 callSize b); body = callsIn b 9 (min (getD b 0 0) maxSubgoals) }
+clauseSize = 10
 
 -- the array of 64 clauses and the query
 abbrev pub rulesSize : ℕ
-rulesSize = 4745
+rulesSize = 650
 
 -- clause k of an array, and its first n
-abbrev pub clauseAt : List ℕ → ℕ → Clause
-clauseAt rules k = clauseIn (window (k * clauseSize) clauseSize rules)
+unfoldable pub clauseAt : List ℕ → ℕ → Clause
+clauseAt rules k =
+    record {
+      head = callIn (getD rules (k * clauseSize + 1) 0);
+      body = values (λ j. callIn (getD rules (k * clauseSize + 2 + j) 0)) (min (getD rules (k * clauseSize) 0) maxSubgoals);
+    }
 
 unfoldable pub clausesOf : List ℕ → ℕ → List Clause
 clausesOf rules n = values (clauseAt rules) n
@@ -67,6 +55,10 @@ clausesOf rules n = values (clauseAt rules) n
 pub record StoredClause (rules after : List ℕ) (k : ℕ) (c : Clause) : Type 0 where
   pub is : clauseAt after k ≡ c
   pub others : (i : ℕ) → (i ≡ k → ⊥) → clauseAt after i ≡ clauseAt rules i
+
+-- k bytes from a place on
+abbrev pub window : ℕ → ℕ → List ℕ → List ℕ
+window at k l = take k (drop at l)
 
 -- the bytes of a predicate's modes: whether it has MO (0 is no), the number of its masks, and 20 masks. Having none is not having MO with n = 0.
 abbrev pub modeSize : ℕ
@@ -105,6 +97,3 @@ bookIn preds arities modes clauses rules =
       clauses = clausesOf rules (min clauses maxClauses);
       query = clauseAt rules maxClauses .body;
     }
-
-abbrev pub bookOf : held.Book → Book
-bookOf b = bookIn (b .preds) (b .arities) (b .modes) (b .clauses) (b .rules)

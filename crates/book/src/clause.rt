@@ -1,17 +1,16 @@
-// Clauses: by value, and in the array that holds those of a book. The array is gone over as a slice, since only then is its length known to the
-// proof.
-use crate::limits::CALL_SIZE;
+// Clauses: by value, and in the array of words that holds those of a book. A call is one word there: its predicate in the lowest byte, above it the
+// number of its arguments, above that six arguments, one byte each. Stores go by a slice, since only then is the array's length known to the proof.
 use crate::limits::CLAUSE_SIZE;
 use crate::limits::MAX_ARGUMENTS;
 use crate::limits::MAX_SUBGOALS;
 use crate::limits::RULES_SIZE;
 ghost use mathlib.Core.Path.{_≡_};
 ghost use mathlib.Core.List.{[]};
-ghost use Prim.Native.Nat.{_+_, _<_, _≤_, min};
+ghost use Prim.Native.Nat.{_+_, _*_, _^_, _<_, _≤_, min};
 ghost use lib.ListN.{length, getD};
 ghost use Rattle.masks.specs.Limits.{maxArity};
 ghost use Rattle.book.specs.Limits.{maxClauses};
-ghost use Rattle.book.specs.Held.{callOf, clauseOf, callSize, callIn, window, StoredCall, rulesSize, clauseAt, StoredClause};
+ghost use Rattle.book.specs.Held.{callOf, clauseOf, callIn, clauseAt, StoredClause};
 
 // A subgoal, or the head of a clause: a predicate and its arguments, the first n of the array.
 pub struct Call {
@@ -28,7 +27,7 @@ pub struct Clause {
 }
 
 // Clause k of an array.
-pub fn clause_at(rules: &[u8; RULES_SIZE], k: usize) -> Clause
+pub fn clause_at(rules: &[u64; RULES_SIZE], k: usize) -> Clause
     requires { ⌜ k ≤ maxClauses ⌝ }
     ensures { λ r. ⌜ clauseOf r ≡ clauseAt (now (rules .entry)) k ⌝ }
 {
@@ -37,28 +36,25 @@ pub fn clause_at(rules: &[u8; RULES_SIZE], k: usize) -> Clause
     let mut body = [none; MAX_SUBGOALS];
     let mut j: usize = 0;
     while j < MAX_SUBGOALS {
-        let c = call_at(rules, at + 9 + j * CALL_SIZE);
-        body[j] = c;
+        let call = call_of(rules[at + 2 + j]);
+        body[j] = call;
         j += 1;
     }
-    let head = call_at(rules, at + 1);
-    Clause {
-        n: rules[at],
-        head,
-        body,
-    }
+    let head = head_at(rules, k);
+    let n = subgoals_at(rules, k) as u8;
+    Clause { n, head, body }
 }
 
 // The head of clause k of an array.
-pub fn head_at(rules: &[u8; RULES_SIZE], k: usize) -> Call
+pub fn head_at(rules: &[u64; RULES_SIZE], k: usize) -> Call
     requires { ⌜ k ≤ maxClauses ⌝ }
     ensures { λ r. ⌜ callOf r ≡ clauseAt (now (rules .entry)) k .head ⌝ }
 {
-    call_at(rules, k * CLAUSE_SIZE + 1)
+    call_of(rules[k * CLAUSE_SIZE + 1])
 }
 
 // How many subgoals clause k of an array has.
-pub fn subgoals_at(rules: &[u8; RULES_SIZE], k: usize) -> usize
+pub fn subgoals_at(rules: &[u64; RULES_SIZE], k: usize) -> usize
     requires { ⌜ k ≤ maxClauses ⌝ }
     ensures { λ r. ⌜ r ≡ length (clauseAt (now (rules .entry)) k .body) ⌝ }
 {
@@ -66,11 +62,11 @@ pub fn subgoals_at(rules: &[u8; RULES_SIZE], k: usize) -> usize
 }
 
 // Subgoal j of clause k of an array.
-pub fn subgoal_at(rules: &[u8; RULES_SIZE], k: usize, j: usize) -> Call
+pub fn subgoal_at(rules: &[u64; RULES_SIZE], k: usize, j: usize) -> Call
     requires { ⌜ (k ≤ maxClauses) × (j < length (clauseAt (now rules) k .body)) ⌝ }
     ensures { λ r. ⌜ callOf r ≡ getD (clauseAt (now (rules .entry)) k .body) j (record { pred = 0; args = [] }) ⌝ }
 {
-    call_at(rules, k * CLAUSE_SIZE + 9 + j * CALL_SIZE)
+    call_of(rules[k * CLAUSE_SIZE + 2 + j])
 }
 
 // How many arguments a call has. A count above the array's length means all of it.
@@ -78,11 +74,11 @@ pub fn arguments(c: Call) -> usize
     ensures { λ r. ⌜ r ≡ length (callOf c .args) ⌝ }
     ensures { λ r. ⌜ r ≤ maxArity ⌝ }
 {
-    held(c.n, MAX_ARGUMENTS)
+    held(c.n as u64, MAX_ARGUMENTS)
 }
 
-// A number that is held as a byte, at most as many as there is room for.
-fn held(n: u8, room: usize) -> usize
+// A number that is held as a word, at most as many as there is room for.
+fn held(n: u64, room: usize) -> usize
     ensures { λ r. ⌜ r ≡ min n room ⌝ }
 {
     let k = n as usize;
@@ -90,19 +86,19 @@ fn held(n: u8, room: usize) -> usize
 }
 
 // Makes clause k of an array this one.
-pub fn put_clause(rules: &mut [u8; RULES_SIZE], k: usize, c: Clause)
+pub fn put_clause(rules: &mut [u64; RULES_SIZE], k: usize, c: Clause)
     requires { ⌜ k ≤ maxClauses ⌝ }
     ensures { λ _. ⌜ StoredClause (now (rules .entry)) (now (rules .exit)) k (clauseOf c) ⌝ }
 {
     let at = k * CLAUSE_SIZE;
-    let bytes: &mut [u8] = rules;
-    bytes[at] = c.n;
+    let words: &mut [u64] = rules;
+    words[at] = c.n as u64;
     let head = c.head;
-    put_call(rules, at + 1, head);
+    words[at + 1] = word_of(head);
     let mut j: usize = 0;
     while j < MAX_SUBGOALS {
         let call = c.body[j];
-        put_call(rules, at + 9 + j * CALL_SIZE, call);
+        words[at + 2 + j] = word_of(call);
         j += 1;
     }
 }
@@ -118,36 +114,41 @@ pub fn no_call() -> Call
     }
 }
 
-// The call whose bytes begin at a place.
-fn call_at(rules: &[u8; RULES_SIZE], at: usize) -> Call
-    requires { ⌜ at + callSize ≤ rulesSize ⌝ }
-    ensures { λ r. ⌜ callOf r ≡ callIn (window at callSize (now (rules .entry))) ⌝ }
+// The call that a word holds: its bytes from the lowest on.
+fn call_of(w: u64) -> Call
+    ensures { λ r. ⌜ callOf r ≡ callIn w ⌝ }
 {
-    let bytes: &[u8] = rules;
-    let mut args = [0u8; MAX_ARGUMENTS];
-    let mut i: usize = 0;
-    while i < MAX_ARGUMENTS {
-        args[i] = bytes[at + 2 + i];
-        i += 1;
-    }
     Call {
-        pred: bytes[at],
-        n: bytes[at + 1],
-        args,
+        pred: ((w >> 0) % 256) as u8,
+        n: ((w >> 8) % 256) as u8,
+        args: [
+            ((w >> 16) % 256) as u8,
+            ((w >> 24) % 256) as u8,
+            ((w >> 32) % 256) as u8,
+            ((w >> 40) % 256) as u8,
+            ((w >> 48) % 256) as u8,
+            ((w >> 56) % 256) as u8,
+        ],
     }
 }
 
-// Stores the bytes of a call from a place on.
-fn put_call(rules: &mut [u8; RULES_SIZE], at: usize, c: Call)
-    requires { ⌜ at + callSize ≤ rulesSize ⌝ }
-    ensures { λ _. ⌜ StoredCall (now (rules .entry)) (now (rules .exit)) at (callOf c) ⌝ }
+// The word that holds a call: its bytes from the highest down.
+fn word_of(c: Call) -> u64
+    ensures { λ r. ⌜ callIn r ≡ callOf c ⌝ }
 {
-    let bytes: &mut [u8] = rules;
-    bytes[at] = c.pred;
-    bytes[at + 1] = c.n;
-    let mut i: usize = 0;
-    while i < MAX_ARGUMENTS {
-        bytes[at + 2 + i] = c.args[i];
-        i += 1;
+    let mut w: u64 = 0;
+    let mut i = MAX_ARGUMENTS;
+    while 0 < i {
+        i -= 1;
+        w = with_lowest(w, c.args[i]);
     }
+    with_lowest(with_lowest(w, c.n), c.pred)
+}
+
+// A word with one byte more, as its lowest.
+fn with_lowest(w: u64, b: u8) -> u64
+    requires { ⌜ w < 2 ^ 56 ⌝ }
+    ensures { λ r. ⌜ (r ≡ w * 256 + b) × (b < 256) ⌝ }
+{
+    w * 256 + b as u64
 }

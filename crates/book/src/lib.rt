@@ -1,5 +1,5 @@
 // A rule book: what it says, and how it is held. Small things go by value: a call and a clause are in `clause`, the masks of a mode are a
-// `Constraint` of the crate `masks`. A whole book is flat arrays of numbers, made once and lent field by field: `clause` and `mode` are the only
+// `Constraint` of the crate `masks`. A whole book is flat arrays of numbers, made once by an operation and lent by it: `clause` and `mode` are the only
 // modules that know how they are laid out. What can be wrong with a book is in `fault`; marks, their turn and the ranges of bytes are in `mark` and
 // `range`; the numbers are in `limits`. Reading and writing are crates of their own.
 pub mod clause;
@@ -8,16 +8,3 @@ pub mod limits;
 pub mod mark;
 pub mod mode;
 pub mod range;
-
-use crate::limits::MAX_PREDICATES;
-use crate::limits::MODES_SIZE;
-use crate::limits::RULES_SIZE;
-
-// So many predicates with their arities; their modes; so many clauses, and the query after the room of the clauses.
-pub struct Book {
-    pub preds: u8,
-    pub arities: [u8; MAX_PREDICATES],
-    pub modes: [u8; MODES_SIZE],
-    pub clauses: u8,
-    pub rules: [u8; RULES_SIZE],
-}

@@ -28,11 +28,11 @@ pub const MODE_SIZE: usize = 22;
 // The modes of 64 predicates.
 pub const MODES_SIZE: usize = 1408;
 
-// What a call takes: its predicate, the number of its arguments, and six arguments.
-pub const CALL_SIZE: usize = 8;
-
-// What a clause takes: the number of its subgoals, its head, and eight subgoals.
-pub const CLAUSE_SIZE: usize = 73;
+// What a clause takes, in words: the number of its subgoals, its head, and eight subgoals.
+pub const CLAUSE_SIZE: usize = 10;
 
 // The room of 64 clauses and of the query, which stands after them.
-pub const RULES_SIZE: usize = 4745;
+pub const RULES_SIZE: usize = 650;
+
+// The word of a call of predicate 0 with no arguments, wildcards in their places: not one byte repeated, so that clearing is by wide stores.
+pub const NO_CALL: u64 = 0xFEFE_FEFE_FEFE_0000;

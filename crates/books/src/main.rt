@@ -7,7 +7,10 @@
 // the number and value of the reply where the room is one byte less, and no byte of it changed. Else it prints `differs`. It reads at most
 // 262,144 bytes, and of a book at most 8,192.
 ghost use Rattle.io.specs.Counts.{Counts};
-use book::Book;
+use book::limits::MAX_PREDICATES;
+use book::limits::MODES_SIZE;
+use book::limits::NO_CALL;
+use book::limits::RULES_SIZE;
 use libc::STDIN_FILENO;
 use libc::STDOUT_FILENO;
 use masks::reply::Reply;
@@ -51,10 +54,8 @@ fn show(r: Reply) {
 
 // A valid book, written again: into more room than it needs, and into one byte less than it needs.
 fn show_again(bytes: &[u8]) {
-    let r = reading::read_book(bytes);
-    let b = r.book;
     let mut out = [OLD; ROOM];
-    let all = write(b, &mut out);
+    let all = write(bytes, &mut out);
     if all.number != 0 || !written(bytes, &out) {
         io::write_all(STDOUT_FILENO, b" differs");
         return;
@@ -63,7 +64,7 @@ fn show_again(bytes: &[u8]) {
     lines::show_number(all.value);
     let mut less = [OLD; ROOM];
     let n = one_less(bytes, &less);
-    let short = write(b, &mut less[..n]);
+    let short = write(bytes, &mut less[..n]);
     if !written(b"", &less) {
         io::write_all(STDOUT_FILENO, b" differs");
         return;
@@ -72,9 +73,13 @@ fn show_again(bytes: &[u8]) {
     show(short);
 }
 
-// A book, written into the room.
-fn write(b: Book, out: &mut [u8]) -> Reply {
-    writing::write_book(b.preds, &b.arities, &b.modes, b.clauses, &b.rules, out)
+// A valid book, read and written into the room.
+fn write(bytes: &[u8], out: &mut [u8]) -> Reply {
+    let mut arities = [0u8; MAX_PREDICATES];
+    let mut modes = [0u8; MODES_SIZE];
+    let mut rules = [NO_CALL; RULES_SIZE];
+    let r = reading::read_book(bytes, &mut arities, &mut modes, &mut rules);
+    writing::write_book(r.preds, &arities, &modes, r.clauses, &rules, out)
 }
 
 // The room holds these bytes, and behind them what it held before.

@@ -4,7 +4,9 @@ use book::clause::clause_at;
 use book::clause::head_at;
 use book::clause::put_clause;
 use book::fault::number;
+use book::limits::MAX_PREDICATES;
 use book::limits::MODES_SIZE;
+use book::limits::NO_CALL;
 use book::limits::PREDICATES;
 use book::limits::RULES_SIZE;
 use book::mode::mode_at;
@@ -29,22 +31,22 @@ ghost use Rattle.closing.specs.Held.{ModesClosed, ClausesKept};
 pub fn close(book: &[u8], set: u64, out: &mut [u8]) -> Reply
     ensures { λ r. ⌜ Answers (closing set (now (book .entry))) (now (out .entry)) r (now (out .exit)) ⌝ }
 {
-    let r = read_book(book);
+    let mut arities = [0u8; MAX_PREDICATES];
+    let mut modes = [0u8; MODES_SIZE];
+    let mut rules = [NO_CALL; RULES_SIZE];
+    let r = read_book(book, &mut arities, &mut modes, &mut rules);
     let f = r.found;
     if let Found::Bad(v, at) = f {
         return Reply::refused(number(v), at as u64);
     }
-    let mut b = r.book;
-    let beyond = chosen_from(set, b.preds);
+    let beyond = chosen_from(set, r.preds);
     if beyond != 0 {
-        return Reply::refused(8, b.preds as u64 + u64::trailing_zeros(beyond) as u64);
+        return Reply::refused(8, r.preds as u64 + u64::trailing_zeros(beyond) as u64);
     }
-    let d = settle(b.preds, &b.arities, &b.modes, b.clauses, &b.rules);
-    let t = d.table;
-    close_modes(&mut b.modes, set, &t.needs);
-    let clauses = b.clauses;
-    let n = keep_clauses(&mut b.rules, clauses, set);
-    write_book(b.preds, &b.arities, &b.modes, n, &b.rules, out)
+    let d = settle(r.preds, &arities, &modes, r.clauses, &rules);
+    close_modes(&mut modes, set, &d.table.needs);
+    let n = keep_clauses(&mut rules, r.clauses, set);
+    write_book(r.preds, &arities, &modes, n, &rules, out)
 }
 
 // The chosen numbers from n on, counted from n.
@@ -68,7 +70,7 @@ fn close_modes(modes: &mut [u8; MODES_SIZE], set: u64, table: &[u8; MODES_SIZE])
 }
 
 // Drops the clauses of the chosen predicates, so that the others stand from the start on; how many they are.
-fn keep_clauses(rules: &mut [u8; RULES_SIZE], clauses: u8, set: u64) -> u8
+fn keep_clauses(rules: &mut [u64; RULES_SIZE], clauses: u8, set: u64) -> u8
     requires { ⌜ (clauses ≤ maxClauses) × Known (now rules) clauses ⌝ }
     ensures { λ r. ⌜ ClausesKept (bitAt set) (now (rules .entry)) clauses (now (rules .exit)) r ⌝ }
 {
@@ -86,7 +88,7 @@ fn keep_clauses(rules: &mut [u8; RULES_SIZE], clauses: u8, set: u64) -> u8
 }
 
 // Makes clause `to` of an array what clause `from` is.
-fn move_clause(rules: &mut [u8; RULES_SIZE], from: usize, to: usize)
+fn move_clause(rules: &mut [u64; RULES_SIZE], from: usize, to: usize)
     requires { ⌜ (from ≤ maxClauses) × (to ≤ maxClauses) ⌝ }
     ensures { λ _. ⌜ StoredClause (now (rules .entry)) (now (rules .exit)) to (clauseAt (now (rules .entry)) from) ⌝ }
 {

@@ -50,7 +50,7 @@ pub struct Pass {
 
 // The head patterns under which clause k is good, bit a for pattern a. Passes go over the subgoals as they stand, each of which is placed in the
 // lanes in which it is ready; a pass that binds nothing is the last, and so is the one that has as many before it as there are other subgoals.
-pub fn good_lanes<'a>(rules: &'a [u8; RULES_SIZE], k: usize, table: &'a [u8; MODES_SIZE]) -> u64
+pub fn good_lanes<'a>(rules: &'a [u64; RULES_SIZE], k: usize, table: &'a [u8; MODES_SIZE]) -> u64
     requires { ⌜ (k ≤ maxClauses) × (callsBelow maxPredicates (clauseAt (now rules) k .body) ≡ true) × Low (now table) ⌝ }
     ensures { λ r. ⌜ EachLane (λ a. bitAt r a ≡ goodClause (tableIn (now (table .entry)) maxPredicates) (clauseAt (now (rules .entry)) k) a) ⌝ }
 {
@@ -72,7 +72,7 @@ pub fn good_lanes<'a>(rules: &'a [u8; RULES_SIZE], k: usize, table: &'a [u8; MOD
 
 // One pass over the subgoals of clause k.
 fn one_pass<'a>(
-    rules: &'a [u8; RULES_SIZE],
+    rules: &'a [u64; RULES_SIZE],
     k: usize,
     table: &'a [u8; MODES_SIZE],
     vars: &mut [u64; VARIABLES],

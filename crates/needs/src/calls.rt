@@ -17,7 +17,7 @@ ghost use Rattle.tables.specs.Table.{defined};
 ghost use Rattle.needs.specs.Sets.{someIn, Owns, Calling, Known, Added};
 
 // The clauses of each predicate.
-pub fn own_clauses(clauses: u8, rules: &[u8; RULES_SIZE]) -> [u64; MAX_PREDICATES]
+pub fn own_clauses(clauses: u8, rules: &[u64; RULES_SIZE]) -> [u64; MAX_PREDICATES]
     requires { ⌜ (clauses ≤ maxClauses) × Known (now rules) clauses ⌝ }
     ensures { λ r. ⌜ Owns (now (rules .entry)) clauses r ⌝ }
 {
@@ -33,7 +33,7 @@ pub fn own_clauses(clauses: u8, rules: &[u8; RULES_SIZE]) -> [u64; MAX_PREDICATE
 }
 
 // The predicates that have clauses.
-pub fn heads(clauses: u8, rules: &[u8; RULES_SIZE]) -> u64
+pub fn heads(clauses: u8, rules: &[u64; RULES_SIZE]) -> u64
     requires { ⌜ (clauses ≤ maxClauses) × Known (now rules) clauses ⌝ }
     ensures { λ r. ⌜ Holds r (defined (clausesOf (now (rules .entry)) clauses)) ⌝ }
 {
@@ -48,7 +48,7 @@ pub fn heads(clauses: u8, rules: &[u8; RULES_SIZE]) -> u64
 }
 
 // The predicates that call each predicate.
-pub fn callers(clauses: u8, rules: &[u8; RULES_SIZE]) -> [u64; MAX_PREDICATES]
+pub fn callers(clauses: u8, rules: &[u64; RULES_SIZE]) -> [u64; MAX_PREDICATES]
     requires { ⌜ (clauses ≤ maxClauses) × Known (now rules) clauses ⌝ }
     ensures { λ r. ⌜ Calling (now (rules .entry)) clauses r ⌝ }
 {
@@ -62,7 +62,7 @@ pub fn callers(clauses: u8, rules: &[u8; RULES_SIZE]) -> [u64; MAX_PREDICATES]
 }
 
 // Clause k is of a predicate that calls those of its subgoals.
-fn add_caller(rules: &[u8; RULES_SIZE], k: usize, callers: &mut [u64; MAX_PREDICATES])
+fn add_caller(rules: &[u64; RULES_SIZE], k: usize, callers: &mut [u64; MAX_PREDICATES])
     requires { ⌜ (k ≤ maxClauses) × (clauseAt (now rules) k .head .pred < maxPredicates) × (callsBelow maxPredicates (clauseAt (now rules) k .body) ≡ true) ⌝ }
     ensures { λ _. ⌜ Added (now (rules .entry)) k (now (callers .entry)) (now (callers .exit)) ⌝ }
 {

@@ -12,6 +12,7 @@ use crate::round::round;
 use book::fault::number;
 use book::limits::MAX_PREDICATES;
 use book::limits::MODES_SIZE;
+use book::limits::NO_CALL;
 use book::limits::RULES_SIZE;
 use masks::reply::Reply;
 use reading::read_book;
@@ -41,14 +42,16 @@ pub struct Needs {
 pub fn analyse(book: &[u8], out: &mut [u8]) -> Reply
     ensures { λ r. ⌜ Answers (analysis (now (book .entry))) (now (out .entry)) r (now (out .exit)) ⌝ }
 {
-    let r = read_book(book);
+    let mut arities = [0u8; MAX_PREDICATES];
+    let mut modes = [0u8; MODES_SIZE];
+    let mut rules = [NO_CALL; RULES_SIZE];
+    let r = read_book(book, &mut arities, &mut modes, &mut rules);
     let f = r.found;
     if let Found::Bad(v, at) = f {
         return Reply::refused(number(v), at as u64);
     }
-    let b = r.book;
-    let d = settle(b.preds, &b.arities, &b.modes, b.clauses, &b.rules);
-    give(b.preds, d, out)
+    let d = settle(r.preds, &arities, &modes, r.clauses, &rules);
+    give(r.preds, d, out)
 }
 
 // The image of a final table as the result of the analysis: written from the output's start, or 9 where the output is too short.
@@ -56,12 +59,11 @@ fn give(preds: u8, d: Needs, out: &mut [u8]) -> Reply
     requires { ⌜ preds ≤ maxPredicates ⌝ }
     ensures { λ r. ⌜ Answers (done (d .rounds) (rows (tableIn (d .table .needs) preds) preds)) (now (out .entry)) r (now (out .exit)) ⌝ }
 {
-    let t = d.table;
-    let n = image_length(preds, &t.needs);
+    let n = image_length(preds, &d.table.needs);
     if out.len() < n {
         return Reply::refused(9, n as u64);
     }
-    put_image(out, preds, &t.needs);
+    put_image(out, preds, &d.table.needs);
     Reply {
         number: 0,
         value: n as u64,
@@ -75,7 +77,7 @@ pub fn settle<'a>(
     arities: &'a [u8; MAX_PREDICATES],
     modes: &'a [u8; MODES_SIZE],
     clauses: u8,
-    rules: &'a [u8; RULES_SIZE],
+    rules: &'a [u64; RULES_SIZE],
 ) -> Needs
     requires { ⌜ (length (take preds (now arities)) ≡ preds) × (clauses ≤ maxClauses) × WellFormed (bookIn preds (now arities) (now modes) clauses (now rules)) ⌝ }
     ensures { λ r. ⌜ tableIn (r .table .needs) preds ≡ final (bookIn preds (now (arities .entry)) (now (modes .entry)) clauses (now (rules .entry))) ⌝ }
@@ -95,8 +97,7 @@ pub fn settle<'a>(
                 rounds: k,
             };
         }
-        let u = r.table;
-        t = u;
+        t = r.table;
         due = calling(&callers, changed);
         k += 1;
     }

@@ -43,7 +43,7 @@ pub struct After {
 // the predicates due are looked at; the others have in the old table what they get.
 pub fn round<'a>(
     arities: &'a [u8; MAX_PREDICATES],
-    rules: &'a [u8; RULES_SIZE],
+    rules: &'a [u64; RULES_SIZE],
     own: &'a [u64; MAX_PREDICATES],
     old: Table,
     due: u64,
@@ -74,7 +74,7 @@ pub fn round<'a>(
 // The constraint of a predicate of so many positions that has these clauses: the joint over them.
 fn next_need<'a>(
     arity: u8,
-    rules: &'a [u8; RULES_SIZE],
+    rules: &'a [u64; RULES_SIZE],
     own: u64,
     table: &'a [u8; MODES_SIZE],
 ) -> Constraint
@@ -87,7 +87,7 @@ fn next_need<'a>(
 // "A predicate's pattern is good when all its clauses are good under it": those patterns, as a set.
 fn good_patterns<'a>(
     arity: u8,
-    rules: &'a [u8; RULES_SIZE],
+    rules: &'a [u64; RULES_SIZE],
     own: u64,
     table: &'a [u8; MODES_SIZE],
 ) -> u64

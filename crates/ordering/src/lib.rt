@@ -40,7 +40,7 @@ struct Turn {
 // "the smallest list of subgoal places .. among the orders good against" a table, of the subgoals of clause k with these variables bound at the
 // start: at each turn the first place that is ready. Where none is, no order is good.
 pub fn first_order<'a>(
-    rules: &'a [u8; RULES_SIZE],
+    rules: &'a [u64; RULES_SIZE],
     k: usize,
     table: &'a [u8; MODES_SIZE],
     bound: [bool; VARIABLES],
@@ -92,7 +92,7 @@ fn no_order() -> Order
 
 // The first place of clause k that is not used and ready, with its subgoal's pattern, or the number of its subgoals.
 fn first_ready<'a>(
-    rules: &'a [u8; RULES_SIZE],
+    rules: &'a [u64; RULES_SIZE],
     k: usize,
     table: &'a [u8; MODES_SIZE],
     bound: [bool; VARIABLES],

@@ -30,7 +30,7 @@ ghost use Rattle.plan.specs.Lent.{EachCallable, rowBy, clauseRows, patte
 // How many bytes the plan has: each predicate's clauses have a row for each of its patterns.
 pub fn plan_length<'a>(
     preds: u8,
-    rules: &'a [u8; RULES_SIZE],
+    rules: &'a [u64; RULES_SIZE],
     own: &'a [u64; MAX_PREDICATES],
     reached: &'a [u64; MAX_PREDICATES],
 ) -> usize
@@ -49,7 +49,7 @@ pub fn plan_length<'a>(
 }
 
 // How many bytes a row of each clause of a set has, all together.
-fn rows_length(rules: &[u8; RULES_SIZE], own: u64) -> usize
+fn rows_length(rules: &[u64; RULES_SIZE], own: u64) -> usize
     ensures { λ r. ⌜ r ≡ rowsLength (now (rules .entry)) own ⌝ }
     ensures { λ r. ⌜ r ≤ maxClauses * (5 + maxSubgoals) ⌝ }
 {
@@ -76,7 +76,7 @@ pub fn put_plan<'a>(
     out: &mut [u8],
     query: Order,
     preds: u8,
-    rules: &'a [u8; RULES_SIZE],
+    rules: &'a [u64; RULES_SIZE],
     table: &'a [u8; MODES_SIZE],
     own: &'a [u64; MAX_PREDICATES],
     reached: &'a [u64; MAX_PREDICATES],
@@ -106,7 +106,7 @@ fn put_query(out: &mut [u8], o: Order) -> usize
 fn put_patterns<'a>(
     out: &mut [u8],
     at: usize,
-    rules: &'a [u8; RULES_SIZE],
+    rules: &'a [u64; RULES_SIZE],
     table: &'a [u8; MODES_SIZE],
     own: u64,
     patterns: u64,
@@ -128,7 +128,7 @@ fn put_patterns<'a>(
 fn put_clauses<'a>(
     out: &mut [u8],
     at: usize,
-    rules: &'a [u8; RULES_SIZE],
+    rules: &'a [u64; RULES_SIZE],
     table: &'a [u8; MODES_SIZE],
     own: u64,
     a: u8,
@@ -150,7 +150,7 @@ fn put_clauses<'a>(
 fn put_row<'a>(
     out: &mut [u8],
     at: usize,
-    rules: &'a [u8; RULES_SIZE],
+    rules: &'a [u64; RULES_SIZE],
     table: &'a [u8; MODES_SIZE],
     k: u8,
     a: u8,

@@ -5,7 +5,9 @@ use crate::image::plan_length;
 use crate::image::put_plan;
 use book::fault::number;
 use book::limits::MAX_CLAUSES;
+use book::limits::MAX_PREDICATES;
 use book::limits::MODES_SIZE;
+use book::limits::NO_CALL;
 use book::limits::RULES_SIZE;
 use book::limits::VARIABLES;
 use masks::reply::Reply;
@@ -24,15 +26,16 @@ ghost use Rattle.plan.specs.Lent.{SomeLent, Gives};
 pub fn plan(book: &[u8], out: &mut [u8]) -> Reply
     ensures { λ r. ⌜ Answers (planning (now (book .entry))) (now (out .entry)) r (now (out .exit)) ⌝ }
 {
-    let r = read_book(book);
+    let mut arities = [0u8; MAX_PREDICATES];
+    let mut modes = [0u8; MODES_SIZE];
+    let mut rules = [NO_CALL; RULES_SIZE];
+    let r = read_book(book, &mut arities, &mut modes, &mut rules);
     let f = r.found;
     if let Found::Bad(v, at) = f {
         return Reply::refused(number(v), at as u64);
     }
-    let b = r.book;
-    let d = settle(b.preds, &b.arities, &b.modes, b.clauses, &b.rules);
-    let t = d.table;
-    give(b.preds, b.clauses, &b.rules, &t.needs, out)
+    let d = settle(r.preds, &arities, &modes, r.clauses, &rules);
+    give(r.preds, r.clauses, &rules, &d.table.needs, out)
 }
 
 // The plan of a valid book with its final table: written from the output's start, or 7 where the query has no good order, or 9 where the output is
@@ -40,7 +43,7 @@ pub fn plan(book: &[u8], out: &mut [u8]) -> Reply
 fn give<'a>(
     preds: u8,
     clauses: u8,
-    rules: &'a [u8; RULES_SIZE],
+    rules: &'a [u64; RULES_SIZE],
     table: &'a [u8; MODES_SIZE],
     out: &mut [u8],
 ) -> Reply

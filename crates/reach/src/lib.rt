@@ -26,7 +26,7 @@ ghost use Rattle.reach.specs.Marked.{Marked, callsBy, clausesBy, pattern
 // "Patterns reached: those of the query's subgoals, and those of the subgoals of every clause of a reached predicate under a reached pattern", in the
 // first good orders against a table.
 pub fn reach<'a>(
-    rules: &'a [u8; RULES_SIZE],
+    rules: &'a [u64; RULES_SIZE],
     table: &'a [u8; MODES_SIZE],
     own: &'a [u64; MAX_PREDICATES],
     clauses: u8,
@@ -51,7 +51,7 @@ pub fn reach<'a>(
 
 // Marks the calls of the clauses of a set under each pattern of a set; the predicates called.
 fn mark_patterns<'a>(
-    rules: &'a [u8; RULES_SIZE],
+    rules: &'a [u64; RULES_SIZE],
     own: u64,
     patterns: u64,
     table: &'a [u8; MODES_SIZE],
@@ -73,7 +73,7 @@ fn mark_patterns<'a>(
 
 // Marks the calls of the clauses of a set under a head pattern; the predicates called.
 fn mark_clauses<'a>(
-    rules: &'a [u8; RULES_SIZE],
+    rules: &'a [u64; RULES_SIZE],
     own: u64,
     a: u8,
     table: &'a [u8; MODES_SIZE],
@@ -96,7 +96,7 @@ fn mark_clauses<'a>(
 
 // Marks the calls of clause k, with these variables bound at the start, in its first good order; the predicates called.
 fn mark_calls<'a>(
-    rules: &'a [u8; RULES_SIZE],
+    rules: &'a [u64; RULES_SIZE],
     k: usize,
     table: &'a [u8; MODES_SIZE],
     bound: [bool; VARIABLES],

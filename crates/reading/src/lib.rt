@@ -1,7 +1,6 @@
 // Reading a book: every string of bytes is a book or has a first fault. Here are the public operation `check`, `read_book` for the crates above,
 // and the runs of records; single records, their bytes and their marks are in the crate `records`. One pass from the left: each
 // byte is looked at once, and the bytes of a mark where a run ends once more for each run that could go on there.
-use book::Book;
 use book::clause::Call;
 use book::clause::Clause;
 use book::clause::no_call;
@@ -12,6 +11,7 @@ use book::limits::MAX_CLAUSES;
 use book::limits::MAX_PREDICATES;
 use book::limits::MAX_SUBGOALS;
 use book::limits::MODES_SIZE;
+use book::limits::NO_CALL;
 use book::limits::RULES_SIZE;
 use book::mark::Phase;
 use book::mode::put_mode;
@@ -31,12 +31,13 @@ ghost use Rattle.book.specs.Limits.{maxPredicates, maxClauses, maxSubgoals};
 ghost use Rattle.book.specs.Format as format;
 ghost use Rattle.book.specs.Held.{callOf, clauseOf, clausesOf, modesOf, bookIn};
 ghost use Rattle.records.specs.Found.{Reads, Arities, counted};
-ghost use Rattle.reading.specs.Judged.{NoModes, Bodied, found, checked};
+ghost use Rattle.reading.specs.Judged.{NoModes, Bodied, Listed, found, checked};
 
-// What reading a book comes to: a book, where none of its records has a fault.
+// What reading a book comes to: how many predicates and clauses it has, where none of its records has a fault.
 pub struct Reading {
     pub found: Found,
-    pub book: Book,
+    pub preds: u8,
+    pub clauses: u8,
 }
 
 // A clause, where one was found.
@@ -49,7 +50,10 @@ pub struct FoundClause {
 pub fn check(s: &[u8]) -> Reply
     ensures { λ r. ⌜ r ≡ checked (format.judge (now (s .entry))) ⌝ }
 {
-    let r = read_book(s);
+    let mut arities = [0u8; MAX_PREDICATES];
+    let mut modes = [0u8; MODES_SIZE];
+    let mut rules = [NO_CALL; RULES_SIZE];
+    let r = read_book(s, &mut arities, &mut modes, &mut rules);
     let g = r.found;
     match g {
         Found::Bad(f, at) => Reply::refused(number(f), at as u64),
@@ -61,38 +65,30 @@ pub fn check(s: &[u8]) -> Reply
     }
 }
 
-// The book that the bytes are, or their first fault.
-pub fn read_book(s: &[u8]) -> Reading
-    ensures { λ r. ⌜ found r ≡ format.judge (now (s .entry)) ⌝ }
-    ensures { λ r. ⌜ (r .book .preds ≤ maxPredicates) × (r .book .clauses ≤ maxClauses) ⌝ }
+// The book that the bytes are, or their first fault. The book is then in the arrays lent, whose modes must be none.
+pub fn read_book(
+    s: &[u8],
+    arities: &mut [u8; MAX_PREDICATES],
+    modes: &mut [u8; MODES_SIZE],
+    rules: &mut [u64; RULES_SIZE],
+) -> Reading
+    requires { ⌜ NoModes (now modes) ⌝ }
+    ensures { λ r. ⌜ found r (now (arities .exit)) (now (modes .exit)) (now (rules .exit)) ≡ format.judge (now (s .entry)) ⌝ }
+    ensures { λ r. ⌜ Listed (r .preds) (now (arities .exit)) × (r .clauses ≤ maxClauses) ⌝ }
 {
-    let mut arities = [0u8; MAX_PREDICATES];
-    let mut modes = [0u8; MODES_SIZE];
-    let mut rules = [0u8; RULES_SIZE];
-    let p = read_predicates(s, &mut arities);
+    let p = read_predicates(s, arities);
     let Found::Next(at, preds) = p else {
         return Reading {
             found: p,
-            book: Book {
-                preds: 0,
-                arities,
-                modes,
-                clauses: 0,
-                rules,
-            },
+            preds: 0,
+            clauses: 0,
         };
     };
-    let r = read_rules(s, &arities, preds, at, &mut modes, &mut rules);
-    let clauses = count(r);
+    let r = read_rules(s, arities, preds, at, modes, rules);
     Reading {
         found: r,
-        book: Book {
-            preds,
-            arities,
-            modes,
-            clauses,
-            rules,
-        },
+        preds,
+        clauses: count(r),
     }
 }
 
@@ -113,7 +109,7 @@ fn read_rules<'a>(
     preds: u8,
     from: usize,
     modes: &mut [u8; MODES_SIZE],
-    rules: &mut [u8; RULES_SIZE],
+    rules: &mut [u64; RULES_SIZE],
 ) -> Found
     requires { ⌜ (from ≤ length (now s)) × (preds ≤ maxPredicates) × Arities (take preds (now arities)) × NoModes (now modes) ⌝ }
     ensures { λ r. ⌜ Reads (now (s .entry)) r (λ n. bookIn preds (now (arities .entry)) (now (modes .exit)) n (now (rules .exit))) (format.rules (take preds (now (arities .entry))) (drop from (now (s .entry)))) ⌝ }
@@ -142,7 +138,7 @@ fn read_rules<'a>(
 
 // "all `PR`": how many there are, and their arities.
 fn read_predicates(s: &[u8], arities: &mut [u8; MAX_PREDICATES]) -> Found
-    ensures { λ r. ⌜ Reads (now (s .entry)) r (λ n. take n (now (arities .exit))) (format.many Phase.Predicates format.predicate maxPredicates [] (now (s .entry))) × (counted r ≤ maxPredicates) ⌝ }
+    ensures { λ r. ⌜ Reads (now (s .entry)) r (λ n. take n (now (arities .exit))) (format.many Phase.Predicates format.predicate maxPredicates [] (now (s .entry))) × Listed (counted r) (now (arities .exit)) ⌝ }
 {
     let bytes: &mut [u8] = arities;
     let mut at: usize = 0;
@@ -197,7 +193,7 @@ fn read_clauses(
     ar: &[u8],
     modes: &[u8; MODES_SIZE],
     from: usize,
-    rules: &mut [u8; RULES_SIZE],
+    rules: &mut [u64; RULES_SIZE],
 ) -> Found
     requires { ⌜ (from ≤ length (now s)) × Arities (now ar) ⌝ }
     ensures { λ r. ⌜ Reads (now (s .entry)) r (λ n. clausesOf (now (rules .exit)) n) (format.many Phase.Clauses (format.clause (now (ar .entry)) (modesOf (now (modes .entry)) maxPredicates)) maxClauses [] (drop from (now (s .entry)))) × (counted r ≤ maxClauses) ⌝ }

@@ -26,7 +26,7 @@ pub fn book_length<'a>(
     arities: &'a [u8; MAX_PREDICATES],
     modes: &'a [u8; MODES_SIZE],
     clauses: u8,
-    rules: &'a [u8; RULES_SIZE],
+    rules: &'a [u64; RULES_SIZE],
 ) -> usize
     ensures { λ r. ⌜ r ≡ length (encode (bookIn preds (now (arities .entry)) (now (modes .entry)) clauses (now (rules .entry)))) ⌝ }
 {
@@ -54,7 +54,7 @@ fn modes_length(modes: &[u8; MODES_SIZE]) -> usize
 }
 
 // Of each clause: its mark, its predicate, its arguments, and its subgoals.
-fn clauses_length(clauses: u8, rules: &[u8; RULES_SIZE]) -> usize
+fn clauses_length(clauses: u8, rules: &[u64; RULES_SIZE]) -> usize
     ensures { λ r. ⌜ r ≡ length (run encClause (clausesOf (now (rules .entry)) (min clauses maxClauses))) ⌝ }
     ensures { λ r. ⌜ r ≤ 5184 ⌝ }
 {

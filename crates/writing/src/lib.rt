@@ -38,7 +38,7 @@ pub fn write_book<'a>(
     arities: &'a [u8; MAX_PREDICATES],
     modes: &'a [u8; MODES_SIZE],
     clauses: u8,
-    rules: &'a [u8; RULES_SIZE],
+    rules: &'a [u64; RULES_SIZE],
     out: &mut [u8],
 ) -> Reply
     ensures { λ r. ⌜ Answers (done 0 (encode (bookIn preds (now (arities .entry)) (now (modes .entry)) clauses (now (rules .entry))))) (now (out .entry)) r (now (out .exit)) ⌝ }
@@ -61,7 +61,7 @@ fn put_book<'a>(
     arities: &'a [u8; MAX_PREDICATES],
     modes: &'a [u8; MODES_SIZE],
     clauses: u8,
-    rules: &'a [u8; RULES_SIZE],
+    rules: &'a [u64; RULES_SIZE],
     out: &mut [u8],
 ) -> usize
     requires { ⌜ Room (now out) 0 (encode (bookIn preds (now arities) (now modes) clauses (now rules))) ⌝ }
@@ -119,7 +119,7 @@ fn put_mode(out: &mut [u8], at: usize, p: u8, c: Constraint) -> usize
 }
 
 // Each clause with its subgoals.
-fn put_clauses(out: &mut [u8], at: usize, clauses: u8, rules: &[u8; RULES_SIZE]) -> usize
+fn put_clauses(out: &mut [u8], at: usize, clauses: u8, rules: &[u64; RULES_SIZE]) -> usize
     requires { ⌜ Room (now out) at (run encClause (clausesOf (now rules) (min clauses maxClauses))) ⌝ }
     ensures { λ r. ⌜ Wrote (now (out .entry)) (now (out .exit)) at r (run encClause (clausesOf (now (rules .entry)) (min clauses maxClauses))) ⌝ }
 {

@@ -7,19 +7,19 @@ use Prim.Native.Nat.{ℕ, zero, suc, _+_, _*_, min, _≤_, _<_}
 use native.Mathlib.Numerals.{add-one}
 use native.Mathlib.Omega.{arith}
 use lib.Dec.{eqb, leb}
-use lib.ListN.{length, getD, take, drop, set, replicate, length-set, length-take, length-map}
-use lib.Seq.{take-suc, take-all, take-set-le, take-suc-set, drop-set-lt, getD-set-same, getD-take}
+use lib.ListN.{length, getD, take, set, replicate, length-set, length-map}
+use lib.Seq.{take-suc, take-all, take-suc-set, getD-set-same, getD-set-other}
 use borrow.Author.Tests.{leb-true, leb-false, eq-eqb, ne-eqb}
-use Rattle.masks.specs.Lists.{any}
+use Rattle.masks.specs.Lists.{any, values}
 use Rattle.masks.proofs.Laws.Logic.{byBool}
 use Rattle.masks.proofs.Laws.Lists.{any-append, length-values, values-cong, take-values, getD-values}
-use Rattle.book.specs.Limits.{maxSubgoals}
+use Rattle.book.specs.Limits.{maxClauses, maxSubgoals}
 use Rattle.book.specs.Book.{Call, Mode, Clause}
 use Rattle.book.specs.Format.{hasMode}
-use Rattle.book.specs.Held.{callOf, clauseOf, window, callSize, callIn, StoredCall, callsIn, clauseSize, clauseIn, clauseAt, clausesOf, StoredClause, modeSize, hasIn, masksIn, modeBytes, modeAt, modesOf, StoredMode}
+use Rattle.book.specs.Held.{callOf, clauseOf, window, callIn, clauseSize, rulesSize, clauseAt, clausesOf, StoredClause, modeSize, hasIn, masksIn, modeBytes, modeAt, modesOf, StoredMode}
 use Rattle.book.specs.declared.clause.Call as call
 use Rattle.book.specs.declared.clause.Clause as clause
-use Rattle.book.proofs.Laws.Windows.{window-window, drop-window, getD-window, getD-window-first, take-shorter, getD-front, window-front, drop-longer, window-others, Stored}
+use Rattle.book.proofs.Laws.Windows.{drop-window, getD-window, getD-window-first, window-others, Stored}
 
 -- ---- arrays
 
@@ -32,87 +32,52 @@ take-map {B = B} f (suc n) (x ∷ xs) = ap (λ (s : List B). f x ∷ s) (take-ma
 pub length-of-map : {A B : Type 0} (f : A → B) (l : List A) (n : ℕ) → length (map f l) ≡ n → length l ≡ n
 length-of-map f l n e = sym (length-map l f) ∙ e
 
--- ---- calls
-
--- a number of bytes and the bytes, behind the first of a window
-pub masksIn-window : (l : List ℕ) (at n : ℕ) (s : List ℕ) → s ≡ window (at + 2) n l → take (getD l (at + 1) 0) s ≡ masksIn (window at (2 + n) l)
-masksIn-window l at n s e = ap₂ (λ (k : ℕ) (r : List ℕ). take k r) (sym (getD-window at (2 + n) 1 l (omega arith))) (e ∙ sym (drop-window at 2 n l))
-
-pub callIn-window : (l : List ℕ) (at : ℕ) (args : List ℕ) → args ≡ window (at + 2) 6 l
-    → _≡_ {A = Call} (record { pred = getD l at 0; args = take (getD l (at + 1) 0) args }) (callIn (window at callSize l))
-callIn-window l at args e =
-    ap₂ (λ (p : ℕ) (s : List ℕ). record { pred = p; args = s }) (sym (getD-window-first at callSize l (omega arith))) (masksIn-window l at 6 args e)
-
-pub stored-call : {l after : List ℕ} {at p n : ℕ} {args : List ℕ} → Stored l after at callSize (p ∷ n ∷ args)
-    → StoredCall l after at (record { pred = p; args = take n args })
-stored-call s = record { is = ap callIn (s .is); before = s .before; behind = s .behind }
-
-callAt : List ℕ → ℕ → ℕ → Call
-callAt l at i = callIn (window (at + i * callSize) callSize l)
-
-take-callsIn : (l : List ℕ) (at m n : ℕ) → take m (callsIn l at n) ≡ callsIn l at (min m n)
-unfolding callsIn callAt
-take-callsIn l at m n = take-values (callAt l at) m n
-
 -- ---- a clause
 
-clauseIn-window : (l : List ℕ) (at : ℕ)
-    → clauseIn (window at clauseSize l) ≡ record { head = callIn (window (at + 1) callSize l); body = take (getD l at 0) (callsIn l (at + 9) maxSubgoals) }
-unfolding clauseIn callsIn callAt
-clauseIn-window l at =
-    ap₂ (λ (h : Call) (b : List Call). record { head = h; body = b })
-    (ap callIn (window-window at clauseSize 1 callSize l (omega arith)))
-    (ap (λ (n : ℕ). callsIn w 9 (min n maxSubgoals)) (getD-window-first at clauseSize l (omega arith)) ∙ sym (take-callsIn w 9 (getD l at 0) maxSubgoals)
-    ∙ ap (take (getD l at 0)) calls)
-  where
-    w : List ℕ
-    w = window at clauseSize l
+-- subgoal j of clause k
+abbrev callAt : List ℕ → ℕ → ℕ → Call
+callAt rules k j = callIn (getD rules (k * clauseSize + 2 + j) 0)
 
-    calls : callsIn w 9 maxSubgoals ≡ callsIn l (at + 9) maxSubgoals
-    calls =
-        values-cong (callAt w 9) (callAt l (at + 9)) maxSubgoals
-        (λ i h.
-        let e : at + (9 + i * callSize) ≡ at + 9 + i * callSize = omega arith in
-        ap callIn (window-window at clauseSize (9 + i * callSize) callSize l (omega arith) ∙ ap (λ (k : ℕ). window k callSize l) e))
-
--- its head, the number of its subgoals, and each of them, where they stand
+-- the number of its subgoals, and each of them
 module _ (rules : List ℕ) (k : ℕ) where
-  pub clauseAt-head : clauseAt rules k .head ≡ callIn (window (k * clauseSize + 1) callSize rules)
-  clauseAt-head = ap (λ (c : Clause). c .head) (clauseIn-window rules (k * clauseSize))
-
   pub clauseAt-count : length (clauseAt rules k .body) ≡ min (getD rules (k * clauseSize) 0) maxSubgoals
-  unfolding callsIn callAt
-  clauseAt-count =
-      ap (λ (c : Clause). length (c .body)) (clauseIn-window rules (k * clauseSize))
-      ∙ length-take (getD rules (k * clauseSize) 0) (callsIn rules (k * clauseSize + 9) maxSubgoals)
-      ∙ ap (min (getD rules (k * clauseSize) 0)) (length-values (callAt rules (k * clauseSize + 9)) maxSubgoals)
+  unfolding clauseAt
+  clauseAt-count = length-values (callAt rules k) (min (getD rules (k * clauseSize) 0) maxSubgoals)
 
   pub clauseAt-few : length (clauseAt rules k .body) ≤ maxSubgoals
   clauseAt-few = let e = clauseAt-count in omega arith
 
-  pub clauseAt-body : (d : Call) (j : ℕ) → j < length (clauseAt rules k .body)
-      → getD (clauseAt rules k .body) j d ≡ callIn (window (k * clauseSize + 9 + j * callSize) callSize rules)
-  unfolding callsIn callAt
-  clauseAt-body d j h =
-      let n = clauseAt-count in
-      ap (λ (c : Clause). getD (c .body) j d) (clauseIn-window rules (k * clauseSize))
-      ∙ getD-take (getD rules (k * clauseSize) 0) (callsIn rules (k * clauseSize + 9) maxSubgoals) j d (omega arith)
-      ∙ getD-values (callAt rules (k * clauseSize + 9)) d maxSubgoals j (omega arith)
+  pub clauseAt-body : (d : Call) (j : ℕ) → j < length (clauseAt rules k .body) → getD (clauseAt rules k .body) j d ≡ callAt rules k j
+  unfolding clauseAt
+  clauseAt-body d j h = getD-values (callAt rules k) d (min (getD rules (k * clauseSize) 0) maxSubgoals) j (let n = clauseAt-count in omega arith)
+
+-- where its words are the same, so is the clause
+clauseAt-cong : (rules after : List ℕ) (k : ℕ)
+    → ((p : ℕ) → k * clauseSize ≤ p → p < k * clauseSize + clauseSize → getD after p 0 ≡ getD rules p 0) → clauseAt after k ≡ clauseAt rules k
+unfolding clauseAt
+clauseAt-cong rules after k same =
+    ap₂ (λ (h : Call) (b : List Call). record { head = h; body = b })
+    (ap callIn (same (k * clauseSize + 1) (omega arith) (omega arith)))
+    (ap (λ (n : ℕ). values (callAt after k) (min n maxSubgoals)) (same (k * clauseSize) (omega arith) (omega arith))
+    ∙ values-cong (callAt after k) (callAt rules k) (min (getD rules (k * clauseSize) 0) maxSubgoals)
+    (λ j h. ap callIn (same (k * clauseSize + 2 + j) (omega arith) (omega arith))))
+
+-- the first n of eight subgoals
+body-held : (f : ℕ → Call) (n : ℕ) (body : List call.Call) → map callOf body ≡ values f maxSubgoals → map callOf (take n body) ≡ values f (min n maxSubgoals)
+body-held f n body e = take-map callOf n body ∙ ap (take n) e ∙ take-values f n maxSubgoals
 
 -- the loop that reads the subgoals: the first j are read
-pub record Reading (rules : List ℕ) (at j : ℕ) (body : List call.Call) : Type 0 where
+pub record Reading (rules : List ℕ) (k j : ℕ) (body : List call.Call) : Type 0 where
   pub most : j ≤ maxSubgoals
   pub size : length body ≡ maxSubgoals
-  pub front : map callOf (take j body) ≡ callsIn rules at j
+  pub front : map callOf (take j body) ≡ values (callAt rules k) j
 
-module _ (rules : List ℕ) (at : ℕ) where
-  pub reading-start : (body : List call.Call) → length body ≡ maxSubgoals → Reading rules at 0 body
-  unfolding callsIn
+module _ (rules : List ℕ) (k : ℕ) where
+  pub reading-start : (body : List call.Call) → length body ≡ maxSubgoals → Reading rules k 0 body
   reading-start body e = record { most = omega arith; size = e; front = refl }
 
-  pub reading-next : {j : ℕ} {body : List call.Call} (c : call.Call) → j < maxSubgoals → callOf c ≡ callIn (window (at + j * callSize) callSize rules)
-      → Reading rules at j body → Reading rules at (j + 1) (set body j c)
-  unfolding callsIn
+  pub reading-next : {j : ℕ} {body : List call.Call} (c : call.Call) → j < maxSubgoals → callOf c ≡ callAt rules k j → Reading rules k j body
+      → Reading rules k (j + 1) (set body j c)
   reading-next {j} {body} c h e r =
       let s = r .size in
       record {
@@ -122,90 +87,91 @@ module _ (rules : List ℕ) (at : ℕ) where
             rw add-one
             (ap (map callOf) (take-suc-set body j c (omega arith))
             ∙ map-append callOf (take j body) (c ∷ [])
-            ∙ ap₂ (λ (b : List Call) (k : Call). b ++ (k ∷ [])) (r .front) e);
+            ∙ ap₂ (λ (b : List Call) (x : Call). b ++ (x ∷ [])) (r .front) e);
       }
 
-pub reading-end : (rules : List ℕ) (at : ℕ) (head : call.Call) {j : ℕ} {body : List call.Call} → maxSubgoals ≤ j
-    → callOf head ≡ callIn (window (at + 1) callSize rules) → Reading rules (at + 9) j body
-    → clauseOf (record { n = getD rules at 0; head = head; body = body }) ≡ clauseIn (window at clauseSize rules)
-reading-end rules at head {j} {body} h e r =
-    let m = r .most in
-    let s = r .size in
-    let q : j ≡ maxSubgoals = omega arith in
-    let all : map callOf body ≡ callsIn rules (at + 9) maxSubgoals =
-    ap (map callOf) (sym (take-all j body (omega arith))) ∙ r .front ∙ ap (callsIn rules (at + 9)) q in
-    ap₂ (λ (k : Call) (b : List Call). record { head = k; body = b }) e (take-map callOf (getD rules at 0) body ∙ ap (take (getD rules at 0)) all)
-    ∙ sym (clauseIn-window rules at)
+  pub reading-end : {n : ℕ} (head : call.Call) {j : ℕ} {body : List call.Call} → maxSubgoals ≤ j → callOf head ≡ clauseAt rules k .head
+      → n ≡ length (clauseAt rules k .body) → Reading rules k j body
+      → clauseOf (record { n = n; head = head; body = body }) ≡ clauseAt rules k
+  unfolding clauseAt
+  reading-end {n} head {j} {body} h e count r =
+      let m = r .most in
+      let s = r .size in
+      let l = clauseAt-count rules k in
+      let q : j ≡ maxSubgoals = omega arith in
+      let few : min n maxSubgoals ≡ min (getD rules (k * clauseSize) 0) maxSubgoals = omega arith in
+      let all = ap (map callOf) (sym (take-all j body (omega arith))) ∙ r .front ∙ ap (values (callAt rules k)) q in
+      ap₂ (λ (a : Call) (b : List Call). record { head = a; body = b }) e (body-held (callAt rules k) n body all ∙ ap (values (callAt rules k)) few)
 
--- the loop that stores the subgoals: of the clause, all is stored but those from j on
-pub record Writing (rules : List ℕ) (at : ℕ) (c : clause.Clause) (j : ℕ) (now : List ℕ) : Type 0 where
+-- the loop that stores the subgoals: the first j are stored, and all other words are as they were
+pub record Writing (rules : List ℕ) (k : ℕ) (c : clause.Clause) (j : ℕ) (now : List ℕ) : Type 0 where
   pub most : j ≤ maxSubgoals
-  pub before : take at now ≡ take at rules
-  pub count : getD now at 0 ≡ c .n
-  pub head : callIn (window (at + 1) callSize now) ≡ callOf (c .head)
-  pub body : callsIn now (at + 9) j ≡ map callOf (take j (c .body))
-  pub behind : drop (at + clauseSize) now ≡ drop (at + clauseSize) rules
+  pub size : length now ≡ rulesSize
+  pub body : values (callAt now k) j ≡ map callOf (take j (c .body))
+  pub others : (p : ℕ) → (k * clauseSize + 2 ≤ p → k * clauseSize + clauseSize ≤ p) → getD now p 0 ≡ getD rules p 0
 
-module _ (at : ℕ) (c : clause.Clause) where
-  -- the number of the subgoals, then the head is stored
-  pub writing-start : (rules : List ℕ) {now : List ℕ} → at < length rules → StoredCall (set rules at (c .n)) now (at + 1) (callOf (c .head)) → Writing now at c 0 now
-  unfolding callsIn
-  writing-start rules {now} h s =
+module _ (k : ℕ) (c : clause.Clause) where
+  pub writing-start : (rules : List ℕ) → length rules ≡ rulesSize → Writing rules k c 0 rules
+  writing-start rules e = record { most = omega arith; size = e; body = refl; others = λ p h. refl }
+
+  pub writing-next : {j : ℕ} {rules now : List ℕ} (d : call.Call) (w : ℕ) → k ≤ maxClauses → length (c .body) ≡ maxSubgoals → j < maxSubgoals
+      → callIn w ≡ callOf (getD (c .body) j d) → Writing rules k c j now → Writing rules k c (j + 1) (set now (k * clauseSize + 2 + j) w)
+  writing-next {j} {rules} {now} d w low e h is s =
+      let n = s .size in
       record {
         most = omega arith;
-        before = refl;
-        count = getD-front now (set rules at (c .n)) at (at + 1) (omega arith) (s .before) ∙ getD-set-same rules at (c .n) 0 h;
-        head = s .is;
-        body = refl;
-        behind = refl;
-      }
-
-  pub writing-next : {j : ℕ} {rules now after : List ℕ} (d : call.Call) → length (c .body) ≡ maxSubgoals → j < maxSubgoals → Writing rules at c j now
-      → StoredCall now after (at + 9 + j * callSize) (callOf (getD (c .body) j d)) → Writing rules at c (j + 1) after
-  unfolding callsIn callAt
-  writing-next {j} {rules} {now} {after} d e h w s =
-      let here = at + 9 + j * callSize in
-      record {
-        most = omega arith;
-        before = take-shorter after now at here (omega arith) (s .before) ∙ w .before;
-        count = getD-front after now at here (omega arith) (s .before) ∙ w .count;
-        head = ap callIn (window-front after now (at + 1) callSize here (omega arith) (s .before)) ∙ w .head;
+        size = simp length-set n;
         body =
             rw (add-one, take-suc (c .body) j d (omega arith))
-            (ap₂ (λ (b : List Call) (k : Call). b ++ (k ∷ [])) (kept ∙ w .body) (s .is)
+            (ap₂ (λ (b : List Call) (x : Call). b ++ (x ∷ [])) (kept ∙ s .body) (ap callIn (getD-set-same now here w 0 (omega arith)) ∙ is)
             ∙ sym (map-append callOf (take j (c .body)) (getD (c .body) j d ∷ [])));
-        behind = drop-longer after now (at + clauseSize) (here + callSize) (omega arith) (s .behind) ∙ w .behind;
+        others = λ p f. getD-set-other now here p w 0 (λ q. let l = f (omega arith) in omega arith) ∙ s .others p f;
       }
     where
-      kept : callsIn after (at + 9) j ≡ callsIn now (at + 9) j
-      kept =
-          values-cong (callAt after (at + 9)) (callAt now (at + 9)) j
-          (λ i l. ap callIn (window-front after now (at + 9 + i * callSize) callSize (at + 9 + j * callSize) (omega arith) (s .before)))
+      here : ℕ
+      here = k * clauseSize + 2 + j
 
-pub writing-end : (rules : List ℕ) (k : ℕ) (c : clause.Clause) {j : ℕ} {l now : List ℕ} → length (c .body) ≡ maxSubgoals → maxSubgoals ≤ j
-    → StoredCall (set rules (k * clauseSize) (c .n)) l (k * clauseSize + 1) (callOf (c .head)) → Writing l (k * clauseSize) c j now
-    → StoredClause rules now k (clauseOf c)
-writing-end rules k c {j} {l} {now} e h s w =
-    let at = k * clauseSize in
-    let r = set rules at (c .n) in
-    record {
-      is =
-          clauseIn-window now at
-          ∙ ap₂ (λ (a : Call) (b : List Call). record { head = a; body = b }) (w .head)
-          (ap₂ (λ (n : ℕ) (b : List Call). take n b) (w .count) all ∙ sym (take-map callOf (c .n) (c .body)));
-      others =
-          λ i ne.
-          ap clauseIn
-          (window-others now rules clauseSize k i ne
-          (w .before ∙ take-shorter l r at (at + 1) (omega arith) (s .before) ∙ take-set-le at rules at (c .n) (omega arith))
-          (w .behind ∙ drop-longer l r (at + clauseSize) (at + 1 + callSize) (omega arith) (s .behind) ∙ drop-set-lt (at + clauseSize) rules at (c .n) (omega arith)));
-    }
-  where
-    all : callsIn now (k * clauseSize + 9) maxSubgoals ≡ map callOf (c .body)
-    all =
-        let m = w .most in
-        let q : maxSubgoals ≡ j = omega arith in
-        ap (callsIn now (k * clauseSize + 9)) q ∙ w .body ∙ ap (map callOf) (take-all j (c .body) (omega arith))
+      kept : values (callAt (set now here w) k) j ≡ values (callAt now k) j
+      kept =
+          values-cong (callAt (set now here w) k) (callAt now k) j
+          (λ i l. ap callIn (getD-set-other now here (k * clauseSize + 2 + i) w 0 (λ q. omega arith)))
+
+  -- after the number of the subgoals and the head, which were stored before the loop
+  pub writing-end : (rules : List ℕ) (w : ℕ) {j : ℕ} {now : List ℕ} → k ≤ maxClauses → length rules ≡ rulesSize → length (c .body) ≡ maxSubgoals → maxSubgoals ≤ j
+      → callIn w ≡ callOf (c .head) → Writing (set (set rules (k * clauseSize) (c .n)) (k * clauseSize + 1) w) k c j now → StoredClause rules now k (clauseOf c)
+  unfolding clauseAt
+  writing-end rules w {j} {now} low n e h is s =
+      record {
+        is =
+            ap₂ (λ (a : Call) (b : List Call). record { head = a; body = b })
+            (ap callIn (s .others (at + 1) (λ l. omega arith) ∙ getD-set-same one (at + 1) w 0 (simp length-set (omega arith))) ∙ is)
+            (ap (λ (m : ℕ). values (callAt now k) (min m maxSubgoals)) count ∙ sym (body-held (callAt now k) (c .n) (c .body) all));
+        others =
+            λ i ne.
+            clauseAt-cong rules now i
+            (λ p l r.
+            s .others p (λ q. omega arith)
+            ∙ getD-set-other one (at + 1) p w 0 (λ q. ne (omega arith))
+            ∙ getD-set-other rules at p (c .n) 0 (λ q. ne (omega arith)));
+      }
+    where
+      at : ℕ
+      at = k * clauseSize
+
+      one : List ℕ
+      one = set rules at (c .n)
+
+      count : getD now at 0 ≡ c .n
+      count =
+          s .others at (λ l. omega arith)
+          ∙ getD-set-other one (at + 1) at w 0 (λ q. omega arith)
+          ∙ getD-set-same rules at (c .n) 0 (omega arith)
+
+      all : map callOf (c .body) ≡ values (callAt now k) maxSubgoals
+      all =
+          let m = s .most in
+          let q : j ≡ maxSubgoals = omega arith in
+          ap (map callOf) (sym (take-all j (c .body) (omega arith))) ∙ sym (s .body) ∙ ap (values (callAt now k)) q
 
 -- ---- the first n clauses
 
@@ -230,6 +196,10 @@ module _ {rules after : List ℕ} {k : ℕ} {c : Clause} (s : StoredClause rules
   clausesOf-stored = rw add-one (ap₂ (λ (b : List Clause) (x : Clause). b ++ (x ∷ [])) (clausesOf-before k (omega arith)) (s .is))
 
 -- ---- modes
+
+-- a number of bytes and the bytes, behind the first of a window
+pub masksIn-window : (l : List ℕ) (at n : ℕ) (s : List ℕ) → s ≡ window (at + 2) n l → take (getD l (at + 1) 0) s ≡ masksIn (window at (2 + n) l)
+masksIn-window l at n s e = ap₂ (λ (k : ℕ) (r : List ℕ). take k r) (sym (getD-window at (2 + n) 1 l (omega arith))) (e ∙ sym (drop-window at 2 n l))
 
 pub stored-mode : {modes after : List ℕ} {p n : ℕ} {masks : List ℕ} → Stored modes after (p * modeSize) modeSize (1 ∷ n ∷ masks)
     → StoredMode modes after p (take n masks)

@@ -14,7 +14,7 @@ use Rattle.masks.proofs.Laws.Logic.{byBool}
 use Rattle.masks.proofs.Laws.Lists.{sets-suc}
 use Rattle.book.specs.Held.{window}
 
--- ---- a window of a window, and its elements
+-- ---- a part of a window, and its elements
 
 drop-take : (i n : ℕ) (l : List ℕ) → drop i (take n l) ≡ take (n - i) (drop i l)
 drop-take zero n l = let e : n ≡ n - 0 = omega arith in ap (λ (k : ℕ). take k l) e
@@ -26,9 +26,6 @@ drop-take (suc i) (suc n) (x ∷ xs) =
 -- the bytes of a front stand where they stood
 front-window : (n at k : ℕ) (l : List ℕ) → at + k ≤ n → window at k (take n l) ≡ window at k l
 front-window n at k l h = ap (take k) (drop-take at n l) ∙ take-take k (n - at) (drop at l) (omega arith)
-
-pub window-window : (at n i k : ℕ) (l : List ℕ) → i + k ≤ n → window i k (window at n l) ≡ window (at + i) k l
-window-window at n i k l h = front-window n i k (drop at l) h ∙ ap (take k) (drop-drop i at l)
 
 pub drop-window : (at i k : ℕ) (l : List ℕ) → drop i (window at (i + k) l) ≡ window (at + i) k l
 drop-window at i k l =
@@ -45,17 +42,11 @@ getD-window-first at k l h = let e : at + 0 ≡ at = omega arith in getD-window 
 
 module _ (l m : List ℕ) where
   -- where a front is the same, so is what stands in it
-  pub take-shorter : (k n : ℕ) → k ≤ n → take n l ≡ take n m → take k l ≡ take k m
-  take-shorter k n h e = sym (take-take k n l h) ∙ ap (take k) e ∙ take-take k n m h
-
-  pub getD-front : (i n : ℕ) → i < n → take n l ≡ take n m → getD l i 0 ≡ getD m i 0
-  getD-front i n h e = sym (getD-take n l i 0 h) ∙ ap (λ (s : List ℕ). getD s i 0) e ∙ getD-take n m i 0 h
-
-  pub window-front : (at k n : ℕ) → at + k ≤ n → take n l ≡ take n m → window at k l ≡ window at k m
+  window-front : (at k n : ℕ) → at + k ≤ n → take n l ≡ take n m → window at k l ≡ window at k m
   window-front at k n h e = sym (front-window n at k l h) ∙ ap (window at k) e ∙ front-window n at k m h
 
   -- and where a back is
-  pub drop-longer : (k n : ℕ) → n ≤ k → drop n l ≡ drop n m → drop k l ≡ drop k m
+  drop-longer : (k n : ℕ) → n ≤ k → drop n l ≡ drop n m → drop k l ≡ drop k m
   drop-longer k n h e = back l ∙ ap (drop (k - n)) e ∙ sym (back m)
     where
       back : (s : List ℕ) → drop k s ≡ drop (k - n) (drop n s)

@@ -7,28 +7,28 @@ use Rattle.needs.proofs.give.Statement.{statement}
 use Rattle.needs.proofs.give.Tie as tie
 
 image-length-requires : tie.Need-image-length-requires
-image-length-requires c κs = c .before .before .before .before .pre
+image-length-requires c κs = c .before .before .before .pre
 
 refused-requires : tie.Need-refused-requires
 refused-requires c κs = search needs
 
 returns : tie.Need-returns
 returns c =
-    let s = c .before .before .before .before .before .before .before .args in
+    let s = c .before .before .before .before .before .before .args in
     let n = c .before .before .image-length in
-    answers-short (s .d .rounds) _ (s .out .now) (n .result) (n .ensures) (omega arith) (c .refused .ensures)
+    answers-short (s .t2 .rounds) _ (s .out .now) (n .result) (n .ensures) (omega arith) (c .refused .ensures)
 
 put-image-requires : tie.Need-put-image-requires
-put-image-requires c κs = let n = c .before .before .before .before .image-length .ensures in (c .before .before .before .before .before .before .before .before .before .pre, omega arith)
+put-image-requires c κs = let n = c .before .before .before .before .image-length .ensures in (c .before .before .before .before .before .before .before .before .pre, omega arith)
 
 same-length : tie.Need-same-length
 same-length c = search needs
 
 returns-2 : tie.Need-returns-2
 returns-2 c =
-    let s = c .before .before .before .before .before .before .before .before .before .before .before .before .args in
+    let s = c .before .before .before .before .before .before .before .before .before .before .before .args in
     let n = c .before .before .before .before .before .before .before .image-length in
-    answers-done (s .d .rounds) _ (s .out .now) (n .result) (n .ensures) (omega arith) refl (c .before .before .put-image .ensures .is)
+    answers-done (s .t2 .rounds) _ (s .out .now) (n .result) (n .ensures) (omega arith) refl (c .before .before .put-image .ensures .is)
 
 pub give-spec : {M : Type 1} → statement M
 give-spec =

@@ -6,12 +6,10 @@ use Prim.Native.Nat.{ℕ}
 use Rattle.book.specs.Book.{Book}
 use Rattle.book.specs.Format.{Judged, fault, book, judge}
 use Rattle.book.specs.Encode.{encode, WellFormed}
-use Rattle.book.specs.Held.{bookOf}
 use Rattle.book.specs.declared.fault.Fault.{Fault}
 use Rattle.records.specs.declared.field.Found.{Found}
 use Rattle.records.specs.declared.field.Found.the-variants.{Next, Bad}
-use Rattle.reading.specs.Judged.{judgement, found, checked}
-use Rattle.reading.specs.declared.Reading.{Reading}
+use Rattle.reading.specs.Judged.{judgement, checked}
 use Rattle.book.proofs.Laws.Answer.{number-some}
 use Rattle.book.proofs.Laws.Trip.{judge-encode, judge-inv}
 
@@ -30,9 +28,9 @@ pub read-well : (s : List ℕ) (B : Book) → book B ≡ judge s → WellFormed 
 read-well s B e = judge-inv s B (sym e) .1
 
 -- what reading found
-module _ (s : List ℕ) (r : Reading) (h : found r ≡ judge s) where
-  pub read-fault : {v : Fault} {at : ℕ} → r .found ≡ Bad v at → fault v at ≡ judge s
-  read-fault e = subst (λ (f : Found). judgement f (bookOf (r .book)) ≡ judge s) e h
+module _ (s : List ℕ) (r : Found) (B : Book) (h : judgement r B ≡ judge s) where
+  pub read-fault : {v : Fault} {at : ℕ} → r ≡ Bad v at → fault v at ≡ judge s
+  read-fault e = subst (λ (f : Found). judgement f B ≡ judge s) e h
 
-  pub read-book : {at n : ℕ} → r .found ≡ Next at n → book (bookOf (r .book)) ≡ judge s
-  read-book e = subst (λ (f : Found). judgement f (bookOf (r .book)) ≡ judge s) e h
+  pub read-book : {at n : ℕ} → r ≡ Next at n → book B ≡ judge s
+  read-book e = subst (λ (f : Found). judgement f B ≡ judge s) e h

@@ -6,7 +6,8 @@ use Prim.Native.Nat.{ℕ, zero, suc, _+_, _-_, _≤_, _<_}
 use native.Mathlib.Omega.{arith}
 use native.Mathlib.Numerals.{add-one}
 use lib.ListN.{length, take, drop, set, length-drop, length-append}
-use lib.Seq.{take-suc-set}
+use lib.Seq.{take-suc-set, length-take-le}
+use Rattle.book.specs.Limits.{maxPredicates}
 use Rattle.book.specs.Format.{spelling, leads, markAt, turn, Got, got, andThen, onTurn, many}
 use Rattle.book.specs.declared.fault.Fault.{Fault}
 use Rattle.book.specs.declared.fault.Fault.the-variants.{TooMany}
@@ -20,6 +21,7 @@ use Rattle.book.proofs.Laws.Marks.{mineOf, leads-mine, unled, mine-starts}
 use Rattle.records.specs.declared.field.Found.{Found}
 use Rattle.records.specs.declared.field.Found.the-variants.{Next, Bad}
 use Rattle.records.specs.Found.{counted, means, Reads, onStop, stops}
+use Rattle.reading.specs.Judged.{Listed}
 use Rattle.records.proofs.Laws.Reads.{then-bad, reads-map}
 
 -- so far the n records acc were read, up to a place
@@ -135,3 +137,16 @@ count-bad k e = rw e (omega arith)
 
 pub count-next : {g : Found} {at n : ℕ} (k : ℕ) → g ≡ Next at n → counted g ≤ k → n ≤ k
 count-next k e h = subst (λ (q : Found). counted q ≤ k) e h
+
+-- the predicates of an array with room for all
+pub listed : {l : List ℕ} (n : ℕ) → length l ≡ maxPredicates → n ≤ maxPredicates → Listed n l
+listed {l} n e h = record { few = h; each = length-take-le n l (rw e h) }
+
+pub listed-none : {l : List ℕ} → Listed 0 l
+listed-none = record { few = omega arith; each = refl }
+
+pub listed-bad : {l : List ℕ} {g : Found} {v : Fault} {at : ℕ} → g ≡ Bad v at → Listed (counted g) l
+listed-bad e = rw e listed-none
+
+pub listed-next : {l : List ℕ} {g : Found} {at n : ℕ} → g ≡ Next at n → Listed (counted g) l → Listed n l
+listed-next {l} e h = subst (λ (q : Found). Listed (counted q) l) e h

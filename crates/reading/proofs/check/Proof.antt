@@ -1,11 +1,12 @@
 -- `reading::check` meets its contract. The reading's judgement, case by case. Assumes nothing.
 use mathlib.Core.Path.{_∙_}
 use borrow.Author.Needs.{needs}
+use Rattle.book.proofs.Laws.Held.{modeAt-zeros}
 use Rattle.reading.proofs.check.Statement.{statement}
 use Rattle.reading.proofs.check.Tie as tie
 
 read-book-requires : tie.Need-read-book-requires
-read-book-requires c κs = search needs
+read-book-requires c κs = modeAt-zeros 1408
 
 enum-known-g : tie.Need-enum-known-g
 enum-known-g c = search needs

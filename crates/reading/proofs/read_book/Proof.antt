@@ -2,9 +2,8 @@
 use native.Mathlib.Omega.{arith}
 use borrow.Author.Needs.{needs}
 use Rattle.reading.proofs.Laws.Whole.{whole-bad, whole-arities, whole-next}
-use Rattle.reading.proofs.Laws.Runs.{count-next}
+use Rattle.reading.proofs.Laws.Runs.{listed-none, listed-next}
 use Rattle.records.proofs.Laws.Reads.{next-inside}
-use Rattle.book.proofs.Laws.Held.{modeAt-zeros}
 use Rattle.reading.proofs.read_book.Statement.{statement}
 use Rattle.reading.proofs.read_book.Tie as tie
 
@@ -20,13 +19,13 @@ enum-told c = search needs
 returns : tie.Need-returns
 returns c =
     let read-predicates = c .before .before .read-predicates in
-    (rw (c .enum-told .given .1) (whole-bad _ (read-predicates .ensures .0) (c .enum-told .given .1)), (omega arith, omega arith))
+    (rw (c .enum-told .given .1) (whole-bad _ (read-predicates .ensures .0) (c .enum-told .given .1)), (listed-none, omega arith))
 
 read-rules-requires : tie.Need-read-rules-requires
 read-rules-requires c κs =
     let read-predicates = c .before .before .before .before .before .before .read-predicates in
     let p = c .before .before .before .before .p in
-    (next-inside (read-predicates .ensures .0) (p .given .1), count-next 64 (p .given .1) (read-predicates .ensures .1), whole-arities _ (read-predicates .ensures .0) (p .given .1), modeAt-zeros 1408)
+    (next-inside (read-predicates .ensures .0) (p .given .1), listed-next (p .given .1) (read-predicates .ensures .1) .few, whole-arities _ (read-predicates .ensures .0) (p .given .1), c .before .before .before .before .before .before .before .before .before .pre)
 
 count-requires : tie.Need-count-requires
 count-requires c κs = search needs
@@ -35,10 +34,9 @@ returns-2 : tie.Need-returns-2
 returns-2 c =
     let read-predicates = c .before .before .before .before .before .before .before .before .read-predicates in
     let p = c .before .before .before .before .before .before .p in
-    let n = count-next 64 (p .given .1) (read-predicates .ensures .1) in
     let k = c .before .read-rules .ensures .1 in
     let e = c .count .ensures in
-    (rw e (whole-next _ (read-predicates .ensures .0) (p .given .1) (c .before .read-rules .ensures .0)), (n, omega arith))
+    (rw e (whole-next _ (read-predicates .ensures .0) (p .given .1) (c .before .read-rules .ensures .0)), (listed-next (p .given .1) (read-predicates .ensures .1), omega arith))
 
 pub read-book-spec : {M : Type 1} → statement M
 read-book-spec =

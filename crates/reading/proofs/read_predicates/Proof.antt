@@ -7,7 +7,7 @@ use borrow.Author.Needs.{needs}
 use Rattle.book.specs.declared.mark.Phase.the-variants.{Predicates}
 use Rattle.book.specs.declared.mark.Mark.the-variants.{Pr}
 use Rattle.book.specs.Format.{predicate}
-use Rattle.reading.proofs.Laws.Runs.{Going, mine-at, not-mine-at, mark-there, going-start, going-full, going-bad, going-next, going-end, take-more, stops-count, count-bad}
+use Rattle.reading.proofs.Laws.Runs.{Going, mine-at, not-mine-at, mark-there, going-start, going-full, going-bad, going-next, going-end, take-more, stops-count, listed, listed-none, listed-bad}
 use Rattle.reading.proofs.read_predicates.Statement.{statement}
 use Rattle.reading.proofs.read_predicates.Tie as tie
 
@@ -28,7 +28,7 @@ returns c =
     let args = c .before .before .before .before .before .before .before .args in
     let loop = c .before .before .before .before .loop in
     let is-mark = c .before .before .is-mark in
-    (going-full _ _ _ _ _ (loop .inv .1) (mine-at Predicates {m = Pr} refl (args .s .now) (loop .at) (sym (is-mark .ensures) ∙ c .before .if1 .taken)) (omega arith), omega arith)
+    (going-full _ _ _ _ _ (loop .inv .1) (mine-at Predicates {m = Pr} refl (args .s .now) (loop .at) (sym (is-mark .ensures) ∙ c .before .if1 .taken)) (omega arith), listed-none)
 
 read-predicate-requires : tie.Need-read-predicate-requires Inv-loop μ-loop
 read-predicate-requires c κs =
@@ -48,7 +48,7 @@ returns-2 c =
     let is-mark = c .before .before .before .before .before .is-mark in
     let if1 = c .before .before .before .before .if1 in
     let read-predicate = c .before .before .read-predicate in
-    (going-bad _ _ _ _ _ (loop .inv .1) (mine-at Predicates {m = Pr} refl (args .s .now) (loop .at) (sym (is-mark .ensures) ∙ if1 .taken)) (omega arith) (read-predicate .ensures) (c .enum-told .given .1), count-bad _ (c .enum-told .given .1))
+    (going-bad _ _ _ _ _ (loop .inv .1) (mine-at Predicates {m = Pr} refl (args .s .now) (loop .at) (sym (is-mark .ensures) ∙ if1 .taken)) (omega arith) (read-predicate .ensures) (c .enum-told .given .1), listed-bad (c .enum-told .given .1))
 
 enum-known-g : tie.Need-enum-known-g Inv-loop μ-loop
 enum-known-g c = search needs
@@ -85,7 +85,7 @@ returns-3 c =
     let args = c .before .before .before .before .before .before .before .args in
     let loop = c .before .before .before .before .loop in
     let is-mark = c .before .before .is-mark in
-    (going-end _ _ _ _ _ (loop .inv .1) (not-mine-at Predicates {m = Pr} refl (args .s .now) (loop .at) (sym (is-mark .ensures) ∙ c .before .if1 .left)) (λ k. take k (loop .bytes)) (loop .n) refl (c .run-end .ensures), let t = loop .inv .1 .turns in let b = stops-count Predicates (loop .n) (args .s .now) _ (c .run-end .ensures) in omega arith)
+    (going-end _ _ _ _ _ (loop .inv .1) (not-mine-at Predicates {m = Pr} refl (args .s .now) (loop .at) (sym (is-mark .ensures) ∙ c .before .if1 .left)) (λ k. take k (loop .bytes)) (loop .n) refl (c .run-end .ensures), let t = loop .inv .1 .turns in let b = stops-count Predicates (loop .n) (args .s .now) _ (c .run-end .ensures) in listed _ (loop .inv .0) (omega arith))
 
 pub read-predicates-spec : {M : Type 1} → statement M
 read-predicates-spec =

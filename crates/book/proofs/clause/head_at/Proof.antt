@@ -1,21 +1,35 @@
--- `book::clause::head_at` meets its contract. It is the call that stands behind the clause's first byte. Assumes nothing.
-use mathlib.Core.Path.{sym, _∙_}
+-- `book::clause::head_at` meets its contract. It is the call in the clause's second word. Assumes nothing.
 use borrow.Author.Needs.{needs}
-use Rattle.book.proofs.Laws.Held.{clauseAt-head}
+use Rattle.book.specs.Held.{clauseAt}
 use Rattle.book.proofs.clause.head_at.Statement.{statement}
 use Rattle.book.proofs.clause.head_at.Tie as tie
 
-mul-call-at : tie.Need-mul-call-at
-mul-call-at c = search needs
+mul-call-of : tie.Need-mul-call-of
+mul-call-of c = search needs
 
-add-call-at : tie.Need-add-call-at
-add-call-at c = search needs
+add-call-of : tie.Need-add-call-of
+add-call-of c = search needs
 
-call-at-requires : tie.Need-call-at-requires
-call-at-requires c κs = search needs
+mul-call-of-2 : tie.Need-mul-call-of-2
+mul-call-of-2 c = search needs
+
+element-copy-out-call-of : tie.Need-element-copy-out-call-of
+element-copy-out-call-of c = search needs
+
+call-of-requires : tie.Need-call-of-requires
+call-of-requires c κs = search needs
 
 returns : tie.Need-returns
-returns c = c .call-at .ensures ∙ sym (clauseAt-head (c .before .args .rules .now) (c .before .args .k))
+unfolding clauseAt
+returns c = c .call-of .ensures
 
 pub head-at-spec : {M : Type 1} → statement M
-head-at-spec = tie.close (tie.spec mul-call-at add-call-at call-at-requires returns)
+head-at-spec =
+    tie.close
+    (tie.spec
+    mul-call-of
+    add-call-of
+    mul-call-of-2
+    element-copy-out-call-of
+    call-of-requires
+    returns)

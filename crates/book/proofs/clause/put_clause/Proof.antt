@@ -1,38 +1,49 @@
--- `book::clause::put_clause` meets its contract. The loop's invariant: all is stored but the subgoals from j on. Assumes nothing.
+-- `book::clause::put_clause` meets its contract. The loop's invariant: the first j subgoals are stored, and all other words are as they were.
+-- Assumes nothing.
 use mathlib.Core.Path.{_≡_}
 use mathlib.Core.List.{[]}
-use Prim.Native.Nat.{_-_, _*_}
+use Prim.Native.Nat.{_-_}
 use native.Mathlib.Omega.{arith}
-use lib.ListN.{length}
+use lib.ListN.{length, length-set}
 use borrow.Author.Needs.{needs}
-use Rattle.book.specs.Held.{clauseSize}
 use Rattle.book.proofs.Laws.Held.{length-of-map, Writing, writing-start, writing-next, writing-end}
 use Rattle.book.proofs.clause.put_clause.Statement.{statement}
 use Rattle.book.proofs.clause.put_clause.Tie as tie
 
 abbrev Inv-loop : tie.InvT-loop
-Inv-loop rules₀ k c at j₀ rules j = Writing rules₀ at c j rules
+Inv-loop k c at words₀ j₀ words j = Writing words₀ k c j words
 
 abbrev μ-loop : tie.MeasureT-loop
-μ-loop rules₀ k c at j₀ rules j = 8 - j
+μ-loop k c at words₀ j₀ words j = 8 - j
 
 mul-at : tie.Need-mul-at Inv-loop μ-loop
 mul-at c = search needs
 
-slice-write-bytes : tie.Need-slice-write-bytes Inv-loop μ-loop
-slice-write-bytes c = search needs
+cast-words : tie.Need-cast-words Inv-loop μ-loop
+cast-words c = search needs
 
-add-put-call : tie.Need-add-put-call Inv-loop μ-loop
-add-put-call c = search needs
+mul-words : tie.Need-mul-words Inv-loop μ-loop
+mul-words c = search needs
 
-put-call-requires : tie.Need-put-call-requires Inv-loop μ-loop
-put-call-requires c κs = search needs
+slice-write-words : tie.Need-slice-write-words Inv-loop μ-loop
+slice-write-words c = search needs
+
+word-of-requires : tie.Need-word-of-requires Inv-loop μ-loop
+word-of-requires c κs = search needs
+
+add-words : tie.Need-add-words Inv-loop μ-loop
+add-words c = search needs
+
+mul-words-2 : tie.Need-mul-words-2 Inv-loop μ-loop
+mul-words-2 c = search needs
+
+slice-write-words-2 : tie.Need-slice-write-words-2 Inv-loop μ-loop
+slice-write-words-2 c = simp length-set (omega arith)
 
 loop-holds : tie.Need-loop-holds Inv-loop μ-loop
 loop-holds c =
-    let s = c .before .before .before .before .args in
-    let l = c .before .before .before .bytes .given in
-    writing-start (s .k * clauseSize) (s .t3) (s .rules .now) (omega arith) (c .put-call .ensures)
+    let s = c .before .before .before .args in
+    writing-start (s .k) (s .t3) _ (simp length-set (c .before .before .words .given .0 .1))
 
 mul-call : tie.Need-mul-call Inv-loop μ-loop
 mul-call c = search needs
@@ -40,17 +51,20 @@ mul-call c = search needs
 element-copy-out-call : tie.Need-element-copy-out-call Inv-loop μ-loop
 element-copy-out-call c = search needs
 
-add-put-call-2 : tie.Need-add-put-call-2 Inv-loop μ-loop
-add-put-call-2 c = search needs
+word-of-requires-2 : tie.Need-word-of-requires-2 Inv-loop μ-loop
+word-of-requires-2 c κs = search needs
 
-mul-put-call : tie.Need-mul-put-call Inv-loop μ-loop
-mul-put-call c = search needs
+add-words-2 : tie.Need-add-words-2 Inv-loop μ-loop
+add-words-2 c = search needs
 
-add-put-call-3 : tie.Need-add-put-call-3 Inv-loop μ-loop
-add-put-call-3 c = search needs
+add-words-3 : tie.Need-add-words-3 Inv-loop μ-loop
+add-words-3 c = search needs
 
-put-call-requires-2 : tie.Need-put-call-requires-2 Inv-loop μ-loop
-put-call-requires-2 c κs = search needs
+mul-words-3 : tie.Need-mul-words-3 Inv-loop μ-loop
+mul-words-3 c = search needs
+
+slice-write-words-3 : tie.Need-slice-write-words-3 Inv-loop μ-loop
+slice-write-words-3 c = search needs
 
 add-j : tie.Need-add-j Inv-loop μ-loop
 add-j c = search needs
@@ -60,15 +74,19 @@ loop-less c = search needs
 
 loop-again : tie.Need-loop-again Inv-loop μ-loop
 loop-again c =
-    let s = c .before .before .before .before .before .before .before .before .before .args in
+    let s = c .before .before .before .before .before .before .before .args in
     let e : length (s .t3 .body) ≡ 8 = search (needs, length-of-map) in
-    writing-next (s .k * clauseSize) (s .t3) (record { pred = 0; n = 0; args = [] }) e (omega arith) (c .before .before .before .before .loop .inv) (c .put-call2 .ensures)
+    let word = c .word-of2 in
+    writing-next (s .k) (s .t3) (record { pred = 0; n = 0; args = [] }) (word .result) (omega arith) e (omega arith) (word .ensures)
+    (c .before .before .before .loop .inv)
 
 returns : tie.Need-returns Inv-loop μ-loop
 returns c =
-    let s = c .before .before .before .before .before .before .args in
+    let s = c .before .before .before .before .before .args in
     let e : length (s .t3 .body) ≡ 8 = search (needs, length-of-map) in
-    writing-end (s .rules .now) (s .k) (s .t3) e (omega arith) (c .before .before .put-call .ensures) (c .before .loop .inv)
+    let l = c .before .before .before .before .words .given .0 .1 in
+    let word = c .before .before .word-of in
+    writing-end (s .k) (s .t3) (s .rules .now) (word .result) (omega arith) l e (omega arith) (word .ensures) (c .before .loop .inv)
 
 pub put-clause-spec : {M : Type 1} → statement M
 put-clause-spec =
@@ -77,16 +95,21 @@ put-clause-spec =
     Inv-loop
     μ-loop
     mul-at
-    slice-write-bytes
-    add-put-call
-    put-call-requires
+    cast-words
+    mul-words
+    slice-write-words
+    word-of-requires
+    add-words
+    mul-words-2
+    slice-write-words-2
     loop-holds
     mul-call
     element-copy-out-call
-    add-put-call-2
-    mul-put-call
-    add-put-call-3
-    put-call-requires-2
+    word-of-requires-2
+    add-words-2
+    add-words-3
+    mul-words-3
+    slice-write-words-3
     add-j
     loop-less
     loop-again
