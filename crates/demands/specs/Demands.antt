@@ -90,9 +90,13 @@ pub record Demand2 (s : List ℕ) (B : Book) : Type 0 where
   pub last : final B ≡ table B (rounds B)
   pub settled : table B (suc (rounds B)) ≡ table B (rounds B)
   pub least : (k : ℕ) → table B (suc k) ≡ table B k → rounds B ≤ k
+  -- a buffer of 1,536 bytes always suffices for it
+  pub tableRoom : length (analysed.image B) ≤ 1536
   -- reply 7 is given exactly when no choice of orders makes the book well-moded; else there is a plan
   pub seven : (planning s ≡ refused 7 0) ↔ (Orderable B → ⊥)
   pub planned : (planning s ≡ done 0 (image B)) ↔ Orderable B
+  -- "The longest plan is 53,259 bytes."
+  pub planRoom : length (image B) ≤ 53259
   -- its orders are a choice that makes the book well-moded: every reached pattern of an outside predicate fits what the book declares
   pub choice· : Orderable B → IsChoice B (chosen B)
   pub wellModed : Orderable B → WellModed B (chosen B)

@@ -6,4 +6,5 @@ pub mod Valid
 pub mod Own
 pub mod Round
 pub mod Rounds
+pub mod Image
 pub mod Held

@@ -1,18 +1,18 @@
 -- What the arrays of a book hold: what is read from one, what a store makes of it, and lists of so many clauses or modes, which are the first n
 -- values of a function. Assumes nothing.
 use mathlib.Core.Path.{_≡_, refl, sym, ap, ap₂, _∙_}
-use mathlib.Core.Bool.{Bool, true, false, cond, _&&_, _||_, or-false, and-false, and-true}
-use mathlib.Core.List.{List, [], _∷_, _++_, append-nil, map, map-append}
+use mathlib.Core.Bool.{Bool, true, false, cond, _&&_, or-false}
+use mathlib.Core.List.{List, [], _∷_, _++_, map, map-append}
 use Prim.Native.Nat.{ℕ, zero, suc, _+_, _*_, min, _≤_, _<_}
 use native.Mathlib.Numerals.{add-one}
 use native.Mathlib.Omega.{arith}
-use lib.Dec.{eqb, leb}
+use lib.Dec.{eqb}
 use lib.ListN.{length, getD, take, set, replicate, length-set, length-map}
 use lib.Seq.{take-suc, take-all, take-suc-set, getD-set-same, getD-set-other}
-use borrow.Author.Tests.{leb-true, leb-false, eq-eqb, ne-eqb}
-use Rattle.masks.specs.Lists.{any, values}
-use Rattle.masks.proofs.Laws.Logic.{byBool}
-use Rattle.masks.proofs.Laws.Lists.{any-append, length-values, values-cong, take-values, getD-values}
+use borrow.Author.Tests.{eqb-true, eq-eqb}
+use Rattle.masks.specs.Lists.{any, values, joined}
+use Rattle.masks.proofs.Laws.Logic.{same, and-intro, and-left, and-right}
+use Rattle.masks.proofs.Laws.Lists.{length-values, values-cong, take-values, getD-values, joined-cong, joined-cut, any-joined, joined-any}
 use Rattle.book.specs.Limits.{maxClauses, maxSubgoals}
 use Rattle.book.specs.Book.{Call, Mode, Clause}
 use Rattle.book.specs.Format.{hasMode}
@@ -63,7 +63,8 @@ clauseAt-cong rules after k same =
     (λ j h. ap callIn (same (k * clauseSize + 2 + j) (omega arith) (omega arith))))
 
 -- the first n of eight subgoals
-body-held : (f : ℕ → Call) (n : ℕ) (body : List call.Call) → map callOf body ≡ values f maxSubgoals → map callOf (take n body) ≡ values f (min n maxSubgoals)
+body-held : (f : ℕ → Call) (n : ℕ) (body : List call.Call) → map callOf body ≡ values f maxSubgoals
+    → map callOf (take n body) ≡ values f (min n maxSubgoals)
 body-held f n body e = take-map callOf n body ∙ ap (take n) e ∙ take-values f n maxSubgoals
 
 -- the loop that reads the subgoals: the first j are read
@@ -103,7 +104,7 @@ module _ (rules : List ℕ) (k : ℕ) where
       let all = ap (map callOf) (sym (take-all j body (omega arith))) ∙ r .front ∙ ap (values (callAt rules k)) q in
       ap₂ (λ (a : Call) (b : List Call). record { head = a; body = b }) e (body-held (callAt rules k) n body all ∙ ap (values (callAt rules k)) few)
 
--- the loop that stores the subgoals: the first j are stored, and all other words are as they were
+-- the loop that stores the subgoals: the first j are stored, and all words but the subgoals' are as they were
 pub record Writing (rules : List ℕ) (k : ℕ) (c : clause.Clause) (j : ℕ) (now : List ℕ) : Type 0 where
   pub most : j ≤ maxSubgoals
   pub size : length now ≡ rulesSize
@@ -137,8 +138,9 @@ module _ (k : ℕ) (c : clause.Clause) where
           (λ i l. ap callIn (getD-set-other now here (k * clauseSize + 2 + i) w 0 (λ q. omega arith)))
 
   -- after the number of the subgoals and the head, which were stored before the loop
-  pub writing-end : (rules : List ℕ) (w : ℕ) {j : ℕ} {now : List ℕ} → k ≤ maxClauses → length rules ≡ rulesSize → length (c .body) ≡ maxSubgoals → maxSubgoals ≤ j
-      → callIn w ≡ callOf (c .head) → Writing (set (set rules (k * clauseSize) (c .n)) (k * clauseSize + 1) w) k c j now → StoredClause rules now k (clauseOf c)
+  pub writing-end : (rules : List ℕ) (w : ℕ) {j : ℕ} {now : List ℕ} → k ≤ maxClauses → length rules ≡ rulesSize → length (c .body) ≡ maxSubgoals
+      → maxSubgoals ≤ j → callIn w ≡ callOf (c .head) → Writing (set (set rules (k * clauseSize) (c .n)) (k * clauseSize + 1) w) k c j now
+      → StoredClause rules now k (clauseOf c)
   unfolding clauseAt
   writing-end rules w {j} {now} low n e h is s =
       record {
@@ -229,19 +231,16 @@ modeAt-zeros n p =
 
 -- ---- the modes of the first n predicates
 
-modesOf-kept : (modes after : List ℕ) (n : ℕ) → ((i : ℕ) → i < n → modeAt after i ≡ modeAt modes i) → modesOf after n ≡ modesOf modes n
+pub modesOf-joined : (modes : List ℕ) (n : ℕ) → modesOf modes n ≡ joined (modeAt modes) n
 unfolding modesOf
-modesOf-kept modes after zero h = refl
-modesOf-kept modes after (suc n) h =
-    ap₂ (λ (a b : List Mode). a ++ b) (modesOf-kept modes after n (λ i l. h i (omega arith))) (h n (omega arith))
+modesOf-joined modes zero = refl
+modesOf-joined modes (suc n) = ap (λ (l : List Mode). l ++ modeAt modes n) (modesOf-joined modes n)
+
+modesOf-kept : (modes after : List ℕ) (n : ℕ) → ((i : ℕ) → i < n → modeAt after i ≡ modeAt modes i) → modesOf after n ≡ modesOf modes n
+modesOf-kept modes after n h = modesOf-joined after n ∙ joined-cong (modeAt after) (modeAt modes) n h ∙ sym (modesOf-joined modes n)
 
 pub modesOf-rest : (modes : List ℕ) (b n : ℕ) → b ≤ n → ((i : ℕ) → b ≤ i → modeAt modes i ≡ []) → modesOf modes n ≡ modesOf modes b
-unfolding modesOf
-modesOf-rest modes b zero h f = let e : 0 ≡ b = omega arith in ap (modesOf modes) e
-modesOf-rest modes b (suc n) h f =
-    byBool (leb b n)
-    (λ t. let l = leb-true b n t in ap₂ (λ (x y : List Mode). x ++ y) (modesOf-rest modes b n l f) (f n l) ∙ append-nil (modesOf modes b))
-    (λ t. let l = leb-false b n t in let e : suc n ≡ b = omega arith in ap (modesOf modes) e)
+modesOf-rest modes b n h f = modesOf-joined modes n ∙ joined-cut (modeAt modes) b n h f ∙ sym (modesOf-joined modes b)
 
 pub modesOf-stored : {modes after : List ℕ} {p : ℕ} {masks : List ℕ} → StoredMode modes after p masks → (b : ℕ) → b ≤ p
     → ((i : ℕ) → b ≤ i → modeAt modes i ≡ []) → modesOf after (p + 1) ≡ modesOf modes b ++ (record { pred = p; masks = masks } ∷ [])
@@ -263,32 +262,13 @@ module _ (modes : List ℕ) (p : ℕ) where
       go true = or-false (eqb i p)
       go false = refl
 
-  at-other : (i : ℕ) → (i ≡ p → ⊥) → any isOf (modeAt modes i) ≡ false
-  at-other i ne = at-one i ∙ ap (λ (b : Bool). hasIn (modeBytes modes i) && b) (ne-eqb i p ne) ∙ and-false (hasIn (modeBytes modes i))
-
-  at-none : (n : ℕ) → n ≤ p → any isOf (modesOf modes n) ≡ false
-  unfolding modesOf
-  at-none zero h = refl
-  at-none (suc n) h =
-      any-append isOf (modesOf modes n) (modeAt modes n)
-      ∙ ap₂ (λ (a b : Bool). a || b) (at-none n (omega arith)) (at-other n (λ e. omega arith))
-
-  at-some : (n : ℕ) → p < n → any isOf (modesOf modes n) ≡ hasIn (modeBytes modes p)
-  unfolding modesOf
-  at-some zero h = absurd (omega arith)
-  at-some (suc n) h =
-      any-append isOf (modesOf modes n) (modeAt modes n)
-      ∙ byBool (leb n p)
-      (λ t.
-      let l = leb-true n p t in
-      let e : n ≡ p = omega arith in
-      ap₂ (λ (a b : Bool). a || b) (at-none n l) (at-one n)
-      ∙ ap₂ (λ (a b : Bool). a && b) (ap (λ (i : ℕ). hasIn (modeBytes modes i)) e) (eq-eqb n p e)
-      ∙ and-true (hasIn (modeBytes modes p)))
-      (λ t.
-      let l = leb-false n p t in
-      ap₂ (λ (a b : Bool). a || b) (at-some n l) (at-other n (λ e. omega arith)) ∙ or-false (hasIn (modeBytes modes p)))
-
 pub hasMode-modesOf : (modes : List ℕ) (n p : ℕ) → p < n → hasMode (modesOf modes n) p ≡ hasIn (modeBytes modes p)
 unfolding hasMode
-hasMode-modesOf modes n p h = at-some modes p n h
+hasMode-modesOf modes n p h =
+    ap (any (isOf modes p)) (modesOf-joined modes n)
+    ∙ same (any (isOf modes p) (joined (modeAt modes) n)) (hasIn (modeBytes modes p))
+    (λ t.
+    let r = joined-any (isOf modes p) (modeAt modes) n t in
+    let b : (hasIn (modeBytes modes (r .0)) && eqb (r .0) p) ≡ true = sym (at-one modes p (r .0)) ∙ r .2 in
+    rw (← eqb-true (r .0) p (and-right (hasIn (modeBytes modes (r .0))) (eqb (r .0) p) b)) (and-left (hasIn (modeBytes modes (r .0))) (eqb (r .0) p) b))
+    (λ t. any-joined (isOf modes p) (modeAt modes) n p h (at-one modes p p ∙ and-intro t (eq-eqb p p refl)))

@@ -16,7 +16,7 @@ use Rattle.choices.specs.Choice.{clause, Choice, queryCalls, clauseCalls
 use Rattle.choices.specs.Reached.{marked, marksOf, nextCalls, allMarked, withCalls, grown, reached}
 use Rattle.choices.specs.Plan.{Row, firstChoice, chosen, rowsFor, rowsUnder, rowsOf, planRows, encQuery, encRow, image, planned}
 
-compute-plan : Unit {0}
+unfoldable pub compute-plan : Unit {0}
 unfolding compute joint asks clause queryCalls clauseCalls marksOf nextCalls allMarked withCalls grown reached firstChoice chosen rowsFor rowsUnder rowsOf planRows image planned
 compute-plan = tt
 

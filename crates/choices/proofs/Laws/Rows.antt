@@ -173,10 +173,10 @@ module _ (B : Book) (χ : Choice) (short : (k a : ℕ) → k < length (B .clause
         )
 
 module _ (B : Book) (w : WellFormed B) where
-  clauses-few : length (B .clauses) ≤ maxClauses
+  pub clauses-few : length (B .clauses) ≤ maxClauses
   clauses-few = leb-true (length (B .clauses)) maxClauses (w .fewClauses)
 
-  body-few : (k : ℕ) → k < length (B .clauses) → length (clause B k .body) ≤ maxSubgoals
+  pub body-few : (k : ℕ) → k < length (B .clauses) → length (clause B k .body) ≤ maxSubgoals
   unfolding clause
   body-few k h =
       clause-few (B .arities) (B .modes) (clause B k)

@@ -1,6 +1,6 @@
 -- Demand 3, of what closing any bytes comes to: the closed bytes are a valid book, closing in parts comes to what closing at once comes to, and the
 -- empty set gives back the same bytes. Assumes nothing.
-use mathlib.Core.Path.{_≡_, refl, sym, ap, ap₂, _∙_}
+use mathlib.Core.Path.{_≡_, refl, sym, ap, ap₂, _∙_, subst}
 use mathlib.Core.Logic.{⊎-elim}
 use mathlib.Core.List.{List}
 use mathlib.Core.Option.{Option, none, some}
@@ -8,7 +8,7 @@ use Prim.Native.Nat.{ℕ, _-_}
 use native.Mathlib.Omega.{arith}
 use lib.Bits.{bitOr, or-comm, or-self}
 use lib.ListN.{length, take}
-use Rattle.masks.specs.Outcome.{refused, done, Answers}
+use Rattle.masks.specs.Outcome.{Outcome, refused, done, Answers}
 use Rattle.masks.specs.Set.{bitAt}
 use Rattle.masks.specs.declared.reply.Reply.{Reply}
 use Rattle.book.specs.Limits.{maxPredicates}
@@ -17,9 +17,9 @@ use Rattle.book.specs.Format.{Judged, fault, book, judge}
 use Rattle.book.specs.Encode.{encode}
 use Rattle.book.specs.Answer.{ofJudged, onBook}
 use Rattle.closing.specs.Close.{closeOver, close, lacked, unlessLacked, closed, closing}
-use Rattle.masks.proofs.Laws.Outcome.{answers-number, answers-number-done, answers-bytes, refused-done, done-bytes}
+use Rattle.masks.proofs.Laws.Outcome.{answers-number, answers-number-done, answers-bytes}
 use Rattle.masks.proofs.Laws.Set.{bitAt-zero, bitAt-or}
-use Rattle.book.proofs.Laws.Answer.{number-range, number-some, on-book}
+use Rattle.book.proofs.Laws.Answer.{number-range, on-book}
 use Rattle.book.proofs.Laws.Trip.{judge-encode, judge-inv}
 use Rattle.closing.proofs.Laws.Lacked.{none-firstFrom, lacked-or}
 use Rattle.closing.proofs.Laws.Valid.{closed-well}
@@ -44,17 +44,25 @@ pub record Closed (S : ℕ) (s t : List ℕ) : Type 0 where
   pub has : lacked S (length (book· .arities)) ≡ none
   pub bytes : t ≡ encode (close S book·)
 
-pub closing-done : (S : ℕ) (s t : List ℕ) → closing S s ≡ done 0 t → Closed S s t
+-- what closing comes to: a refusal, neither 0 nor 7, or the closed book
+abbrev Comes : ℕ → List ℕ → Outcome → Type 0
+Comes S s (refused number value) = (number ≡ 0 → ⊥) × (number ≡ 7 → ⊥)
+Comes S s (done rounds bytes) = (rounds ≡ 0) × Closed S s bytes
+
+comes : (S : ℕ) (s : List ℕ) → Comes S s (closing S s)
 unfolding onBook closed
-closing-done S s t = go (judge s) refl
+comes S s = go (judge s) refl
   where
-    go : (j : Judged) → judge s ≡ j → ofJudged (closed S) j ≡ done 0 t → Closed S s t
-    go (fault f at) d e = refused-done e
-    go (book B) d e = tried (lacked S (length (B .arities))) refl e
+    go : (j : Judged) → judge s ≡ j → Comes S s (ofJudged (closed S) j)
+    go (fault f at) d = let n = number-range f in (λ e. omega arith, λ e. omega arith)
+    go (book B) d = tried (lacked S (length (B .arities))) refl
       where
-        tried : (o : Option ℕ) → lacked S (length (B .arities)) ≡ o → unlessLacked o (encode (close S B)) ≡ done 0 t → Closed S s t
-        tried none h e = record { book· = B; judged = d; has = h; bytes = sym (done-bytes e) }
-        tried (some p) h e = refused-done e
+        tried : (o : Option ℕ) → lacked S (length (B .arities)) ≡ o → Comes S s (unlessLacked o (encode (close S B)))
+        tried none h = (refl, record { book· = B; judged = d; has = h; bytes = refl })
+        tried (some p) h = (λ e. omega arith, λ e. omega arith)
+
+pub closing-done : (S : ℕ) (s t : List ℕ) → closing S s ≡ done 0 t → Closed S s t
+closing-done S s t e = subst (Comes S s) e (comes S s) .1
 
 module _ (S : ℕ) (s : List ℕ) (B : Book) (valid : judge s ≡ book B) where
   pub done-closing : lacked S (length (B .arities)) ≡ none → closing S s ≡ done 0 (encode (close S B))
@@ -102,28 +110,17 @@ closing-none s B valid =
 
 -- "Reply 7 never comes here"
 pub never-seven : (S : ℕ) (s out : List ℕ) {r : Reply} {after : List ℕ} → Answers (closing S s) out r after → r .number ≡ 7 → ⊥
-unfolding onBook closed
-never-seven S s out {r} {after} a z = go (judge s) a
+never-seven S s out {r} {after} a z = go (closing S s) (comes S s) a
   where
-    go : (j : Judged) → Answers (ofJudged (closed S) j) out r after → ⊥
-    go (fault f at) a = let n = number-range f in let e = sym (answers-number a) ∙ z in omega arith
-    go (book B) a = tried (lacked S (length (B .arities))) a
-      where
-        tried : (o : Option ℕ) → Answers (unlessLacked o (encode (close S B))) out r after → ⊥
-        tried none a = ⊎-elim (λ e. omega (arith, e, z)) (λ e. omega (arith, e, z)) (answers-number-done a)
-        tried (some p) a = let e = sym (answers-number a) ∙ z in omega arith
+    go : (o : Outcome) → Comes S s o → Answers o out r after → ⊥
+    go (refused number value) c a = c .1 (sym (answers-number a) ∙ z)
+    go (done rounds bytes) c a = ⊎-elim (λ e. omega (arith, e, z)) (λ e. omega (arith, e, z)) (answers-number-done a)
 
 -- 0 is given where closing is not refused
-
 pub closing-gave : (S : ℕ) (s out : List ℕ) {r : Reply} {after : List ℕ} → Answers (closing S s) out r after → r .number ≡ 0
     → closing S s ≡ done 0 (take (r .value) after)
-unfolding onBook closed
-closing-gave S s out {r} {after} a z = go (judge s) a
+closing-gave S s out {r} {after} a z = go (closing S s) (comes S s) a
   where
-    go : (j : Judged) → Answers (ofJudged (closed S) j) out r after → ofJudged (closed S) j ≡ done 0 (take (r .value) after)
-    go (fault f at) a = absurd (number-some f (sym (answers-number a) ∙ z))
-    go (book B) a = tried (lacked S (length (B .arities))) a
-      where
-        tried : (o : Option ℕ) → Answers (unlessLacked o (encode (close S B))) out r after → unlessLacked o (encode (close S B)) ≡ done 0 (take (r .value) after)
-        tried none a = ap (done 0) (sym (answers-bytes a z))
-        tried (some p) a = let n : _≡_ {A = ℕ} 8 0 = sym (answers-number a) ∙ z in absurd (omega arith)
+    go : (o : Outcome) → Comes S s o → Answers o out r after → o ≡ done 0 (take (r .value) after)
+    go (refused number value) c a = absurd (c .0 (sym (answers-number a) ∙ z))
+    go (done rounds bytes) c a = ap₂ done (c .0) (sym (answers-bytes a z))

@@ -1,14 +1,14 @@
 -- What is closed where it is held: modes and clauses that are closed in their arrays are those of the closed book. Assumes nothing.
 use mathlib.Core.Path.{_≡_, refl, sym, ap, _∙_}
 use mathlib.Core.Bool.{Bool, true, false, cond}
-use mathlib.Core.List.{List, [], _∷_, _++_}
+use mathlib.Core.List.{List, [], _∷_}
 use mathlib.Core.Option.{Option, none, some}
-use Prim.Native.Nat.{ℕ, zero, suc, _^_, _≤_, _<_, min}
+use Prim.Native.Nat.{ℕ, _^_, _≤_, _<_, min}
 use native.Mathlib.Omega.{arith}
 use lib.Dec.{ltb}
 use lib.ListN.{length, take}
 use borrow.Author.Tests.{ltb-true, leb-true}
-use Rattle.masks.specs.Lists.{joined, all}
+use Rattle.masks.specs.Lists.{all}
 use Rattle.masks.specs.Set.{bitAt}
 use Rattle.book.specs.Limits.{maxPredicates, maxClauses}
 use Rattle.book.specs.Book.{Mode, Clause, Book}
@@ -22,17 +22,13 @@ use Rattle.closing.specs.Close.{keptClauses, closedMode, modeWith, close
 use Rattle.closing.specs.Held.{ModesClosed, ClausesKept}
 use Rattle.masks.proofs.Laws.Logic.{byBool}
 use Rattle.masks.proofs.Laws.Lists.{getD-values, joined-cong, joined-cut, all-mono}
+use Rattle.book.proofs.Laws.Held.{modesOf-joined}
 use Rattle.book.proofs.Laws.Trip.{mode-known}
 use Rattle.tables.proofs.Laws.Held.{modeOf-modesOf}
 use Rattle.tables.proofs.Laws.Modes.{modeOf-all}
 use Rattle.closing.proofs.Laws.Lacked.{member-known}
 
 -- ---- modes
-
-modesOf-joined : (modes : List ℕ) (n : ℕ) → modesOf modes n ≡ joined (modeAt modes) n
-unfolding modesOf
-modesOf-joined modes zero = refl
-modesOf-joined modes (suc n) = ap (λ (l : List Mode). l ++ modeAt modes n) (modesOf-joined modes n)
 
 -- the MO of a predicate is made from its alternatives
 modeAt-made : (modes : List ℕ) (p : ℕ) → p < maxPredicates → modeAt modes p ≡ modeWith p (modeOf (modesOf modes maxPredicates) p)

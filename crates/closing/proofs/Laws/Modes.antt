@@ -1,22 +1,22 @@
 -- Modes made from what each predicate is given: they say of each predicate what it was given, they rise, and modes that rise are made again from
 -- what they say. Assumes nothing.
-use mathlib.Core.Path.{_≡_, refl, sym, ap, ap₂, _∙_}
+use mathlib.Core.Path.{_≡_, refl, sym, _∙_}
 use mathlib.Core.Bool.{Bool, true, or-false}
 use mathlib.Core.List.{List, [], _∷_, _++_}
 use mathlib.Core.Option.{Option, none, some}
 use Prim.Native.Nat.{ℕ, zero, suc, _≤_, _<_}
 use native.Mathlib.Omega.{arith}
 use lib.Dec.{eqb, ltb, leb}
-use borrow.Author.Tests.{eqb-true, eqb-false, eq-eqb, ne-eqb, ltb-true, lt-ltb, le-leb}
+use borrow.Author.Tests.{eqb-true, eq-eqb, ne-eqb, ltb-true, lt-ltb, le-leb}
 use Rattle.masks.specs.Lists.{any, all, joined}
 use Rattle.book.specs.Book.{Mode}
 use Rattle.book.specs.Format.{hasMode}
 use Rattle.book.specs.Encode.{rises}
 use Rattle.tables.specs.Table.{modeOf}
 use Rattle.closing.specs.Close.{modeWith}
-use Rattle.masks.proofs.Laws.Logic.{byBool, byRange, clash, and-intro, and-left, and-right}
+use Rattle.masks.proofs.Laws.Logic.{byRange, clash, and-intro, and-left, and-right}
 use Rattle.masks.proofs.Laws.Lists.{all-append, joined-any}
-use Rattle.tables.proofs.Laws.Modes.{either, either-none, modeOf-append, modeOf-over, rises-ext}
+use Rattle.tables.proofs.Laws.Modes.{modeOf-before, modeOf-joined, modeOf-over, rises-ext}
 
 -- ---- one mode, and modes one after the other
 
@@ -38,22 +38,8 @@ with-mode q p (some masks) t = (eqb-true q p (sym (or-false (eqb q p)) ∙ t), (
 -- ---- what the modes made say
 
 module _ (f : ℕ → Option (List ℕ)) where
-  modeOf-past : (n p : ℕ) → n ≤ p → modeOf (joined (λ q. modeWith q (f q)) n) p ≡ none
-  unfolding modeOf
-  modeOf-past zero p h = refl
-  modeOf-past (suc n) p h =
-      modeOf-append (joined (λ q. modeWith q (f q)) n) (modeWith n (f n)) p
-      ∙ ap₂ either (modeOf-past n p (omega arith)) (modeOf-other n (f n) p (λ e. omega arith))
-
   pub modeOf-made : (n p : ℕ) → p < n → modeOf (joined (λ q. modeWith q (f q)) n) p ≡ f p
-  modeOf-made zero p h = absurd (omega arith)
-  modeOf-made (suc n) p h =
-      modeOf-append (joined (λ q. modeWith q (f q)) n) (modeWith n (f n)) p
-      ∙ byBool (eqb n p)
-      (λ t. let e : n ≡ p = eqb-true n p t in
-      ap₂ either (modeOf-past n p (omega arith)) (ap (λ (k : ℕ). modeOf (modeWith n (f n)) k) (sym e) ∙ modeOf-with n (f n)) ∙ ap f e)
-      (λ t. let ne : n ≡ p → ⊥ = eqb-false n p t in
-      ap₂ either (modeOf-made n p (omega arith)) (modeOf-other n (f n) p ne) ∙ either-none (f p))
+  modeOf-made n p h = modeOf-joined (λ q. modeWith q (f q)) p (λ q. modeOf-other q (f q) p) n h ∙ modeOf-with p (f p)
 
   pub hasMode-made : (n p : ℕ) → hasMode (joined (λ q. modeWith q (f q)) n) p ≡ true → (p < n) × ((masks : List ℕ) × (f p ≡ some masks))
   unfolding hasMode
@@ -100,4 +86,5 @@ pub made-back : (ms : List Mode) (n : ℕ) → rises 0 ms ≡ true → all (λ (
     → joined (λ q. modeWith q (modeOf ms q)) n ≡ ms
 made-back ms n r t =
     rises-ext 0 0 (joined (λ q. modeWith q (modeOf ms q)) n) ms (made-rises (modeOf ms) n) r
-    (λ p. byRange p n (modeOf-made (modeOf ms) n p) (λ h. modeOf-past (modeOf ms) n p h ∙ sym (modeOf-over n ms p t h)))
+    (λ p. byRange p n (modeOf-made (modeOf ms) n p)
+    (λ h. modeOf-before (λ q. modeWith q (modeOf ms q)) p (λ q. modeOf-other q (modeOf ms q) p) n h ∙ sym (modeOf-over n ms p t h)))

@@ -7,9 +7,8 @@ use mathlib.Core.Option.{Option, some, Option·none-ne-some, Option·some-inject
 use Prim.Native.Nat.{ℕ, _^_, _≤_, _<_}
 use native.Mathlib.Omega.{arith}
 use lib.ListN.{length, getD}
-use lib.Pow.{pow-mono}
 use borrow.Author.Tests.{lt-ltb, le-leb, leb-true}
-use Rattle.masks.specs.Limits.{maxMasks, allPatterns}
+use Rattle.masks.specs.Limits.{maxMasks}
 use Rattle.masks.specs.Lists.{all}
 use Rattle.masks.specs.Constraint.{inRange}
 use Rattle.book.specs.Limits.{maxClauses, maxSubgoals}
@@ -20,11 +19,10 @@ use Rattle.tables.specs.Table.{entry, modeOf, final}
 use Rattle.closing.specs.Close.{keptClauses, closedMode, closedModes, closeOver}
 use Rattle.masks.proofs.Laws.Logic.{byBool, false-of, and-intro, and-left, and-right}
 use Rattle.masks.proofs.Laws.Constraint.{written-inRange}
-use Rattle.masks.proofs.Laws.Chains.{at-most-twenty}
 use Rattle.book.proofs.Laws.Trip.{clause-head, clause-free, clause-few, clause-goals}
 use Rattle.tables.proofs.Laws.Rounds.{final-proper}
+use Rattle.tables.proofs.Laws.Image.{final-few}
 use Rattle.tables.proofs.Laws.Modes.{modeOf-all, mode-none}
-use Rattle.tables.proofs.Laws.Valid.{arity-low}
 use Rattle.closing.proofs.Laws.Modes.{hasMode-made, made-rises, all-made}
 
 kept-few : (S : ℕ → Bool) (cs : List Clause) → length (keptClauses S cs) ≤ length cs
@@ -42,11 +40,9 @@ module _ (S : ℕ → Bool) (B : Book) (w : WellFormed B) where
   final-fits : (p : ℕ) → p < length (B .arities) → modeFits (B .arities) (record { pred = p; masks = entry (final B) p }) ≡ true
   unfolding within inRange
   final-fits p h =
-      let f = final-proper B w .written· p h in
-      let n : 2 ^ getD (B .arities) p 0 ≤ allPatterns = pow-mono (arity-low B w p) in
       and-intro (lt-ltb p (length (B .arities)) h)
-      (and-intro (le-leb (length (entry (final B) p)) maxMasks (at-most-twenty (2 ^ getD (B .arities) p 0) (entry (final B) p) n f))
-      (written-inRange (2 ^ getD (B .arities) p 0) (entry (final B) p) f))
+      (and-intro (le-leb (length (entry (final B) p)) maxMasks (final-few B w p h))
+      (written-inRange (2 ^ getD (B .arities) p 0) (entry (final B) p) (final-proper B w .written· p h)))
 
   gives-fit : (p : ℕ) (masks : List ℕ) → p < length (B .arities) → gives p ≡ some masks → modeFits (B .arities) (record { pred = p; masks = masks }) ≡ true
   unfolding gives closedMode

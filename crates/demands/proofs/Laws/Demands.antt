@@ -12,8 +12,8 @@ use Rattle.masks.specs.Set.{bitAt}
 use Rattle.masks.specs.declared.reply.Reply.{Reply}
 use Rattle.book.specs.Limits.{longest}
 use Rattle.book.specs.Book.{Book}
-use Rattle.book.specs.Format.{number, Judged, fault, book, judge}
-use Rattle.book.specs.Encode.{WellFormed}
+use Rattle.book.specs.Format.{number, fault, book, judge}
+use Rattle.book.specs.Encode.{encode, WellFormed}
 use Rattle.book.specs.declared.fault.Fault.{Fault}
 use Rattle.reading.specs.Judged.{checked}
 use Rattle.ordering.specs.Adorn.{Table, nothing}
@@ -26,13 +26,16 @@ use Rattle.closing.specs.Close.{closeOver, close, lacked, closed, closing}
 use Rattle.demands.specs.Demands as say
 use Rattle.masks.proofs.Laws.Logic.{byRange, clash}
 use Rattle.masks.proofs.Laws.Outcome.{answers-unique, answers-kept, answers-rest, answers-zero, done-bytes}
-use Rattle.book.proofs.Laws.Answer.{number-range, number-some, fault-place, book-injective, on-fault, on-book}
+use Rattle.book.proofs.Laws.Answer.{number-range, fault-place, book-injective, on-fault, on-book}
 use Rattle.book.proofs.Laws.Bound.{encode-length}
 use Rattle.book.proofs.Laws.Trip.{judge-encode, judge-inv}
+use Rattle.reading.proofs.Laws.Judged.{check-zero}
+use Rattle.tables.proofs.Laws.Image.{table-length}
 use Rattle.tables.proofs.Laws.Rounds.{sameTable-true, true-sameTable, rounds-least, rounds-settled}
 use Rattle.choices.proofs.Laws.Examples.{rows, EachHolds, examples}
 use Rattle.choices.proofs.Laws.Moded.{orderable}
 use Rattle.choices.proofs.Laws.Plan.{seven-none, seven-iff, plan-iff, plan-sound, plan-exact, plan-query-first, plan-first}
+use Rattle.choices.proofs.Laws.Rows.{plan-length}
 use Rattle.closing.proofs.Laws.Valid.{closed-well}
 use Rattle.closing.proofs.Laws.Close.{final-close}
 use Rattle.closing.proofs.Laws.Closing.{closed-lacks, closing-done, closing-valid, done-closing, closing-twice, closing-turned, closing-again, closing-none, never-seven, closing-gave}
@@ -56,12 +59,8 @@ faulty s f at e =
       close· = λ set. sym (on-fault (closed set) s f at (sym e));
     }
 
-checked-book : (s : List ℕ) → checked (judge s) .number ≡ 0 → (B : Book) × (judge s ≡ book B)
-checked-book s = go (judge s)
-  where
-    go : (j : Judged) → checked j .number ≡ 0 → (B : Book) × (j ≡ book B)
-    go (fault f at) e = absurd (number-some f e)
-    go (book B) e = (B, refl)
+encoded : (s : List ℕ) (B : Book) → (encode B ≡ s) × WellFormed B → judge s ≡ book B
+encoded s B x = subst (λ (t : List ℕ). judge t ≡ book B) (x .0) (judge-encode B (x .1))
 
 pub demand-1 : say.Demand1
 demand-1 =
@@ -69,8 +68,8 @@ demand-1 =
       defined = λ op out. one-answer (say.outcome op) out;
       kept = λ op a. answers-kept a;
       rest = λ op a. answers-rest a;
-      books = λ s B. (judge-inv s B, λ x. subst (λ (t : List ℕ). judge t ≡ book B) (x .0) (judge-encode B (x .1)));
-      checks = λ s. (λ e. checked-book s (ap (λ (r : Reply). r .number) e), λ x. ap checked (x .1));
+      books = λ s B. (judge-inv s B, encoded s B);
+      checks = λ s. (λ e. let x = check-zero s (ap (λ (r : Reply). r .number) e) in (x .0, encoded s (x .0) (x .1, x .2)), λ x. ap checked (x .1));
       faults = faulty;
     }
 
@@ -99,8 +98,10 @@ module _ (s : List ℕ) (B : Book) (valid : judge s ≡ book B) where
         last = refl;
         settled = its-own-next;
         least = no-sooner;
+        tableRoom = table-length B well;
         seven = seven-iff s B valid;
         planned = plan-iff s B valid;
+        planRoom = plan-length B well;
         choice· = λ x. plan-sound s B valid (plan-iff s B valid .1 x) .0;
         wellModed = λ x. plan-sound s B valid (plan-iff s B valid .1 x) .1;
         reached = plan-exact B well;

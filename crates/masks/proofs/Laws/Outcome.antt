@@ -1,6 +1,6 @@
 -- An outcome fixes the reply and every byte of the room: two answers that it allows are equal, a refusal leaves the room as it was, and a
--- success leaves every byte after the result. Assumes nothing.
-use mathlib.Core.Path.{_≡_, refl, sym, ap, _∙_}
+-- success leaves every byte after the result. In a room that is large enough the answer tells the outcome whole. Assumes nothing.
+use mathlib.Core.Path.{_≡_, refl, sym, ap, ap₂, _∙_}
 use mathlib.Core.Bool.{Bool, true, false}
 use mathlib.Core.Logic.{_⊎_, inl, inr}
 use mathlib.Core.List.{List, [], _++_}
@@ -8,7 +8,7 @@ use Prim.Native.Nat.{ℕ, _+_, _≤_, _<_}
 use native.Mathlib.Omega.{arith}
 use lib.Dec.{ltb}
 use lib.ListN.{length, take, drop, length-append, length-drop}
-use lib.Seq.{take-at, drop-at, sets, sets-eq}
+use lib.Seq.{take-at, drop-at, length-take-le, sets, sets-eq}
 use borrow.Author.Tests.{lt-ltb, le-ltb, ltb-false}
 use Rattle.masks.specs.Outcome.{Outcome, refused, done, reply, left, Answers}
 use Rattle.masks.specs.declared.reply.Reply.{Reply}
@@ -118,6 +118,38 @@ unfolding reply
 answers-number-done {rounds} {bytes} {out} {r} {after} a =
     byBool (ltb (length out) (length bytes)) (λ t. inr (ap (λ (x : Reply). x .number) (a .replies) ∙ rw t))
     (λ t. inl (ap (λ (x : Reply). x .number) (a .replies) ∙ rw t))
+
+-- ---- in a room that is large enough
+
+-- no refusal has number 0, and a result has from m to n bytes
+abbrev pub Sized : ℕ → ℕ → Outcome → Type 0
+Sized m n (refused number value) = number ≡ 0 → ⊥
+Sized m n (done rounds bytes) = (m ≤ length bytes) × (length bytes ≤ n)
+
+-- the bytes of a result stand at the front
+pub record Told (m n : ℕ) (o : Outcome) (r : Reply) (after : List ℕ) : Type 0 where
+  pub long : m ≤ length (take (r .value) after)
+  pub most : r .value ≤ n
+  pub fits : r .value ≤ length after
+  pub size : r .value ≡ length (take (r .value) after)
+  pub is : o ≡ done (r .rounds) (take (r .value) after)
+
+module _ (m n : ℕ) {out : List ℕ} {r : Reply} {after : List ℕ} where
+  pub refusal-told : (o : Outcome) → Sized m n o → Answers o out r after → length out ≡ n → (r .number ≡ 0 → ⊥) → o ≡ refused (r .number) (r .value)
+  unfolding reply
+  refusal-told (refused number value) f a size h = sym (ap (λ (x : Reply). refused (x .number) (x .value)) (a .replies))
+  refusal-told (done rounds bytes) f a size h = absurd (h (answers-zero a (rw size (f .1))))
+
+  pub result-told : (o : Outcome) → Sized m n o → Answers o out r after → length out ≡ n → r .number ≡ 0 → Told m n o r after
+  unfolding reply
+  result-told (refused number value) f a size h = absurd (f (sym (answers-number a) ∙ h))
+  result-told (done rounds bytes) f a size h =
+      let t = le-ltb (length out) (length bytes) (rw size (f .1)) in
+      let e : r .rounds ≡ rounds = ap (λ (x : Reply). x .rounds) (a .replies) ∙ rw t in
+      let v : r .value ≡ length bytes = ap (λ (x : Reply). x .value) (a .replies) ∙ rw t in
+      let l : r .value ≤ length after = omega (arith, answers-length a) in
+      let s = length-take-le (r .value) after l in
+      record { long = omega arith; most = omega arith; fits = l; size = sym s; is = ap₂ done (sym e) (sym (answers-bytes a h)) }
 
 -- ---- outcomes that are equal
 

@@ -3,7 +3,7 @@ use mathlib.Core.Path.{_≡_, refl, ap, ap₂, _∙_}
 use mathlib.Core.Bool.{Bool, true, false, cond}
 use mathlib.Core.List.{List, [], _∷_, _++_}
 use mathlib.Core.Option.{none, some}
-use Prim.Native.Nat.{ℕ, zero, suc, _+_, _*_, _≤_, _<_}
+use Prim.Native.Nat.{ℕ, _+_, _*_, _<_}
 use native.Mathlib.Numerals.{add-one}
 use native.Mathlib.Omega.{arith}
 use lib.Dec.{eqb}
@@ -17,11 +17,12 @@ use Rattle.masks.proofs.Laws.Lists.{values-cong, getD-values}
 use Rattle.book.specs.Limits.{maxPredicates}
 use Rattle.book.specs.Book.{Mode}
 use Rattle.book.specs.Held.{hasIn, masksIn, modeBytes, modeAt, modesOf, StoredMode, modeSize}
+use Rattle.book.proofs.Laws.Held.{modesOf-joined}
 use Rattle.book.proofs.Laws.Windows.{getD-window}
 use Rattle.ordering.specs.Adorn.{Table}
 use Rattle.ordering.specs.Held.{entryIn, tableIn, Low}
 use Rattle.writing.proofs.Laws.Chunks.{Chunks}
-use Rattle.tables.proofs.Laws.Modes.{either, either-none, modeOf-append}
+use Rattle.tables.proofs.Laws.Modes.{modeOf-joined}
 use Rattle.tables.specs.Table.{modeOf, firstNeed, firstNeeds}
 use Rattle.tables.specs.Image.{row, rows}
 
@@ -55,39 +56,14 @@ stored-low {modes} {after} {p} s h low i l =
 module _ (modes : List ℕ) (p : ℕ) where
   modeAt-other : (i : ℕ) → (i ≡ p → ⊥) → modeOf (modeAt modes i) p ≡ none
   unfolding modeOf modeAt
-  modeAt-other i ne = go (hasIn (modeBytes modes i))
-    where
-      go : (b : Bool) → modeOf (cond {A = List Mode} b (record { pred = i; masks = entryIn modes i } ∷ []) []) p ≡ none
-      go true = rw (ne-eqb i p ne)
-      go false = refl
-
-  modesOf-before : (n : ℕ) → n ≤ p → modeOf (modesOf modes n) p ≡ none
-  unfolding modesOf modeOf
-  modesOf-before zero h = refl
-  modesOf-before (suc n) h =
-      modeOf-append (modesOf modes n) (modeAt modes n) p
-      ∙ ap₂ either (modesOf-before n (omega arith)) (modeAt-other n (λ e. omega arith))
+  modeAt-other i ne = byBool (hasIn (modeBytes modes i)) (λ t. rw (t, ne-eqb i p ne)) (λ t. rw t)
 
   modeAt-own : modeOf (modeAt modes p) p ≡ cond (hasIn (modeBytes modes p)) (some (entryIn modes p)) none
   unfolding modeOf modeAt
-  modeAt-own = go (hasIn (modeBytes modes p))
-    where
-      go : (b : Bool) → modeOf (cond {A = List Mode} b (record { pred = p; masks = entryIn modes p } ∷ []) []) p ≡ cond b (some (entryIn modes p)) none
-      go true = rw (eq-eqb p p refl)
-      go false = refl
+  modeAt-own = byBool (hasIn (modeBytes modes p)) (λ t. rw (t, eq-eqb p p refl)) (λ t. rw t)
 
   pub modeOf-modesOf : (n : ℕ) → p < n → modeOf (modesOf modes n) p ≡ cond (hasIn (modeBytes modes p)) (some (entryIn modes p)) none
-  unfolding modesOf
-  modeOf-modesOf zero h = absurd (omega arith)
-  modeOf-modesOf (suc n) h =
-      modeOf-append (modesOf modes n) (modeAt modes n) p
-      ∙ byBool (eqb n p)
-      (λ t.
-      let e = eqb-true n p t in
-      ap₂ either (modesOf-before n (omega arith)) (ap (λ (i : ℕ). modeOf (modeAt modes i) p) e) ∙ modeAt-own)
-      (λ t.
-      let ne = eqb-false n p t in
-      ap (either (modeOf (modesOf modes n) p)) (modeAt-other n ne) ∙ either-none (modeOf (modesOf modes n) p) ∙ modeOf-modesOf n (omega arith))
+  modeOf-modesOf n h = rw (modesOf-joined modes n) (modeOf-joined (modeAt modes) p modeAt-other n h ∙ modeAt-own)
 
 -- so what p needs first: nothing where it has no MO, else its alternatives, minimised
 module _ (modes : List ℕ) (p : ℕ) (h : p < maxPredicates) where

@@ -3,11 +3,11 @@ use mathlib.Core.Path.{_≡_, refl, sym, ap, ap₂, _∙_}
 use mathlib.Core.Bool.{Bool, true, false, cond, _||_}
 use mathlib.Core.List.{List, [], _∷_, _++_}
 use mathlib.Core.Option.{Option, none, some, Option·none-ne-some, Option·some-injective}
-use Prim.Native.Nat.{ℕ, suc, _≤_, _<_}
+use Prim.Native.Nat.{ℕ, zero, suc, _≤_, _<_}
 use native.Mathlib.Omega.{arith}
 use lib.Dec.{eqb, ltb, leb}
 use borrow.Author.Tests.{eqb-true, eq-eqb, ne-eqb, ltb-true, leb-true, le-leb}
-use Rattle.masks.specs.Lists.{any, all}
+use Rattle.masks.specs.Lists.{any, all, joined}
 use Rattle.book.specs.Book.{Mode}
 use Rattle.book.specs.Format.{hasMode}
 use Rattle.book.specs.Encode.{rises}
@@ -17,15 +17,15 @@ use Rattle.masks.proofs.Laws.Logic.{byBool, byRange, clash, and-intro, and-left
 -- ---- modes one after the other
 
 -- the first of two that is there
-abbrev pub either : Option (List ℕ) → Option (List ℕ) → Option (List ℕ)
+abbrev either : Option (List ℕ) → Option (List ℕ) → Option (List ℕ)
 either none y = y
 either (some x) y = some x
 
-pub either-none : (x : Option (List ℕ)) → either x none ≡ x
+either-none : (x : Option (List ℕ)) → either x none ≡ x
 either-none none = refl
 either-none (some x) = refl
 
-pub modeOf-append : (xs ys : List Mode) (p : ℕ) → modeOf (xs ++ ys) p ≡ either (modeOf xs p) (modeOf ys p)
+modeOf-append : (xs ys : List Mode) (p : ℕ) → modeOf (xs ++ ys) p ≡ either (modeOf xs p) (modeOf ys p)
 unfolding modeOf
 modeOf-append [] ys p = refl
 modeOf-append (m ∷ xs) ys p = go (eqb (m .pred) p) (modeOf-append xs ys p)
@@ -34,6 +34,20 @@ modeOf-append (m ∷ xs) ys p = go (eqb (m .pred) p) (modeOf-append xs ys p)
         → cond b (some (m .masks)) (modeOf (xs ++ ys) p) ≡ either (cond b (some (m .masks)) (modeOf xs p)) (modeOf ys p)
     go true r = refl
     go false r = r
+
+-- modes one predicate after the other, at most one of each: that of p is the one that is p's
+module _ (f : ℕ → List Mode) (p : ℕ) (other : (q : ℕ) → (q ≡ p → ⊥) → modeOf (f q) p ≡ none) where
+  pub modeOf-before : (n : ℕ) → n ≤ p → modeOf (joined f n) p ≡ none
+  unfolding modeOf
+  modeOf-before zero h = refl
+  modeOf-before (suc n) h = modeOf-append (joined f n) (f n) p ∙ ap₂ either (modeOf-before n (omega arith)) (other n (λ e. omega arith))
+
+  pub modeOf-joined : (n : ℕ) → p < n → modeOf (joined f n) p ≡ modeOf (f p) p
+  modeOf-joined zero h = absurd (omega arith)
+  modeOf-joined (suc n) h =
+      modeOf-append (joined f n) (f n) p
+      ∙ byRange p n (λ l. ap₂ either (modeOf-joined n l) (other n (λ e. omega arith)) ∙ either-none (modeOf (f p) p))
+      (λ l. let e : n ≡ p = omega arith in ap₂ either (modeOf-before n l) (ap (λ (q : ℕ). modeOf (f q) p) e))
 
 -- ---- a test of all of them
 

@@ -1,11 +1,11 @@
 -- Bytes written one run after another, and the room for them. Assumes nothing.
 use mathlib.Core.Path.{_≡_, refl, sym, ap, ap₂, _∙_}
 use mathlib.Core.List.{List, [], _∷_, _++_}
-use Prim.Native.Nat.{ℕ, _≤_}
+use Prim.Native.Nat.{ℕ, _+_, _≤_}
 use native.Mathlib.Omega.{arith}
 use native.Mathlib.Nat.{add-zero}
-use lib.ListN.{length, getD, take, length-append, length-take}
-use lib.Seq.{sets, length-sets}
+use lib.ListN.{length, getD, take, drop, length-append, length-take}
+use lib.Seq.{sets, length-sets, sets-eq, take-at}
 use Rattle.masks.proofs.Laws.Lists.{take-front, sets-append}
 use Rattle.writing.specs.Wrote.{Room, Wrote}
 
@@ -27,6 +27,12 @@ wrote-as e w = rw (← e) w
 
 pub wrote-length : {a b l : List ℕ} {at n : ℕ} → Wrote a b at n l → length b ≡ length a
 wrote-length {a} {b} {l} {at} w = ap length (w .is) ∙ length-sets a at l
+
+-- the front of what was written from the start
+pub wrote-front : {a b l : List ℕ} {n : ℕ} → Wrote a b 0 n l → Room a 0 l → take n b ≡ l
+wrote-front {a} {b} {l} {n} w r =
+    let e = w .ends in
+    ap (take n) (w .is ∙ sets-eq l a 0 r) ∙ take-at l (drop (0 + length l) a) n (omega arith)
 
 -- ---- room for two runs is room for the first, and when that is written, for the second
 

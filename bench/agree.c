@@ -1,0 +1,318 @@
+// agree N SEED: the library beside the C version on N inputs, random and damaged. Each input goes through every operation of both. The replies must be
+// the same in number, value and rounds, the outputs byte for byte; the bytes before and after every buffer, those of the room behind an output, the
+// whole room at a refusal, and the inputs must stay as they were. Prints how often each reply came, or the first input that shows a difference.
+#include <shodhvirup.h>
+#include <stdio.h>
+#include <stdlib.h>
+#include <string.h>
+
+#include "limit.h"
+
+#define GUARD 64
+#define LONGEST 8192
+
+// ---- random numbers: xorshift
+
+static uint64_t state;
+
+static uint64_t next(void)
+{
+    state ^= state << 13;
+    state ^= state >> 7;
+    state ^= state << 17;
+    return state;
+}
+
+// below n
+static unsigned pick(unsigned n)
+{
+    return (unsigned)(next() >> 11) % n;
+}
+
+// ---- inputs
+
+typedef struct {
+    uint8_t bytes[LONGEST];
+    size_t length;
+} input;
+
+static void add(input *s, unsigned byte)
+{
+    if (s->length < LONGEST)
+        s->bytes[s->length++] = (uint8_t)byte;
+}
+
+static void add_mark(input *s, const char *mark)
+{
+    add(s, (unsigned char)mark[0]);
+    add(s, (unsigned char)mark[1]);
+}
+
+static unsigned argument(unsigned variables, int in_head)
+{
+    unsigned k = pick(12);
+    if (k == 0)
+        return 255;
+    if (k == 1 && !in_head)
+        return 254;
+    return pick(variables);
+}
+
+static void add_call(input *s, const char *mark, unsigned pred, unsigned arity, unsigned variables)
+{
+    add_mark(s, mark);
+    add(s, pred);
+    for (unsigned i = 0; i < arity; i++)
+        add(s, argument(variables, mark[0] == 'C'));
+}
+
+static void add_body(input *s, unsigned most, const unsigned *arity, unsigned preds, unsigned variables)
+{
+    for (unsigned n = pick(most + 1); n > 0; n--) {
+        unsigned p = pick(preds);
+        add_call(s, "SG", p, arity[p], variables);
+    }
+}
+
+// A book. Most are small and keep the limits; `over` lets the counts go one above them, and `clash` lets `MO` records fall and clauses be given to
+// predicates that have them.
+static void make_book(input *s, int over, int clash)
+{
+    static const unsigned sizes[] = {1, 2, 3, 4, 6, 10, 20, 64};
+    unsigned arity[65], has[65];
+    unsigned preds = over && pick(3) == 0 ? 64 + pick(2) : 1 + pick(sizes[pick(8)]);
+    unsigned most = 1 + pick(6), variables = 1 + pick(pick(4) == 0 ? 16 : 5);
+    unsigned modes = pick(4), clauses = over && pick(3) == 0 ? 64 + pick(2) : pick(1 + 2 * preds > 64 ? 65 : 1 + 2 * preds);
+    s->length = 0;
+    for (unsigned p = 0; p < preds; p++) {
+        arity[p] = pick(most + 1);
+        add_mark(s, "PR");
+        add(s, arity[p]);
+    }
+    for (unsigned p = 0; p < preds; p++) {
+        has[p] = pick(4) < modes;
+        if (!has[p])
+            continue;
+        unsigned n = pick(10) == 0 ? pick(21) : pick(4);
+        add_mark(s, "MO");
+        add(s, clash && pick(4) == 0 ? pick(p + 1) : p);
+        add(s, n);
+        while (n-- > 0)
+            add(s, pick(1u << arity[p]));
+    }
+    for (unsigned k = 0; k < clauses; k++) {
+        unsigned p = pick(preds);
+        if (has[p] && !(clash && pick(4) == 0))
+            continue;
+        add_call(s, "CL", p, arity[p], variables);
+        add_body(s, over && pick(20) == 0 ? 9 : pick(2) == 0 ? 3 : 8, arity, preds, variables);
+    }
+    add_mark(s, "QU");
+    add_body(s, over ? 9 : pick(2) == 0 ? 2 : 8, arity, preds, variables);
+}
+
+static const char *const marks[] = {"PR", "MO", "CL", "SG", "QU", "CN"};
+
+// A change of a few bytes: replaced, dropped, doubled, cut off, added behind, or a mark put in.
+static void damage(input *s)
+{
+    for (unsigned turns = 1 + pick(3); turns > 0; turns--) {
+        size_t at = s->length == 0 ? 0 : pick((unsigned)s->length);
+        switch (pick(6)) {
+        case 0:
+            if (s->length > 0)
+                s->bytes[at] = (uint8_t)(pick(2) == 0 ? pick(256) : pick(24));
+            break;
+        case 1:
+            if (s->length > 0) {
+                memmove(s->bytes + at, s->bytes + at + 1, s->length - at - 1);
+                s->length--;
+            }
+            break;
+        case 2:
+            if (s->length > 0 && s->length < LONGEST) {
+                memmove(s->bytes + at + 1, s->bytes + at, s->length - at);
+                s->length++;
+            }
+            break;
+        case 3:
+            s->length = at;
+            break;
+        case 4:
+            add_mark(s, marks[pick(6)]);
+            for (unsigned n = pick(4); n > 0; n--)
+                add(s, pick(20));
+            break;
+        default:
+            if (at + 2 <= s->length)
+                memcpy(s->bytes + at, marks[pick(6)], 2);
+        }
+    }
+}
+
+// Marks and bytes in any turn.
+static void make_noise(input *s)
+{
+    s->length = 0;
+    for (unsigned n = pick(40); n > 0; n--) {
+        if (pick(2) == 0)
+            add_mark(s, marks[pick(6)]);
+        else
+            add(s, pick(2) == 0 ? pick(256) : pick(8));
+    }
+}
+
+static void make(input *s)
+{
+    unsigned kind = pick(16);
+    if (kind == 0) {
+        make_noise(s);
+        return;
+    }
+    make_book(s, kind == 1, kind == 2);
+    if (kind >= 8)
+        damage(s);
+}
+
+// ---- one call of both
+
+enum { CHECK, ANALYSE, PLAN, CLOSE, CHOICE, JOINT, OPERATIONS };
+static const char *const names[] = {"check", "analyse", "plan", "close", "choice", "joint"};
+
+typedef struct {
+    input first, second;
+    uint64_t set;
+    unsigned arity;
+} question;
+
+static shodh_reply ask(int ours, int op, const question *q, const uint8_t *x, const uint8_t *y, uint8_t *out, size_t room)
+{
+    size_t n = q->first.length, m = q->second.length;
+    uint8_t arity = (uint8_t)q->arity;
+    switch (op) {
+    case CHECK:
+        return ours ? shodh_check(x, n) : limit_check(x, n);
+    case ANALYSE:
+        return ours ? shodh_analyse(x, n, out, room) : limit_analyse(x, n, out, room);
+    case PLAN:
+        return ours ? shodh_plan(x, n, out, room) : limit_plan(x, n, out, room);
+    case CLOSE:
+        return ours ? shodh_close(x, n, q->set, out, room) : limit_close(x, n, q->set, out, room);
+    case CHOICE:
+        return ours ? shodh_choice(arity, x, n, y, m, out, room) : limit_choice(arity, x, n, y, m, out, room);
+    default:
+        return ours ? shodh_joint(arity, x, n, y, m, out, room) : limit_joint(arity, x, n, y, m, out, room);
+    }
+}
+
+static uint8_t expected[SHODH_PLAN_SIZE], room_space[GUARD + SHODH_PLAN_SIZE + 256 + GUARD], first_space[GUARD + LONGEST + GUARD],
+    second_space[GUARD + LONGEST + GUARD];
+
+// what stands in a buffer before a call
+static uint8_t old(size_t i)
+{
+    return (uint8_t)(i * 37 + 11);
+}
+
+// the input, between guards; a null pointer where there is none
+static uint8_t *lend(uint8_t *space, const input *s)
+{
+    for (size_t i = 0; i < GUARD; i++)
+        space[i] = space[GUARD + s->length + i] = old(i);
+    memcpy(space + GUARD, s->bytes, s->length);
+    return s->length == 0 ? NULL : space + GUARD;
+}
+
+static int kept(const uint8_t *space, const input *s)
+{
+    for (size_t i = 0; i < GUARD; i++)
+        if (space[i] != old(i) || space[GUARD + s->length + i] != old(i))
+            return 0;
+    return memcmp(space + GUARD, s->bytes, s->length) == 0;
+}
+
+static void fail(int op, const question *q, size_t room, const char *what)
+{
+    printf("%s: %s; room %zu, arity %u, set %016llx, first ", names[op], what, room, q->arity, (unsigned long long)q->set);
+    for (size_t i = 0; i < q->first.length; i++)
+        printf("%02x", q->first.bytes[i]);
+    printf(", second ");
+    for (size_t i = 0; i < q->second.length; i++)
+        printf("%02x", q->second.bytes[i]);
+    printf("\n");
+    exit(1);
+}
+
+// Both on one question, in a room of that size, which is at most what there is; the number of the reply.
+static unsigned compare(int op, const question *q, size_t room)
+{
+    uint8_t *x = lend(first_space, &q->first), *y = lend(second_space, &q->second), *out = room == 0 ? NULL : room_space + GUARD;
+    shodh_reply theirs = ask(0, op, q, q->first.bytes, q->second.bytes, expected, room < sizeof expected ? room : sizeof expected), r;
+    size_t written = op == CHECK || theirs.number != 0 ? 0 : (size_t)theirs.value;
+
+    for (size_t i = 0; i < GUARD + room + GUARD; i++)
+        room_space[i] = old(i);
+    r = ask(1, op, q, x, y, out, room);
+    if (r.number != theirs.number || r.value != theirs.value || r.rounds != theirs.rounds)
+        fail(op, q, room, "the replies differ");
+    if (memcmp(room_space + GUARD, expected, written) != 0)
+        fail(op, q, room, "the outputs differ");
+    for (size_t i = 0; i < GUARD + room + GUARD; i++)
+        if ((i < GUARD || i >= GUARD + written) && room_space[i] != old(i))
+            fail(op, q, room, "a byte changed that must stay");
+    if (!kept(first_space, &q->first) || !kept(second_space, &q->second))
+        fail(op, q, room, "an input changed");
+    return r.number;
+}
+
+static unsigned long long replies[OPERATIONS][10];
+
+// One operation: in a room that is large enough, then, where something was written, in one of about that size or less.
+static void try(int op, const question *q)
+{
+    shodh_reply r = ask(0, op, q, q->first.bytes, q->second.bytes, expected, sizeof expected);
+    size_t needed = r.number == 0 ? (size_t)r.value : 0;
+
+    replies[op][compare(op, q, needed + pick(256))]++;
+    if (needed == 0)
+        return;
+    replies[op][compare(op, q, pick(2) == 0 ? needed - 1 + pick(3) : pick((unsigned)needed + 1))]++;
+}
+
+static void make_masks(input *s, unsigned arity)
+{
+    unsigned limit = arity > 6 ? 64 : 1u << arity;
+    s->length = 0;
+    for (unsigned n = pick(pick(10) == 0 ? 23 : 7); n > 0; n--)
+        add(s, pick(40) == 0 ? pick(256) : pick(limit));
+}
+
+int main(int argc, char **argv)
+{
+    static question book, lists;
+    unsigned long inputs = argc > 1 ? strtoul(argv[1], NULL, 10) : 1000000;
+
+    state = argc > 2 ? strtoull(argv[2], NULL, 10) : 20261115;
+    for (unsigned long k = 0; k < inputs; k++) {
+        make(&book.first);
+        book.set = pick(4) == 0 ? next() : next() & ((1u << pick(12)) - 1);
+        for (int op = CHECK; op <= CLOSE; op++)
+            try(op, &book);
+        lists.arity = pick(8);
+        make_masks(&lists.first, lists.arity);
+        make_masks(&lists.second, lists.arity);
+        try(CHOICE, &lists);
+        try(JOINT, &lists);
+    }
+    printf("%lu inputs agree. Replies:\n%-8s", inputs, "");
+    for (int n = 0; n < 10; n++)
+        printf(" %10d", n);
+    printf("\n");
+    for (int op = 0; op < OPERATIONS; op++) {
+        printf("%-8s", names[op]);
+        for (int n = 0; n < 10; n++)
+            printf(" %10llu", replies[op][n]);
+        printf("\n");
+    }
+    return 0;
+}

@@ -1,0 +1,79 @@
+// calls WORKLOADS NAME OPERATION N: one operation, N times, on each book of that name. The instructions are counted from outside (see run).
+// A line of WORKLOADS is a name and a book in hexadecimal digits. With -DLIMIT it is the C version that is called, else the library.
+#include <shodhvirup.h>
+#include <stdio.h>
+#include <stdlib.h>
+#include <string.h>
+
+#include "limit.h"
+
+#ifdef LIMIT
+#define CALL(operation) limit_##operation
+#else
+#define CALL(operation) shodh_##operation
+#endif
+
+static char line[1 << 16];
+static uint8_t book[1 << 15], out[SHODH_PLAN_SIZE];
+
+static int digit(char c)
+{
+    return c <= '9' ? c - '0' : c - 'a' + 10;
+}
+
+static const char *const operations[] = {"check", "analyse", "plan", "close-none", "close-all", "close-beyond"};
+
+// the closing's set: none, every predicate of the book, whose `PR` records come first, or every number
+static uint64_t chosen(int operation, size_t n)
+{
+    unsigned preds = 0;
+
+    if (operation == 3)
+        return 0;
+    while (operation == 4 && 3 * preds + 3 <= n && memcmp(book + 3 * preds, "PR", 2) == 0)
+        preds++;
+    return preds == 0 || preds == 64 ? ~(uint64_t)0 : ((uint64_t)1 << preds) - 1;
+}
+
+static shodh_reply call(int operation, size_t n, uint64_t set)
+{
+    switch (operation) {
+    case 0:
+        return CALL(check)(book, n);
+    case 1:
+        return CALL(analyse)(book, n, out, sizeof out);
+    case 2:
+        return CALL(plan)(book, n, out, sizeof out);
+    default:
+        return CALL(close)(book, n, set, out, sizeof out);
+    }
+}
+
+int main(int argc, char **argv)
+{
+    FILE *file = argc == 5 ? fopen(argv[1], "r") : NULL;
+    uint64_t sum = 0;
+    int operation = 0;
+
+    while (argc == 5 && operation < 6 && strcmp(operations[operation], argv[3]) != 0)
+        operation++;
+    if (file == NULL || operation == 6) {
+        fprintf(stderr, "usage: calls WORKLOADS NAME check|analyse|plan|close-none|close-all|close-beyond N\n");
+        return 2;
+    }
+    while (fgets(line, sizeof line, file)) {
+        char *name = strtok(line, " \n"), *digits = strtok(NULL, " \n");
+        size_t n = 0;
+        if (name == NULL || digits == NULL || strcmp(name, argv[2]) != 0)
+            continue;
+        for (; digits[2 * n] != 0; n++)
+            book[n] = (uint8_t)(digit(digits[2 * n]) * 16 + digit(digits[2 * n + 1]));
+        uint64_t set = chosen(operation, n);
+        for (long i = atol(argv[4]); i > 0; i--) {
+            shodh_reply r = call(operation, n, set);
+            sum += r.number * 7 + r.value + r.rounds;
+        }
+    }
+    printf("%llu\n", (unsigned long long)sum);
+    return 0;
+}

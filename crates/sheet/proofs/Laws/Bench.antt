@@ -1,0 +1,72 @@
+-- Sheets, computed from their definitions: numbers and lines by themselves, then document 01's. Assumes nothing.
+use mathlib.Core.Path.{_≡_, refl}
+use mathlib.Core.List.{List, [], _∷_, _++_}
+use Prim.Native.Nat.{ℕ}
+use Rattle.book.specs.Format.{fault}
+use Rattle.book.specs.Encode.{run}
+use Rattle.book.specs.declared.fault.Fault.the-variants.{OutOfRange}
+use Rattle.tables.proofs.Laws.Examples.{k1, k2, k11-wildcard}
+use Rattle.choices.proofs.Laws.Examples.{compute-plan}
+use Rattle.sheet.specs.Sheet.{decimalIn, decimal, field, line, constraintLine, constraintLines, roundsLine, queryLine, orderLine, refusalLine, orderLines, bookSheet, judgedSheet}
+
+compute-sheet : Unit {0}
+unfolding compute-plan decimalIn decimal field constraintLine constraintLines roundsLine queryLine orderLine refusalLine orderLines bookSheet
+compute-sheet = tt
+
+-- ---- the definitions, each by itself
+
+-- 0, 9, 10 and 3,712
+pub numbers : decimal 0 ∷ decimal 9 ∷ decimal 10 ∷ decimal 3712 ∷ [] ≡ (48 ∷ []) ∷ (57 ∷ []) ∷ (49 ∷ 48 ∷ []) ∷ (51 ∷ 55 ∷ 49 ∷ 50 ∷ []) ∷ []
+unfolding compute-sheet
+numbers = refl
+
+-- "parted by single spaces, with none at its end, and each line ends in a newline": `R 12`
+pub spaces : line 82 (field 12) ≡ 82 ∷ 32 ∷ 49 ∷ 50 ∷ 10 ∷ []
+unfolding compute-sheet
+spaces = refl
+
+-- "masks in decimal, or `none`": `C 7 none`, and `C 7 0`, since nothing is not zero
+pub ill-line : constraintLine 7 [] ≡ 67 ∷ 32 ∷ 55 ∷ 32 ∷ 110 ∷ 111 ∷ 110 ∷ 101 ∷ 10 ∷ []
+unfolding compute-sheet
+ill-line = refl
+
+pub trivial-line : constraintLine 7 (0 ∷ []) ≡ 67 ∷ 32 ∷ 55 ∷ 32 ∷ 48 ∷ 10 ∷ []
+unfolding compute-sheet
+trivial-line = refl
+
+-- "an empty query prints `Q` alone"
+pub empty-query : queryLine [] ≡ 81 ∷ 10 ∷ []
+unfolding compute-sheet
+empty-query = refl
+
+-- "(clause, pattern, places)": `O 0 1 1 0`
+pub order : orderLine (record { clause· = 0; pattern = 1; places = 1 ∷ 0 ∷ [] }) ≡ 79 ∷ 32 ∷ 48 ∷ 32 ∷ 49 ∷ 32 ∷ 49 ∷ 32 ∷ 48 ∷ 10 ∷ []
+unfolding compute-sheet
+order = refl
+
+-- ---- sheets
+
+-- a letter and its fields of one digit each
+abbrev digits : ℕ → List ℕ → List ℕ
+digits letter fields = line letter (run (λ d. 32 ∷ d ∷ []) fields)
+
+-- "Printed whole"
+pub k1-sheet : bookSheet (k1 .book)
+    ≡ digits 67 (48 ∷ 48 ∷ []) ++ digits 67 (49 ∷ 49 ∷ []) ++ digits 67 (50 ∷ 49 ∷ []) ++ digits 67 (51 ∷ 49 ∷ []) ++ digits 82 (49 ∷ []) ++ digits 81 (49 ∷ 48 ∷ []) ++ digits 79 (48 ∷ 49 ∷ 49 ∷ 48 ∷ [])
+unfolding compute-sheet
+k1-sheet = refl
+
+-- `QU` alone: `R 0` and `Q`
+pub k2-sheet : bookSheet (k2 .book) ≡ digits 82 (48 ∷ []) ++ digits 81 []
+unfolding compute-sheet
+k2-sheet = refl
+
+-- "At 7, `X 7 0` stands in place of the `Q` and `O` lines."
+pub k11-sheet : bookSheet (k11-wildcard .book) ≡ digits 67 (48 ∷ 49 ∷ []) ++ digits 82 (48 ∷ []) ++ digits 88 (55 ∷ 48 ∷ [])
+unfolding compute-sheet
+k11-sheet = refl
+
+-- "At 1 to 6 it prints only `X`, number, value."
+pub fault-sheet : judgedSheet (fault OutOfRange 3) ≡ digits 88 (52 ∷ 51 ∷ [])
+unfolding compute-sheet
+fault-sheet = refl

@@ -1,0 +1,107 @@
+/* shodhvirup.h: rule books checked, analysed, planned and closed.
+ *
+ * A rule book is a string of bytes: Datalog clauses over predicates, some of which reach outside and can only be asked when certain of their
+ * arguments are known. These functions read a book, work out what each predicate must be given, and put the calls of every clause in an order in
+ * which every outside call has what it must have. The format of a book and the rules are in docs/01-scope.md; what is proved of these functions, in
+ * docs/PROMISES.md. The archive is libshodhvirup.a, for x86-64.
+ *
+ * WHAT HOLDS OF EVERY FUNCTION
+ *
+ * Input. A book, or a list of masks, is given as a pointer and a length. Any bytes may be given, of any length; each input gets one of the replies
+ * below, and the work ends. A null pointer with the length 0 is an empty input. The input is only read.
+ *
+ * Output. Room for the output is lent as a pointer and a length. A null pointer with the length 0 is no room. On success the output is written from
+ * the start of the room, and the bytes after it stay as they were. On any refusal no byte of the room changes. A room of the size named below is
+ * always enough; with less, reply 9 tells the bytes needed.
+ *
+ * Overlap. The room must not overlap an input. Two inputs may overlap, and be the same.
+ *
+ * Reply. A struct of three numbers, given back by value. `rounds` is 0 but for a successful analysis.
+ *
+ *   number                value                    given exactly when
+ *   0  SHODH_DONE         bytes written            done (the check writes nothing, so its value is 0)
+ *   1  SHODH_PAST_END     offset of the record     a byte of the record is past the end of the book
+ *   2  SHODH_NO_MARK      offset of the record     its two bytes are none of the five marks
+ *   3  SHODH_OUT_OF_TURN  offset of the record     a mark is out of turn; or the book ends without QU, and the value is its length
+ *   4  SHODH_OUT_OF_RANGE offset of the record     a byte is out of its range: arity, predicate, n, mask, argument
+ *   5  SHODH_TOO_MANY     offset of the record     a 65th PR, a 65th CL, a 9th SG
+ *   6  SHODH_CLASH        offset of the record     MO not rising, or CL for a predicate that has MO
+ *   7  SHODH_UNORDERABLE  0                        plan only: no orders give every outside call what it must have
+ *   8  SHODH_NO_PREDICATE lowest such number       close only: the set names a predicate that the book lacks
+ *   9  SHODH_NO_ROOM      bytes needed             the room is too short
+ *
+ * Records are judged from the left, and the first fault is given. A valid book is then tried for 8, then 7, then 9. shodh_choice and shodh_joint give
+ * 0, 4, 5 and 9 alone, as described there.
+ *
+ * State. None: no memory is allocated, nothing is kept between calls, and calls from several threads do not disturb each other. A call takes less
+ * than 32 KB of stack.
+ */
+#ifndef SHODHVIRUP_H
+#define SHODHVIRUP_H
+
+#include <stddef.h>
+#include <stdint.h>
+
+#ifdef __cplusplus
+extern "C" {
+#endif
+
+/* Rooms that are always enough, in bytes. */
+#define SHODH_TABLE_SIZE 1536
+#define SHODH_PLAN_SIZE 53259
+#define SHODH_BOOK_SIZE 6962
+#define SHODH_MASKS_SIZE 20
+
+/* The numbers of the replies. */
+enum {
+    SHODH_DONE = 0,
+    SHODH_PAST_END = 1,
+    SHODH_NO_MARK = 2,
+    SHODH_OUT_OF_TURN = 3,
+    SHODH_OUT_OF_RANGE = 4,
+    SHODH_TOO_MANY = 5,
+    SHODH_CLASH = 6,
+    SHODH_UNORDERABLE = 7,
+    SHODH_NO_PREDICATE = 8,
+    SHODH_NO_ROOM = 9
+};
+
+typedef struct {
+    uint32_t number;
+    uint64_t value;
+    uint64_t rounds;
+} shodh_reply;
+
+/* Whether the bytes are a book. Writes nothing.
+ * Replies: 0 with the value 0; 1 to 6. */
+shodh_reply shodh_check(const uint8_t *book, size_t length);
+
+/* What each predicate must be given: for each in turn `CN`, predicate, n, n masks. A mask has bit i-1 set where position i must be known; a call
+ * needs all of some one mask. n = 0 is a predicate that no call can ask; the one mask 0 asks for nothing. A book whose query cannot be ordered has
+ * its table like any other.
+ * Room: SHODH_TABLE_SIZE. Replies: 0, with the rounds of the analysis; 1 to 6; 9. */
+shodh_reply shodh_analyse(const uint8_t *book, size_t length, uint8_t *out, size_t room);
+
+/* The orders to run the calls in: `QO`, n, n places, the query's subgoals counted from 0; then for each clause under each pattern that the query
+ * leads to `CO`, clause, pattern, n, n places. In these orders every outside call has what it must have; each is the first of the good ones.
+ * Room: SHODH_PLAN_SIZE. Replies: 0; 1 to 6; 7, exactly when there are no such orders; 9. */
+shodh_reply shodh_plan(const uint8_t *book, size_t length, uint8_t *out, size_t room);
+
+/* The book with the chosen predicates closed: they lose their clauses and get an `MO` with what they need; all else is as it was. Bit p of the set
+ * chooses predicate p. The result is a book with the same needs, accepted and refused as the first one is; closing in parts gives the same bytes
+ * as closing at once, and the empty set gives back the book.
+ * Room: SHODH_BOOK_SIZE. Replies: 0; 1 to 6; 8; 9. */
+shodh_reply shodh_close(const uint8_t *book, size_t length, uint64_t set, uint8_t *out, size_t room);
+
+/* Two constraints of one arity combined: the choice is fitted by a pattern that fits either, the joint by one that fits each. Given are the arity, 0
+ * to 6, and two lists of up to 20 masks in any order; written are the masks of the result, equal ones once, none containing another, ascending.
+ * Room: SHODH_MASKS_SIZE. Replies: 0; with the value 0, 4 for an arity over 6 or a mask out of range, and 5 for a list over 20, tried as arity, first
+ * list's length, its masks, then the second's; 9. */
+shodh_reply shodh_choice(uint8_t arity, const uint8_t *first, size_t first_length, const uint8_t *second, size_t second_length, uint8_t *out, size_t room);
+shodh_reply shodh_joint(uint8_t arity, const uint8_t *first, size_t first_length, const uint8_t *second, size_t second_length, uint8_t *out, size_t room);
+
+#ifdef __cplusplus
+}
+#endif
+
+#endif
