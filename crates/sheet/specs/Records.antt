@@ -1,6 +1,6 @@
 -- The records of an image as lines. A record has a mark of two bytes, so many fields, n, and n fields more. Every definition computes. Assumes nothing.
 use mathlib.Core.Bool.{cond}
-use mathlib.Core.List.{List, [], _∷_, _++_}
+use mathlib.Core.List.{List, [], _++_}
 use Prim.Native.Nat.{ℕ, zero, suc, _+_}
 use lib.Dec.{ltb}
 use lib.ListN.{length, getD, take, drop}

@@ -13,7 +13,6 @@ use Rattle.book.specs.Encode.{run}
 use Rattle.ordering.specs.Adorn.{nothing}
 use Rattle.ordering.specs.Good.{firstGood, isSome}
 use Rattle.tables.specs.Table.{entry, rounds, final}
-use Rattle.choices.specs.Choice.{Choice}
 use Rattle.choices.specs.Plan.{Row, chosen, planRows}
 
 -- ---- lines

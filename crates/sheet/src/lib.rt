@@ -12,7 +12,7 @@ use writing::put::put_byte;
 use writing::put::put_bytes;
 ghost use mathlib.Core.Path.{_≡_};
 ghost use Prim.Native.Nat.{_+_, _≤_};
-ghost use lib.ListN.{length, drop};
+ghost use lib.ListN.{length};
 ghost use Rattle.masks.specs.Outcome.{Answers, done};
 ghost use Rattle.book.specs.Format.{judge};
 ghost use Rattle.writing.specs.Wrote.{Room, Wrote};

@@ -8,8 +8,8 @@ use lib.ListN.{length}
 use borrow.Author.Tests.{lt-ltb, le-ltb}
 use Rattle.io.specs.Digits.{glyph, digits, Fewest}
 use Rattle.writing.specs.Wrote.{Room, Wrote}
-use Rattle.writing.proofs.Laws.Wrote.{room-second}
 use Rattle.sheet.specs.Sheet.{decimalIn, decimal, field}
+use Rattle.writing.proofs.Laws.Wrote.{room-second}
 
 -- the last digit
 glyph-last : (n : ℕ) → glyph (n % 10) ≡ 48 + n % 10

@@ -118,8 +118,5 @@ module _ (σ rest : List ℕ) where
   unfolding queryLine
   line-query = line-first 81 79 [] σ rest 0 refl 81 [] ∙ ap (line 81) (listing-nil σ)
 
-  pub listed-query : listedIn 0 (encQuery σ ++ rest) ≡ σ
-  listed-query = listed-first 81 79 [] σ rest 0 refl
-
   pub behind-query : drop (3 + length (listedIn 0 (encQuery σ ++ rest))) (encQuery σ ++ rest) ≡ rest
   behind-query = rest-first 81 79 [] σ rest 0 refl

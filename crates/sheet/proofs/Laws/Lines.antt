@@ -7,14 +7,14 @@ use native.Mathlib.Numerals.{add-one}
 use lib.ListN.{length, getD, take, drop, length-append, length-take, length-drop}
 use lib.Seq.{take-suc, take-all, take-length, drop-drop}
 use borrow.Author.Tests.{lt-ltb, le-ltb}
-use Rattle.masks.proofs.Laws.Lists.{take-front}
 use Rattle.book.specs.Encode.{run}
 use Rattle.writing.specs.Wrote.{Room, Wrote}
+use Rattle.sheet.specs.Sheet.{field, line, listing}
+use Rattle.sheet.specs.Records.{listedIn, lineIn, linesIn}
+use Rattle.masks.proofs.Laws.Lists.{take-front}
 use Rattle.writing.proofs.Laws.Wrote.{wrote-nil, wrote-append, wrote-as, wrote-length, room-second}
 use Rattle.writing.proofs.Laws.Chunks.{Chunks}
 use Rattle.writing.proofs.Laws.Runs.{run-snoc}
-use Rattle.sheet.specs.Sheet.{field, line, listing}
-use Rattle.sheet.specs.Records.{listedIn, lineIn, linesIn}
 
 -- ---- a run of fields
 

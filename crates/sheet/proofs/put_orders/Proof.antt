@@ -7,8 +7,8 @@ use native.Mathlib.Omega.{arith}
 use lib.ListN.{length, take, drop, length-replicate}
 use borrow.Author.Needs.{needs}
 use Rattle.book.specs.Format.{judge}
-use Rattle.choices.specs.Plan.{planning}
 use Rattle.writing.specs.Wrote.{Room}
+use Rattle.choices.specs.Plan.{planning}
 use Rattle.sheet.specs.Sheet.{refusalLine}
 use Rattle.sheet.specs.Records.{lineIn, linesIn, judgedOrders}
 use Rattle.masks.proofs.Laws.Outcome.{Told, refusal-told, result-told}

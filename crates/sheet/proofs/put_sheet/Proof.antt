@@ -8,8 +8,8 @@ use lib.ListN.{length, take, length-replicate}
 use borrow.Author.Needs.{needs}
 use Rattle.masks.specs.Outcome.{Outcome}
 use Rattle.book.specs.Format.{judge}
-use Rattle.tables.specs.Image.{analysis}
 use Rattle.writing.specs.Wrote.{Room}
+use Rattle.tables.specs.Image.{analysis}
 use Rattle.sheet.specs.Sheet.{field, line, none·, refusalLine, judgedSheet}
 use Rattle.sheet.specs.Records.{linesIn, judgedOrders}
 use Rattle.masks.proofs.Laws.Outcome.{Told, refusal-told, result-told}

@@ -1,8 +1,8 @@
 -- `sheet::line::put_field` meets its contract. A space is written, then the digits, which are the fewest that hold the number. Assumes nothing.
 use native.Mathlib.Omega.{arith}
 use borrow.Author.Needs.{needs}
-use Rattle.writing.proofs.Laws.Wrote.{wrote-append, wrote-as}
 use Rattle.sheet.specs.Sheet.{field}
+use Rattle.writing.proofs.Laws.Wrote.{wrote-append, wrote-as}
 use Rattle.sheet.proofs.Laws.Decimal.{spelled, spelled-room}
 use Rattle.sheet.proofs.line.put_field.Statement.{statement}
 use Rattle.sheet.proofs.line.put_field.Tie as tie
