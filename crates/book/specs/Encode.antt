@@ -9,7 +9,7 @@ use Rattle.masks.specs.Limits.{maxArity, maxMasks}
 use Rattle.masks.specs.Lists.{all}
 use Rattle.book.specs.Limits.{maxPredicates, maxClauses, maxSubgoals}
 use Rattle.book.specs.Book.{Call, Mode, Clause, Book}
-use Rattle.book.specs.Format.{spelling, within, hasMode}
+use Rattle.book.specs.Format.{spelling, allows, hasMode}
 use Rattle.book.specs.declared.mark.Mark.the-variants.{Pr, Mo, Cl, Sg, Qu}
 use Rattle.book.specs.declared.range.Range.{Range}
 use Rattle.book.specs.declared.range.Range.the-variants.{Below, AtMost, Argument, HeadArgument}
@@ -51,13 +51,13 @@ encode b =
 
 -- a predicate of the book, and as many arguments as its arity, each in its range
 abbrev pub callFits : Range → List ℕ → Call → Bool
-callFits r ar c = within (Below (length ar)) (c .pred) && (eqb (length (c .args)) (getD ar (c .pred) 0) && all (within r) (c .args))
+callFits r ar c = allows (Below (length ar)) (c .pred) && (eqb (length (c .args)) (getD ar (c .pred) 0) && all (allows r) (c .args))
 
 -- a predicate of the book, at most 20 alternatives, each a mask of its positions
 abbrev pub modeFits : List ℕ → Mode → Bool
 modeFits ar m =
-    within (Below (length ar)) (m .pred)
-    && (within (AtMost maxMasks) (length (m .masks)) && all (within (Below (2 ^ getD ar (m .pred) 0))) (m .masks))
+    allows (Below (length ar)) (m .pred)
+    && (allows (AtMost maxMasks) (length (m .masks)) && all (allows (Below (2 ^ getD ar (m .pred) 0))) (m .masks))
 
 -- "MO records rise strictly by predicate", none below b
 abbrev pub rises : ℕ → List Mode → Bool
@@ -72,7 +72,7 @@ clauseFits ar ms c =
 
 pub record WellFormed (b : Book) : Type 0 where
   pub fewPredicates : leb (length (b .arities)) maxPredicates ≡ true
-  pub aritiesFit : all (within (AtMost maxArity)) (b .arities) ≡ true
+  pub aritiesFit : all (allows (AtMost maxArity)) (b .arities) ≡ true
   pub modesFit : all (modeFits (b .arities)) (b .modes) ≡ true
   pub modesRise : rises 0 (b .modes) ≡ true
   pub fewClauses : leb (length (b .clauses)) maxClauses ≡ true

@@ -11,7 +11,7 @@ use Rattle.masks.specs.Lists.{any}
 use Rattle.book.specs.Limits.{maxPredicates, maxClauses, maxSubgoals}
 use Rattle.book.specs.Book.{Call, Mode, Clause, Book}
 use Rattle.book.specs.declared.fault.Fault.{Fault}
-use Rattle.book.specs.declared.fault.Fault.the-variants.{PastEnd, NoMark, OutOfTurn, OutOfRange, TooMany, Conflict}
+use Rattle.book.specs.declared.fault.Fault.the-variants.{PastEnd, NoMark, OutOfTurn, OutOfRange, TooMany, Clash}
 use Rattle.book.specs.declared.mark.Mark.{Mark}
 use Rattle.book.specs.declared.mark.Mark.the-variants.{Pr, Mo, Cl, Sg, Qu, Other, Half, End}
 use Rattle.book.specs.declared.mark.Phase.{Phase}
@@ -30,7 +30,7 @@ number NoMark = 2
 number OutOfTurn = 3
 number OutOfRange = 4
 number TooMany = 5
-number Conflict = 6
+number Clash = 6
 
 -- "offset of the record": the place of a fault, of how many bytes are left from its record on and from the byte at fault on
 abbrev pub placed : Fault → ℕ → ℕ → ℕ
@@ -97,11 +97,11 @@ turn Query m = column m no no no Mine no Over
 -- ---- "4: a byte is out of its range: arity, predicate, n, mask, argument"
 
 -- "0 to 15 is a variable .., 255 a literal, 254 a wildcard (subgoals only)"
-unfoldable pub within : Range → ℕ → Bool
-within (Below n) x = ltb x n
-within (AtMost n) x = leb x n
-within Argument x = leb x 15 || (eqb x 254 || eqb x 255)
-within HeadArgument x = leb x 15 || eqb x 255
+unfoldable pub allows : Range → ℕ → Bool
+allows (Below n) x = ltb x n
+allows (AtMost n) x = leb x n
+allows Argument x = leb x 15 || (eqb x 254 || eqb x 255)
+allows HeadArgument x = leb x 15 || eqb x 255
 
 -- ---- reading
 
@@ -118,7 +118,7 @@ andThen (got a s) next = next a s
 -- "byte by byte from the left, present (1) before in range (4)"
 abbrev pub byte : Range → List ℕ → Got ℕ
 byte r [] = bad PastEnd 0
-byte r (x ∷ s) = cond (within r x) (got x s) (bad OutOfRange (suc (length s)))
+byte r (x ∷ s) = cond (allows r x) (got x s) (bad OutOfRange (suc (length s)))
 
 -- k bytes, after those of acc
 unfoldable pub bytes : Range → ℕ → List ℕ → List ℕ → Got (List ℕ)
@@ -166,7 +166,7 @@ unfoldable pub modeFields : List ℕ → ℕ → List ℕ → Got Mode
 modeFields ar b s =
     andThen (byte (Below (length ar)) s) (λ p t.
     andThen (masks (2 ^ getD ar p 0) t) (λ ms u.
-    cond (leb b p) (got (record { pred = p; masks = ms }) u) (bad Conflict (length s))))
+    cond (leb b p) (got (record { pred = p; masks = ms }) u) (bad Clash (length s))))
 
 unfoldable pub mode : List ℕ → List Mode → List ℕ → Got Mode
 mode ar acc s = inRecord s (modeFields ar (low acc) (drop 2 s))
@@ -189,7 +189,7 @@ hasMode ms p = any (λ (m : Mode). eqb (m .pred) p) ms
 unfoldable pub headFields : List ℕ → List Mode → List ℕ → Got Call
 headFields ar ms s =
     andThen (call HeadArgument ar s) (λ h t.
-    cond (hasMode ms (h .pred)) (bad Conflict (length s)) (got h t))
+    cond (hasMode ms (h .pred)) (bad Clash (length s)) (got h t))
 
 -- "CL: a clause head", and the subgoals of the clause
 unfoldable pub clause : List ℕ → List Mode → List Clause → List ℕ → Got Clause

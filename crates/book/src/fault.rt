@@ -8,7 +8,7 @@ pub enum Fault {
     OutOfTurn,
     OutOfRange,
     TooMany,
-    Conflict,
+    Clash,
 }
 
 // The number of the reply.
@@ -21,6 +21,6 @@ pub fn number(f: Fault) -> u32
         Fault::OutOfTurn => 3,
         Fault::OutOfRange => 4,
         Fault::TooMany => 5,
-        Fault::Conflict => 6,
+        Fault::Clash => 6,
     }
 }

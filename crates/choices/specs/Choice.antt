@@ -1,6 +1,6 @@
 -- Choices of orders. Document 01, "The plan": what a choice is, what it reaches, and when it makes the book well-moded. Assumes nothing.
 use mathlib.Core.Path.{_≡_}
-use mathlib.Core.Bool.{Bool, true, false}
+use mathlib.Core.Bool.{true, false}
 use mathlib.Core.List.{List, []}
 use mathlib.Core.Option.{Option, none, some}
 use Prim.Native.Nat.{ℕ, _<_}

@@ -8,7 +8,7 @@ use lib.ListN.{length}
 use Rattle.masks.specs.Limits.{allPatterns}
 use Rattle.masks.specs.Lists.{joined}
 use Rattle.masks.specs.Outcome.{Outcome, refused, done}
-use Rattle.book.specs.Book.{Clause, Book}
+use Rattle.book.specs.Book.{Book}
 use Rattle.book.specs.Answer.{onBook}
 use Rattle.book.specs.Encode.{run}
 use Rattle.ordering.specs.Adorn.{Table, nothing, headBound}

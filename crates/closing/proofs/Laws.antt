@@ -1,5 +1,5 @@
 -- The laws of this crate's definitions, for its own proofs and for those of the crates above.
-pub mod Bench
+pub mod Examples
 pub mod Modes
 pub mod Valid
 pub mod Close

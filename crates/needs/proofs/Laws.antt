@@ -2,6 +2,6 @@
 pub mod Calls
 pub mod Trying
 pub mod Rounding
-pub mod Turns
+pub mod AtRound
 pub mod Settling
 pub mod Analysed

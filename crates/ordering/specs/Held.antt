@@ -50,12 +50,12 @@ abbrev pub patternsOf : Order → List ℕ
 patternsOf o = take (length (placesOf o)) (o .patterns)
 
 -- the first of n places that is not used and passes, or n
-abbrev pub orElse : ℕ → Option ℕ → ℕ
-orElse n none = n
-orElse n (some p) = p
+abbrev pub foundOr : ℕ → Option ℕ → ℕ
+foundOr n none = n
+foundOr n (some p) = p
 
 unfoldable pub picked : List Bool → (ℕ → Bool) → ℕ → ℕ
-picked used passes n = orElse n (find (λ p. not (getD used p false) && passes p) (count 0 n))
+picked used passes n = foundOr n (find (λ p. not (getD used p false) && passes p) (count 0 n))
 
 -- the pattern is that of the subgoal at the place, where there is one
 abbrev pub PatternAt : List Call → Bound → ℕ → ℕ → Type 0

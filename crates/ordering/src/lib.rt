@@ -32,7 +32,7 @@ pub struct Order {
 }
 
 // A place, and the pattern of the subgoal there.
-struct Turn {
+struct Pick {
     place: usize,
     pattern: u8,
 }
@@ -97,7 +97,7 @@ fn first_ready<'a>(
     table: &'a [u8; MODES_SIZE],
     bound: [bool; VARIABLES],
     used: [bool; MAX_SUBGOALS],
-) -> Turn
+) -> Pick
     requires { ⌜ (k ≤ maxClauses) × (callsBelow maxPredicates (clauseAt (now rules) k .body) ≡ true) ⌝ }
     ensures { λ r. ⌜ r .place ≡ picked used (readyAt (tableIn (now (table .entry)) maxPredicates) (clauseAt (now (rules .entry)) k .body) bound) (length (clauseAt (now (rules .entry)) k .body)) ⌝ }
     ensures { λ r. ⌜ PatternAt (clauseAt (now (rules .entry)) k .body) bound (r .place) (r .pattern) ⌝ }
@@ -110,7 +110,7 @@ fn first_ready<'a>(
             let c = mode_at(table, s.pred);
             let a = pattern(bound, s);
             if fits(c, a) {
-                return Turn {
+                return Pick {
                     place: p,
                     pattern: a,
                 };
@@ -118,14 +118,14 @@ fn first_ready<'a>(
         }
         p += 1;
     }
-    Turn {
+    Pick {
         place: n,
         pattern: 0,
     }
 }
 
 // How many places an order has: none where no order was found.
-pub fn placed(o: Order) -> usize
+pub fn order_length(o: Order) -> usize
     ensures { λ r. ⌜ r ≡ length (placesOf o) ⌝ }
     ensures { λ r. ⌜ r ≤ maxSubgoals ⌝ }
 {

@@ -8,7 +8,7 @@ use book::limits::RULES_SIZE;
 use ordering::Order;
 use ordering::first_order;
 use ordering::head_bound;
-use ordering::placed;
+use ordering::order_length;
 use writing::put::put_byte;
 use writing::put::put_bytes;
 use writing::put::put_mark;
@@ -172,7 +172,7 @@ fn put_order(out: &mut [u8], at: usize, o: Order) -> usize
     requires { ⌜ Room (now out) at (length (placesOf o) ∷ placesOf o) ⌝ }
     ensures { λ r. ⌜ Wrote (now (out .entry)) (now (out .exit)) at r (length (placesOf o) ∷ placesOf o) ⌝ }
 {
-    let n = placed(o);
+    let n = order_length(o);
     let p = put_byte(out, at, n as u8);
     let places = o.places;
     put_bytes(out, p, &places[..n])

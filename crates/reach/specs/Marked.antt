@@ -10,7 +10,7 @@ use Rattle.masks.specs.Limits.{allPatterns}
 use Rattle.masks.specs.Lists.{any, joined}
 use Rattle.masks.specs.Set.{bitAt}
 use Rattle.book.specs.Limits.{maxPredicates, maxClauses}
-use Rattle.book.specs.Book.{Call, Clause, Book}
+use Rattle.book.specs.Book.{Call, Book}
 use Rattle.book.specs.Held.{clauseAt, clausesOf}
 use Rattle.ordering.specs.Adorn.{Table, Bound, nothing, headBound}
 use Rattle.ordering.specs.Good.{firstGood}
@@ -19,12 +19,12 @@ use Rattle.ordering.specs.Held.{tableIn, orNone}
 use Rattle.choices.specs.Choice.{clause, Choice, Reaches}
 
 -- pattern a of predicate p is marked
-abbrev pub markAt : List ℕ → ℕ → ℕ → Bool
-markAt words p a = bitAt (getD words p 0) a
+abbrev pub markedAt : List ℕ → ℕ → ℕ → Bool
+markedAt words p a = bitAt (getD words p 0) a
 
 -- the calls are marked besides what was, and the set has the predicates called
 pub record Marked (before after : List ℕ) (names : ℕ) (calls : List Asked) : Type 0 where
-  pub marks : (q b : ℕ) → markAt after q b ≡ (markAt before q b || called q b calls)
+  pub marks : (q b : ℕ) → markedAt after q b ≡ (markedAt before q b || called q b calls)
   pub names· : (q : ℕ) → bitAt names q ≡ any (λ (x : Asked). eqb (x .pred) q) calls
 
 -- ---- calls in the orders that the code finds, none where it finds no order
@@ -57,4 +57,4 @@ taken T B =
 abbrev pub ReachedIn : List ℕ → ℕ → List ℕ → List ℕ → Type 0
 ReachedIn rules clauses table words =
     (B : Book) → B .clauses ≡ clausesOf rules clauses → B .query ≡ clauseAt rules maxClauses .body
-    → (p a : ℕ) → (markAt words p a ≡ true) ↔ Reaches B (taken (tableIn table maxPredicates) B) p a
+    → (p a : ℕ) → (markedAt words p a ≡ true) ↔ Reaches B (taken (tableIn table maxPredicates) B) p a

@@ -10,12 +10,11 @@ use book::limits::VARIABLES;
 use masks::constraint::with_member;
 use ordering::first_order;
 use ordering::head_bound;
-use ordering::placed;
+use ordering::order_length;
 ghost use mathlib.Core.Path.{_≡_};
 ghost use mathlib.Core.Bool.{true};
 ghost use Prim.Native.Nat.{_<_, _≤_};
 ghost use lib.ListN.{getD};
-ghost use Rattle.masks.specs.Limits.{allPatterns};
 ghost use Rattle.book.specs.Limits.{maxPredicates, maxClauses};
 ghost use Rattle.book.specs.Held.{clauseAt};
 ghost use Rattle.ordering.specs.Held.{tableIn, callsBelow};
@@ -107,7 +106,7 @@ fn mark_calls<'a>(
 {
     let words: &mut [u64] = reached;
     let o = first_order(rules, k, table, bound);
-    let n = placed(o);
+    let n = order_length(o);
     let mut names: u64 = 0;
     let mut i: usize = 0;
     while i < n {

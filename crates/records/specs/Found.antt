@@ -7,7 +7,7 @@ use lib.ListN.{length, drop}
 use Rattle.masks.specs.Limits.{maxArity}
 use Rattle.masks.specs.Lists.{all}
 use Rattle.book.specs.Limits.{maxPredicates}
-use Rattle.book.specs.Format.{placed, within, Got, bad, got, turn, markAt}
+use Rattle.book.specs.Format.{placed, allows, Got, bad, got, turn, markAt}
 use Rattle.book.specs.declared.mark.Phase.{Phase}
 use Rattle.book.specs.declared.mark.Turn.{Turn}
 use Rattle.book.specs.declared.mark.Turn.the-variants.{Mine, Over, No}
@@ -51,4 +51,4 @@ recorded place (Bad f at) = Bad f place
 -- the arities of a book
 pub record Arities (ar : List ℕ) : Type 0 where
   pub few : length ar ≤ maxPredicates
-  pub fit : all (within (AtMost maxArity)) ar ≡ true
+  pub fit : all (allows (AtMost maxArity)) ar ≡ true

@@ -20,7 +20,7 @@ ghost use lib.Dec.{leb};
 ghost use lib.ListN.{length, take, drop};
 ghost use Rattle.masks.specs.Held.{masksOf};
 ghost use Rattle.book.specs.Limits.{maxPredicates};
-ghost use Rattle.book.specs.Format.{within, byte, bytes, inRecord, predicate, call, subgoal, headFields, masks, modeFields};
+ghost use Rattle.book.specs.Format.{allows, byte, bytes, inRecord, predicate, call, subgoal, headFields, masks, modeFields};
 ghost use Rattle.book.specs.Held.{callOf, modesOf};
 ghost use Rattle.records.specs.Found.{Reads, recorded, Arities};
 
@@ -116,7 +116,7 @@ fn read_alternatives(s: &[u8], ar: &[u8], low: u8, at: usize) -> FoundMasks
                 Found::Next(end, _) => {
                     if pred < low {
                         return FoundMasks {
-                            found: Found::Bad(Fault::Conflict, at),
+                            found: Found::Bad(Fault::Clash, at),
                             masks,
                         };
                     }
@@ -166,7 +166,7 @@ fn read_owner(s: &[u8], ar: &[u8], modes: &[u8; MODES_SIZE], at: usize) -> Found
         Found::Next(_, _) => {
             if has_mode(modes, call.pred) {
                 return FoundCall {
-                    found: Found::Bad(Fault::Conflict, at),
+                    found: Found::Bad(Fault::Clash, at),
                     call,
                 };
             }
@@ -254,7 +254,7 @@ fn read_byte(s: &[u8], at: usize, range: Range) -> Found
 
 // "a byte is out of its range: arity, predicate, n, mask, argument".
 fn in_range(range: Range, x: u8) -> bool
-    ensures { λ r. ⌜ r ≡ within range x ⌝ }
+    ensures { λ r. ⌜ r ≡ allows range x ⌝ }
 {
     match range {
         Range::Below(n) => x < n,

@@ -23,13 +23,13 @@ use book::mode::has_mode;
 use book::mode::mode_at;
 use masks::constraint::Constraint;
 use masks::reply::Reply;
-ghost use Prim.Native.Nat.{min, _≤_};
+ghost use Prim.Native.Nat.{min};
 ghost use lib.ListN.{length, take};
 ghost use Rattle.masks.specs.Held.{masksOf};
 ghost use Rattle.masks.specs.Outcome.{Answers, done};
 ghost use Rattle.book.specs.Limits.{maxClauses, maxPredicates};
 ghost use Rattle.book.specs.Encode.{run, encPredicate, encMode, encCall, encSubgoal, encClause, encode};
-ghost use Rattle.book.specs.Held.{callOf, clauseOf, modesOf, clausesOf, clauseAt, bookIn};
+ghost use Rattle.book.specs.Held.{callOf, clauseOf, modesOf, clausesOf, bookIn};
 ghost use Rattle.writing.specs.Wrote.{Room, Wrote};
 
 // Writes the bytes of a book from the output's start, or answers 9 where the output is too short.

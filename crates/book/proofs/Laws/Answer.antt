@@ -9,7 +9,7 @@ use Rattle.book.specs.Book.{Book}
 use Rattle.book.specs.Format.{number, Got, bad, got, readBook, Judged, fault, book, judged, judge}
 use Rattle.book.specs.Answer.{ofJudged, onBook}
 use Rattle.book.specs.declared.fault.Fault.{Fault}
-use Rattle.book.specs.declared.fault.Fault.the-variants.{PastEnd, NoMark, OutOfTurn, OutOfRange, TooMany, Conflict}
+use Rattle.book.specs.declared.fault.Fault.the-variants.{PastEnd, NoMark, OutOfTurn, OutOfRange, TooMany, Clash}
 
 -- ---- what bytes are judged to be
 
@@ -20,7 +20,7 @@ number-range NoMark = (omega arith, omega arith)
 number-range OutOfTurn = (omega arith, omega arith)
 number-range OutOfRange = (omega arith, omega arith)
 number-range TooMany = (omega arith, omega arith)
-number-range Conflict = (omega arith, omega arith)
+number-range Clash = (omega arith, omega arith)
 
 pub number-some : (f : Fault) → number f ≡ 0 → ⊥
 number-some f e = let r = number-range f in omega arith

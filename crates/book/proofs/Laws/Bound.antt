@@ -15,7 +15,7 @@ use Rattle.masks.specs.Lists.{all}
 use Rattle.masks.proofs.Laws.Logic.{byBool, false-of, clash, and-left, and-right, or-left, or-right}
 use Rattle.book.specs.Limits.{longest, shortest, maxPredicates, maxClauses, maxSubgoals}
 use Rattle.book.specs.Book.{Call, Mode, Clause, Book}
-use Rattle.book.specs.Format.{within, hasMode, Judged, fault, book, judge}
+use Rattle.book.specs.Format.{allows, hasMode, Judged, fault, book, judge}
 use Rattle.book.specs.Encode.{run, encPredicate, encMode, encSubgoal, encClause, encode, callFits, modeFits, rises, clauseFits, WellFormed}
 use Rattle.book.specs.declared.fault.Fault.{Fault}
 use Rattle.book.specs.declared.range.Range.the-variants.{AtMost, Argument, HeadArgument}
@@ -34,11 +34,11 @@ run-length t f k h (x ∷ xs) e =
     let d : k * suc (length xs) ≡ k * length xs + k = mul-suc k (length xs) in
     omega arith
 
-pub arities-at : (ar : List ℕ) → all (within (AtMost maxArity)) ar ≡ true → (i : ℕ) → getD ar i 0 ≤ maxArity
-unfolding within
+pub arities-at : (ar : List ℕ) → all (allows (AtMost maxArity)) ar ≡ true → (i : ℕ) → getD ar i 0 ≤ maxArity
+unfolding allows
 arities-at [] t i = omega arith
-arities-at (x ∷ ar) t zero = leb-true _ _ (and-left (within (AtMost maxArity) x) (all (within (AtMost maxArity)) ar) t)
-arities-at (x ∷ ar) t (suc i) = arities-at ar (and-right (within (AtMost maxArity) x) (all (within (AtMost maxArity)) ar) t) i
+arities-at (x ∷ ar) t zero = leb-true _ _ (and-left (allows (AtMost maxArity) x) (all (allows (AtMost maxArity)) ar) t)
+arities-at (x ∷ ar) t (suc i) = arities-at ar (and-right (allows (AtMost maxArity) x) (all (allows (AtMost maxArity)) ar) t) i
 
 module _ (ar : List ℕ) (arity : (i : ℕ) → getD ar i 0 ≤ maxArity) where
   subgoal-length : (c : Call) → callFits Argument ar c ≡ true → length (encSubgoal c) ≤ 9
@@ -54,7 +54,7 @@ module _ (ar : List ℕ) (arity : (i : ℕ) → getD ar i 0 ≤ maxArity) where
       omega arith
 
 mode-length : (ar : List ℕ) (m : Mode) → modeFits ar m ≡ true → length (encMode m) ≤ 24
-unfolding within
+unfolding allows
 mode-length ar m t = let a : length (m .masks) ≤ maxMasks = leb-true _ _ (mode-few ar m t) in omega arith
 
 -- ---- a predicate without MO leaves room for one MO less
@@ -72,7 +72,7 @@ or-false-right a b e = false-of (λ t. clash (or-right a t) e)
 
 missing : (ar : List ℕ) (b : ℕ) (ms : List Mode) (p : ℕ) → b ≤ p → p < length ar → hasMode ms p ≡ false → all (modeFits ar) ms ≡ true → rises b ms ≡ true
     → b + length ms < length ar
-unfolding hasMode within
+unfolding hasMode allows
 missing ar b [] p l h f t u = omega arith
 missing ar b (m ∷ ms) p l h f t u =
     let k : m .pred < length ar = ltb-true _ _ (mode-known ar m (and-left (modeFits ar m) (all (modeFits ar) ms) t)) in
@@ -86,7 +86,7 @@ missing ar b (m ∷ ms) p l h f t u =
 -- the modes and clauses together
 modes-clauses : (ar : List ℕ) (ms : List Mode) (cs : List Clause) → length ar ≤ maxPredicates → length cs ≤ maxClauses → all (modeFits ar) ms ≡ true → rises 0 ms ≡ true
     → all (clauseFits ar ms) cs ≡ true → 24 * length ms + 81 * length cs ≤ 6696
-unfolding within
+unfolding allows
 modes-clauses ar ms [] h g t u v = let r = rising ar 0 ms (omega arith) t u in omega arith
 modes-clauses ar ms (c ∷ cs) h g t u v =
     let fits = and-left (clauseFits ar ms c) (all (clauseFits ar ms) cs) v in
@@ -103,7 +103,7 @@ encode-length b w =
     let ms = b .modes in
     let cs = b .clauses in
     let low = arities-at ar (w .aritiesFit) in
-    let p = run-length (within (AtMost maxArity)) encPredicate 3 (λ a t. omega arith) ar (w .aritiesFit) in
+    let p = run-length (allows (AtMost maxArity)) encPredicate 3 (λ a t. omega arith) ar (w .aritiesFit) in
     let m = run-length (modeFits ar) encMode 24 (mode-length ar) ms (w .modesFit) in
     let c = run-length (clauseFits ar ms) encClause 81 (clause-length ar low ms) cs (w .clausesFit) in
     let q = run-length (callFits Argument ar) encSubgoal 9 (subgoal-length ar low) (b .query) (w .queryFits) in

@@ -2,17 +2,17 @@
 use mathlib.Core.Path.{_≡_, refl}
 use mathlib.Core.List.{[], _∷_}
 use Rattle.book.specs.Book.{Book}
-use Rattle.book.specs.Format.{markAt, within, bytes, many, lowFrom, hasMode, predicate, masks, modeFields, mode, call, subgoal, headFields, clause, rules, readBook, fault, book, judge}
+use Rattle.book.specs.Format.{markAt, allows, bytes, many, lowFrom, hasMode, predicate, masks, modeFields, mode, call, subgoal, headFields, clause, rules, readBook, fault, book, judge}
 use Rattle.book.specs.Encode.{encode}
 use Rattle.book.specs.declared.fault.Fault.the-variants.{PastEnd, OutOfTurn, OutOfRange}
 
 compute : Unit {0}
-unfolding markAt within bytes many lowFrom hasMode predicate masks modeFields mode call subgoal headFields clause rules readBook judge encode
+unfolding markAt allows bytes many lowFrom hasMode predicate masks modeFields mode call subgoal headFields clause rules readBook judge encode
 compute = tt
 
 -- "Clause: fault(H) :- low(V), volts(H,V). Query: fault(H), head(H)."
-unfoldable pub bench : Book
-bench = record {
+unfoldable pub k1-book : Book
+k1-book = record {
   arities = 1 ∷ 2 ∷ 1 ∷ 1 ∷ [];
   modes = record { pred = 1; masks = 1 ∷ [] } ∷ record { pred = 3; masks = 1 ∷ [] } ∷ [];
   clauses = record {
@@ -23,8 +23,8 @@ bench = record {
 }
 
 pub k1 : judge (80 ∷ 82 ∷ 1 ∷ 80 ∷ 82 ∷ 2 ∷ 80 ∷ 82 ∷ 1 ∷ 80 ∷ 82 ∷ 1 ∷ 77 ∷ 79 ∷ 1 ∷ 1 ∷ 1 ∷ 77 ∷ 79 ∷ 3 ∷ 1 ∷ 1 ∷ 67 ∷ 76 ∷ 2 ∷ 0
-    ∷ 83 ∷ 71 ∷ 3 ∷ 1 ∷ 83 ∷ 71 ∷ 1 ∷ 0 ∷ 1 ∷ 81 ∷ 85 ∷ 83 ∷ 71 ∷ 2 ∷ 0 ∷ 83 ∷ 71 ∷ 0 ∷ 0 ∷ []) ≡ book bench
-unfolding compute bench
+    ∷ 83 ∷ 71 ∷ 3 ∷ 1 ∷ 83 ∷ 71 ∷ 1 ∷ 0 ∷ 1 ∷ 81 ∷ 85 ∷ 83 ∷ 71 ∷ 2 ∷ 0 ∷ 83 ∷ 71 ∷ 0 ∷ 0 ∷ []) ≡ book k1-book
+unfolding compute k1-book
 k1 = refl
 
 -- "an empty book (3 at 0); a lone Q (1 at 0)"

@@ -8,7 +8,7 @@ use native.Mathlib.Omega.{arith}
 use lib.ListN.{length}
 use Rattle.masks.specs.Lists.{all}
 use Rattle.masks.proofs.Laws.Logic.{and-intro, and-left, and-right}
-use Rattle.book.specs.Format.{Got, bad, got, andThen, byte, bytes, inRecord, onTurn, many, turn, markAt, within}
+use Rattle.book.specs.Format.{Got, bad, got, andThen, byte, bytes, inRecord, onTurn, many, turn, markAt, allows}
 use Rattle.book.specs.Encode.{run}
 use Rattle.book.specs.declared.fault.Fault.{Fault}
 use Rattle.book.specs.declared.fault.Fault.the-variants.{OutOfRange}
@@ -60,21 +60,21 @@ untest-inv false a r f k e = (refl, e)
 
 -- ---- bytes
 
-pub byte-inv : (r : Range) (s : List ℕ) {x : ℕ} {t : List ℕ} → byte r s ≡ got x t → (s ≡ x ∷ t) × (within r x ≡ true)
+pub byte-inv : (r : Range) (s : List ℕ) {x : ℕ} {t : List ℕ} → byte r s ≡ got x t → (s ≡ x ∷ t) × (allows r x ≡ true)
 byte-inv r [] e = bad-got e
 byte-inv r (y ∷ s) {x} {t} e =
-    let w = test-inv (within r y) y s OutOfRange (suc (length s)) e in
-    carry (λ (z : ℕ) (l : List ℕ). (y ∷ s ≡ z ∷ l) × (within r z ≡ true)) (w .1) (refl, w .0)
+    let w = test-inv (allows r y) y s OutOfRange (suc (length s)) e in
+    carry (λ (z : ℕ) (l : List ℕ). (y ∷ s ≡ z ∷ l) × (allows r z ≡ true)) (w .1) (refl, w .0)
 
-pub byte-got : (r : Range) (x : ℕ) (s : List ℕ) → within r x ≡ true → byte r (x ∷ s) ≡ got x s
+pub byte-got : (r : Range) (x : ℕ) (s : List ℕ) → allows r x ≡ true → byte r (x ∷ s) ≡ got x s
 byte-got r x s t = rw t
 
-pub bytes-got : (r : Range) (xs acc s : List ℕ) → all (within r) xs ≡ true → bytes r (length xs) acc (xs ++ s) ≡ got (acc ++ xs) s
+pub bytes-got : (r : Range) (xs acc s : List ℕ) → all (allows r) xs ≡ true → bytes r (length xs) acc (xs ++ s) ≡ got (acc ++ xs) s
 unfolding bytes
 bytes-got r [] acc s t = rw append-nil
 bytes-got r (x ∷ xs) acc s t =
-    then-got (λ y u. bytes r (length xs) (acc ++ (y ∷ [])) u) (byte-got r x (xs ++ s) (and-left (within r x) (all (within r) xs) t))
-    ∙ bytes-got r xs (acc ++ (x ∷ [])) s (and-right (within r x) (all (within r) xs) t)
+    then-got (λ y u. bytes r (length xs) (acc ++ (y ∷ [])) u) (byte-got r x (xs ++ s) (and-left (allows r x) (all (allows r) xs) t))
+    ∙ bytes-got r xs (acc ++ (x ∷ [])) s (and-right (allows r x) (all (allows r) xs) t)
     ∙ rw append-assoc
 
 -- the bytes new, read after acc
@@ -83,7 +83,7 @@ record Line (r : Range) (k : ℕ) (acc s xs rest : List ℕ) : Type 0 where
   size : length new ≡ k
   is : xs ≡ acc ++ new
   from : s ≡ new ++ rest
-  good : all (within r) new ≡ true
+  good : all (allows r) new ≡ true
 
 line : (r : Range) (k : ℕ) (acc s : List ℕ) {xs rest : List ℕ} → bytes r k acc s ≡ got xs rest → Line r k acc s xs rest
 unfolding bytes
@@ -101,11 +101,11 @@ line r (suc k) acc s e =
     }
 
 pub bytes-inv : (r : Range) (k : ℕ) (s : List ℕ) {xs rest : List ℕ} → bytes r k [] s ≡ got xs rest
-    → (length xs ≡ k) × (s ≡ xs ++ rest) × (all (within r) xs ≡ true)
+    → (length xs ≡ k) × (s ≡ xs ++ rest) × (all (allows r) xs ≡ true)
 bytes-inv r k s {xs} {rest} e =
     let v = line r k [] s e in
     let i : xs ≡ v .new = v .is in
-    (ap length i ∙ v .size, v .from ∙ ap (λ (l : List ℕ). l ++ rest) (sym i), ap (all (within r)) i ∙ v .good)
+    (ap length i ∙ v .size, v .from ∙ ap (λ (l : List ℕ). l ++ rest) (sym i), ap (all (allows r)) i ∙ v .good)
 
 -- ---- runs of records
 

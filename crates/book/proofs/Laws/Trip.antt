@@ -14,9 +14,9 @@ use Rattle.masks.specs.Lists.{all}
 use Rattle.masks.proofs.Laws.Logic.{byBool, and-intro, and-left, and-right, not-elim}
 use Rattle.book.specs.Limits.{maxPredicates, maxClauses, maxSubgoals}
 use Rattle.book.specs.Book.{Call, Mode, Clause, Book}
-use Rattle.book.specs.Format.{Got, bad, got, andThen, inRecord, byte, bytes, many, turn, markAt, within, lowFrom, low, hasMode, spelling, call, predicate, masks, modeFields, mode, subgoal, headFields, clause, rules, readBook, book, judged, judge}
+use Rattle.book.specs.Format.{Got, bad, got, andThen, inRecord, byte, bytes, many, turn, markAt, allows, lowFrom, low, hasMode, spelling, call, predicate, masks, modeFields, mode, subgoal, headFields, clause, rules, readBook, book, judged, judge}
 use Rattle.book.specs.Encode.{run, encPredicate, encMode, encCall, encSubgoal, encClause, encode, callFits, modeFits, rises, clauseFits, WellFormed}
-use Rattle.book.specs.declared.fault.Fault.the-variants.{Conflict}
+use Rattle.book.specs.declared.fault.Fault.the-variants.{Clash}
 use Rattle.book.specs.declared.mark.Mark.the-variants.{Pr, Mo, Cl, Sg, Qu}
 use Rattle.book.specs.declared.mark.Phase.the-variants.{Predicates, Modes, Clauses, Body, Query}
 use Rattle.book.specs.declared.mark.Turn.the-variants.{Mine, Over}
@@ -28,19 +28,19 @@ use Rattle.book.proofs.Laws.Got.{then-inv, then-got, record-inv, record
 -- ---- a call
 
 module _ (r : Range) (ar : List ℕ) (c : Call) where
-  pub call-known : callFits r ar c ≡ true → within (Below (length ar)) (c .pred) ≡ true
-  call-known t = and-left (within (Below (length ar)) (c .pred)) (eqb (length (c .args)) (getD ar (c .pred) 0) && all (within r) (c .args)) t
+  pub call-known : callFits r ar c ≡ true → allows (Below (length ar)) (c .pred) ≡ true
+  call-known t = and-left (allows (Below (length ar)) (c .pred)) (eqb (length (c .args)) (getD ar (c .pred) 0) && all (allows r) (c .args)) t
 
   pub call-size : callFits r ar c ≡ true → length (c .args) ≡ getD ar (c .pred) 0
   call-size t =
       eqb-true (length (c .args)) (getD ar (c .pred) 0)
-      (and-left (eqb (length (c .args)) (getD ar (c .pred) 0)) (all (within r) (c .args))
-      (and-right (within (Below (length ar)) (c .pred)) (eqb (length (c .args)) (getD ar (c .pred) 0) && all (within r) (c .args)) t))
+      (and-left (eqb (length (c .args)) (getD ar (c .pred) 0)) (all (allows r) (c .args))
+      (and-right (allows (Below (length ar)) (c .pred)) (eqb (length (c .args)) (getD ar (c .pred) 0) && all (allows r) (c .args)) t))
 
-  call-range : callFits r ar c ≡ true → all (within r) (c .args) ≡ true
+  call-range : callFits r ar c ≡ true → all (allows r) (c .args) ≡ true
   call-range t =
-      and-right (eqb (length (c .args)) (getD ar (c .pred) 0)) (all (within r) (c .args))
-      (and-right (within (Below (length ar)) (c .pred)) (eqb (length (c .args)) (getD ar (c .pred) 0) && all (within r) (c .args)) t)
+      and-right (eqb (length (c .args)) (getD ar (c .pred) 0)) (all (allows r) (c .args))
+      (and-right (allows (Below (length ar)) (c .pred)) (eqb (length (c .args)) (getD ar (c .pred) 0) && all (allows r) (c .args)) t)
 
   pub call-got : (s : List ℕ) → callFits r ar c ≡ true → call r ar (encCall c ++ s) ≡ got c s
   unfolding call
@@ -61,7 +61,7 @@ call-inv r ar s c t e =
 -- ---- a predicate
 
 abbrev pub PredicateFits : List ℕ → ℕ → Type 0
-PredicateFits acc a = within (AtMost maxArity) a ≡ true
+PredicateFits acc a = allows (AtMost maxArity) a ≡ true
 
 predicate-got : (acc : List ℕ) (a : ℕ) (r : List ℕ) → PredicateFits acc a → predicate acc (encPredicate a ++ r) ≡ got a r
 unfolding predicate
@@ -100,17 +100,17 @@ abbrev pub ModeFits : List ℕ → List Mode → Mode → Type 0
 ModeFits ar acc m = (modeFits ar m ≡ true) × (leb (low acc) (m .pred) ≡ true)
 
 module _ (ar : List ℕ) (m : Mode) (t : modeFits ar m ≡ true) where
-  fields : (within (AtMost maxMasks) (length (m .masks)) && all (within (Below (2 ^ getD ar (m .pred) 0))) (m .masks)) ≡ true
-  fields = and-right (within (Below (length ar)) (m .pred)) (within (AtMost maxMasks) (length (m .masks)) && all (within (Below (2 ^ getD ar (m .pred) 0))) (m .masks)) t
+  fields : (allows (AtMost maxMasks) (length (m .masks)) && all (allows (Below (2 ^ getD ar (m .pred) 0))) (m .masks)) ≡ true
+  fields = and-right (allows (Below (length ar)) (m .pred)) (allows (AtMost maxMasks) (length (m .masks)) && all (allows (Below (2 ^ getD ar (m .pred) 0))) (m .masks)) t
 
-  pub mode-known : within (Below (length ar)) (m .pred) ≡ true
-  mode-known = and-left (within (Below (length ar)) (m .pred)) (within (AtMost maxMasks) (length (m .masks)) && all (within (Below (2 ^ getD ar (m .pred) 0))) (m .masks)) t
+  pub mode-known : allows (Below (length ar)) (m .pred) ≡ true
+  mode-known = and-left (allows (Below (length ar)) (m .pred)) (allows (AtMost maxMasks) (length (m .masks)) && all (allows (Below (2 ^ getD ar (m .pred) 0))) (m .masks)) t
 
-  pub mode-few : within (AtMost maxMasks) (length (m .masks)) ≡ true
-  mode-few = and-left (within (AtMost maxMasks) (length (m .masks))) (all (within (Below (2 ^ getD ar (m .pred) 0))) (m .masks)) fields
+  pub mode-few : allows (AtMost maxMasks) (length (m .masks)) ≡ true
+  mode-few = and-left (allows (AtMost maxMasks) (length (m .masks))) (all (allows (Below (2 ^ getD ar (m .pred) 0))) (m .masks)) fields
 
-  pub mode-range : all (within (Below (2 ^ getD ar (m .pred) 0))) (m .masks) ≡ true
-  mode-range = and-right (within (AtMost maxMasks) (length (m .masks))) (all (within (Below (2 ^ getD ar (m .pred) 0))) (m .masks)) fields
+  pub mode-range : all (allows (Below (2 ^ getD ar (m .pred) 0))) (m .masks) ≡ true
+  mode-range = and-right (allows (AtMost maxMasks) (length (m .masks))) (all (allows (Below (2 ^ getD ar (m .pred) 0))) (m .masks)) fields
 
 masks-got : (ar : List ℕ) (m : Mode) (r : List ℕ) → modeFits ar m ≡ true → masks (2 ^ getD ar (m .pred) 0) (length (m .masks) ∷ (m .masks ++ r)) ≡ got (m .masks) r
 unfolding masks
@@ -119,14 +119,14 @@ masks-got ar m r t =
     ∙ bytes-got (Below (2 ^ getD ar (m .pred) 0)) (m .masks) [] r (mode-range ar m t)
 
 masks-inv : (k : ℕ) (s ms r : List ℕ) → masks k s ≡ got ms r
-    → (s ≡ length ms ∷ (ms ++ r)) × (within (AtMost maxMasks) (length ms) ≡ true) × (all (within (Below k)) ms ≡ true)
+    → (s ≡ length ms ∷ (ms ++ r)) × (allows (AtMost maxMasks) (length ms) ≡ true) × (all (allows (Below k)) ms ≡ true)
 unfolding masks
 masks-inv k s ms r e =
     let w = then-inv (byte (AtMost maxMasks) s) (λ n t. bytes (Below k) n [] t) e in
     let y = byte-inv (AtMost maxMasks) s (w .2) in
     let z = bytes-inv (Below k) (w .0) (w .1) (w .3) in (
       y .0 ∙ (ap (λ (l : List ℕ). w .0 ∷ l) (z .1) ∙ ap (λ (n : ℕ). n ∷ (ms ++ r)) (sym (z .0))),
-      ap (within (AtMost maxMasks)) (z .0) ∙ y .1,
+      ap (allows (AtMost maxMasks)) (z .0) ∙ y .1,
       z .2,
     )
 
@@ -141,13 +141,13 @@ pub mode-inv : (ar : List ℕ) (acc : List Mode) (s : List ℕ) (m : Mode) (r : 
 unfolding mode modeFields
 mode-inv ar acc s m r t e =
     let d = drop 2 s in
-    let last : ℕ → List ℕ → List ℕ → Got Mode = λ p ms u. cond (leb (low acc) p) (got (record { pred = p; masks = ms }) u) (bad Conflict (length d)) in
+    let last : ℕ → List ℕ → List ℕ → Got Mode = λ p ms u. cond (leb (low acc) p) (got (record { pred = p; masks = ms }) u) (bad Clash (length d)) in
     let w = then-inv (byte (Below (length ar)) d) (λ p u. andThen (masks (2 ^ getD ar p 0) u) (last p)) (record-inv s (modeFields ar (low acc) d) e) in
     let p = w .0 in
     let x = byte-inv (Below (length ar)) d (w .2) in
     let v = then-inv (masks (2 ^ getD ar p 0) (w .1)) (last p) (w .3) in
     let y = masks-inv (2 ^ getD ar p 0) (w .1) (v .0) (v .1) (v .2) in
-    let g = test-inv (leb (low acc) p) (record { pred = p; masks = v .0 }) (v .1) Conflict (length d) (v .3) in
+    let g = test-inv (leb (low acc) p) (record { pred = p; masks = v .0 }) (v .1) Clash (length d) (v .3) in
     carry (λ (k : Mode) (l : List ℕ). (s ≡ encMode k ++ l) × ModeFits ar acc k) (g .1) (
       mine-starts Modes s t ∙ ap (λ (l : List ℕ). spelling Mo ++ l) (x .0 ∙ ap (λ (l : List ℕ). p ∷ l) (y .0)),
       (and-intro (x .1) (and-intro (y .1) (y .2)), g .0),
@@ -197,8 +197,8 @@ head-inv : (ar : List ℕ) (ms : List Mode) (s : List ℕ) (h : Call) (r : List 
     → (s ≡ encCall h ++ r) × (callFits HeadArgument ar h ≡ true) × (hasMode ms (h .pred) ≡ false)
 unfolding headFields
 head-inv ar ms s h r e =
-    let w = then-inv (call HeadArgument ar s) (λ k q. cond (hasMode ms (k .pred)) (bad Conflict (length s)) (got k q)) e in
-    let x = untest-inv (hasMode ms (w .0 .pred)) (w .0) (w .1) Conflict (length s) (w .3) in
+    let w = then-inv (call HeadArgument ar s) (λ k q. cond (hasMode ms (k .pred)) (bad Clash (length s)) (got k q)) e in
+    let x = untest-inv (hasMode ms (w .0 .pred)) (w .0) (w .1) Clash (length s) (w .3) in
     let b = call-inv HeadArgument ar s (w .0) (w .1) (w .2) in
     carry (λ (y : Call) (l : List ℕ). (s ≡ encCall y ++ l) × (callFits HeadArgument ar y ≡ true) × (hasMode ms (y .pred) ≡ false)) (x .1) (b .0, b .1, x .0)
 
@@ -243,7 +243,7 @@ module _ (ar : List ℕ) where
 
   -- so there are no more of them than predicates
   pub rising : (b : ℕ) (ms : List Mode) → b ≤ length ar → all (modeFits ar) ms ≡ true → rises b ms ≡ true → b + length ms ≤ length ar
-  unfolding within
+  unfolding allows
   rising b [] h t u = omega arith
   rising b (m ∷ ms) h t u =
       let k : m .pred < length ar = ltb-true _ _ (mode-known ar m (and-left (modeFits ar m) (all (modeFits ar) ms) t)) in
@@ -288,7 +288,7 @@ read-got b w =
     let few : length ar ≤ maxPredicates = leb-true _ _ (w .fewPredicates) in
     let fewer : length ms ≤ suc maxPredicates = let r = rising ar 0 ms (omega arith) (w .modesFit) (w .modesRise) in omega arith in
     then-got _ (many-got Predicates predicate PredicateFits encPredicate (λ a r. mine-leads Predicates (a ∷ r)) (λ acc a r k f. predicate-got acc a r k) maxPredicates [] ar
-    (run encMode ms ++ (run encClause cs ++ asks q)) few (all-each (within (AtMost maxArity)) [] ar (w .aritiesFit)) (over-predicates q ms cs))
+    (run encMode ms ++ (run encClause cs ++ asks q)) few (all-each (allows (AtMost maxArity)) [] ar (w .aritiesFit)) (over-predicates q ms cs))
     ∙ then-got _ (many-got Modes (mode ar) (ModeFits ar) encMode (λ m r. mine-leads Modes (m .pred ∷ length (m .masks) ∷ (m .masks ++ r))) (λ acc m r k f. mode-got ar acc m r k)
     (suc maxPredicates) [] ms (run encClause cs ++ asks q) fewer (modes-each ar [] ms (w .modesFit) (w .modesRise)) (over-modes q cs))
     ∙ then-got _ (many-got Clauses (clause ar ms) (ClauseFits ar ms) encClause (λ c r. mine-leads Clauses ((encCall (c .head) ++ run encSubgoal (c .body)) ++ r)) (clause-reads ar ms)
@@ -324,7 +324,7 @@ read-inv s b r e =
       sym (a .from ∙ ap (λ (l : List ℕ). run encPredicate ar ++ l) modes·),
       record {
         fewPredicates = le-leb _ _ (a .few);
-        aritiesFit = each-all (within (AtMost maxArity)) [] ar (a .good);
+        aritiesFit = each-all (allows (AtMost maxArity)) [] ar (a .good);
         modesFit = f .0;
         modesRise = f .1;
         fewClauses = le-leb _ _ (c .few);

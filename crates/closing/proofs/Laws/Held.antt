@@ -12,7 +12,7 @@ use Rattle.masks.specs.Lists.{all}
 use Rattle.masks.specs.Set.{bitAt}
 use Rattle.book.specs.Limits.{maxPredicates, maxClauses}
 use Rattle.book.specs.Book.{Mode, Clause, Book}
-use Rattle.book.specs.Format.{within}
+use Rattle.book.specs.Format.{allows}
 use Rattle.book.specs.Encode.{modeFits, WellFormed}
 use Rattle.book.specs.Held.{hasIn, modeBytes, modeAt, modesOf, clausesOf, bookIn}
 use Rattle.ordering.specs.Adorn.{Table}
@@ -88,7 +88,7 @@ module _ (preds : ℕ) (arities modes : List ℕ) (clauses : ℕ) (rules : List 
     pub close-held : (set : ℕ) (table after rest : List ℕ) (n : ℕ) → set < 2 ^ maxPredicates → lacked set preds ≡ none → tableIn table preds ≡ final B
         → ModesClosed (bitAt set) table modes after → ClausesKept (bitAt set) rules clauses rest n
         → bookIn preds arities after n rest ≡ close set B
-    unfolding bookIn closeOver within
+    unfolding bookIn closeOver allows
     close-held set table after rest n small none-lacked is closed kept =
         let m = leb-true (length (B .arities)) maxPredicates (w .fewPredicates) in
         let k = kept .few in

@@ -7,7 +7,7 @@ use Prim.Native.Nat.{ℕ, _<_}
 use lib.Dec.{ltb}
 use lib.ListN.{length}
 use Rattle.book.specs.Book.{Mode, Clause, Book}
-use Rattle.book.specs.Format.{within}
+use Rattle.book.specs.Format.{allows}
 use Rattle.book.specs.Encode.{modeFits, WellFormed}
 use Rattle.ordering.specs.Adorn.{Table}
 use Rattle.tables.specs.Table.{entry, modeOf, final}
@@ -73,7 +73,7 @@ module _ (S : ℕ → Bool) (none-in : (p : ℕ) → S p ≡ false) where
   closed-none T ms p = rw (none-in p)
 
   pub close-none : (B : Book) → WellFormed B → closeOver S B ≡ B
-  unfolding closeOver closedModes within
+  unfolding closeOver closedModes allows
   close-none B w =
       ap₂ (changed B)
       (joined-cong (λ p. modeWith p (closedMode S (final B) (B .modes) p)) (λ p. modeWith p (modeOf (B .modes) p)) (length (B .arities))

@@ -13,7 +13,7 @@ use Rattle.masks.specs.Lists.{all}
 use Rattle.masks.specs.Constraint.{inRange}
 use Rattle.book.specs.Limits.{maxClauses, maxSubgoals}
 use Rattle.book.specs.Book.{Clause, Book}
-use Rattle.book.specs.Format.{within, hasMode}
+use Rattle.book.specs.Format.{allows, hasMode}
 use Rattle.book.specs.Encode.{modeFits, clauseFits, WellFormed}
 use Rattle.tables.specs.Table.{entry, modeOf, final}
 use Rattle.closing.specs.Close.{keptClauses, closedMode, closedModes, closeOver}
@@ -38,7 +38,7 @@ module _ (S : ℕ → Bool) (B : Book) (w : WellFormed B) where
 
   -- a written form of a predicate's positions
   final-fits : (p : ℕ) → p < length (B .arities) → modeFits (B .arities) (record { pred = p; masks = entry (final B) p }) ≡ true
-  unfolding within inRange
+  unfolding allows inRange
   final-fits p h =
       and-intro (lt-ltb p (length (B .arities)) h)
       (and-intro (le-leb (length (entry (final B) p)) maxMasks (final-few B w p h))

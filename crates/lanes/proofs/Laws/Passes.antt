@@ -32,7 +32,7 @@ module _ {B : Type 0} (ready : B → ℕ → Bool) (after : B → ℕ → B) whe
   visits-snoc b [] p = refl
   visits-snoc b (q ∷ σ) p = visits-snoc (visit ready after b q) σ p
 
-  -- as long as each was ready in its turn, visiting them is taking them
+  -- as long as each was ready in its subgoal, visiting them is taking them
   good-snoc : (b : B) (σ : List ℕ) (p : ℕ) → goodFrom ready after b (σ ++ (p ∷ [])) ≡ (goodFrom ready after b σ && ready (visits ready after b σ) p)
   unfolding goodFrom visits visit
   good-snoc b [] p = go (ready b p)

@@ -28,25 +28,25 @@ use Rattle.lanes.proofs.Laws.Passes.{visits-suc, good-suc, enough, sett
 
 -- ---- a subgoal in its turn: s is the one at place j
 
-pub record Turn (body : List Call) (j : ℕ) (s : Call) : Type 0 where
+pub record Subgoal (body : List Call) (j : ℕ) (s : Call) : Type 0 where
   pub here : j < length body
   pub is : s ≡ at body j
   pub low : s .pred < maxPredicates
 
-pub turn : {body : List Call} {j : ℕ} {s : Call} → callsBelow maxPredicates body ≡ true → j < length body
-    → s ≡ getD body j (record { pred = 0; args = [] }) → Turn body j s
+pub subgoal : {body : List Call} {j : ℕ} {s : Call} → callsBelow maxPredicates body ≡ true → j < length body
+    → s ≡ getD body j (record { pred = 0; args = [] }) → Subgoal body j s
 unfolding at
-turn {body} {j} t h e =
+subgoal {body} {j} t h e =
     record { here = h; is = e; low = subst (λ (c : Call). c .pred < maxPredicates) (sym e) (callsBelow-at maxPredicates body j t h) }
 
-module _ {body : List Call} {j : ℕ} {s : Call} (t : Turn body j s) (table masks : List ℕ) (q : masks ≡ entryIn table (s .pred)) where
-  pub turn-masks : Low table → inRange allPatterns masks ≡ true
-  turn-masks f = ap (inRange allPatterns) q ∙ f (s .pred) (t .low)
+module _ {body : List Call} {j : ℕ} {s : Call} (t : Subgoal body j s) (table masks : List ℕ) (q : masks ≡ entryIn table (s .pred)) where
+  pub subgoal-masks : Low table → inRange allPatterns masks ≡ true
+  subgoal-masks f = ap (inRange allPatterns) q ∙ f (s .pred) (t .low)
 
-  pub turn-ready : (vars : List ℕ) (r : ℕ) → EachLane (λ a. bitAt r a ≡ admits masks (patternOf (lane a vars) (s .args)))
+  pub subgoal-ready : (vars : List ℕ) (r : ℕ) → EachLane (λ a. bitAt r a ≡ admits masks (patternOf (lane a vars) (s .args)))
       → EachLane (λ a. bitAt r a ≡ readyAt (tableIn table maxPredicates) body (lane a vars) j)
   unfolding ready
-  turn-ready vars r f a l =
+  subgoal-ready vars r f a l =
       f a l
       ∙ ap (λ (m : List ℕ). admits m (patternOf (lane a vars) (s .args))) (q ∙ sym (tableIn-at table maxPredicates (s .pred) (t .low)))
       ∙ ap (ready (tableIn table maxPredicates) (lane a vars)) (t .is)
@@ -64,7 +64,7 @@ module _ (T : Table) (body : List Call) (before : List ℕ) where
   unfolding count visits turns.goodFrom
   visiting-start = record { most = omega arith; lanes = λ a h. refl; good = λ a h. bitAt-ones a h; still = λ e. refl }
 
-  pub visiting-next : {j : ℕ} {s : Call} {vars to : List ℕ} {word r : ℕ} {moved bound then : Bool} → Turn body j s
+  pub visiting-next : {j : ℕ} {s : Call} {vars to : List ℕ} {word r : ℕ} {moved bound then : Bool} → Subgoal body j s
       → EachLane (λ a. bitAt r a ≡ readyAt T body (lane a vars) j) → Binds (s .args) r vars to bound
       → (then ≡ false → (moved ≡ false) × (bound ≡ false)) → Visiting T body before j vars word moved
       → Visiting T body before (j + 1) to (bitAnd word r) then

@@ -9,7 +9,7 @@ use Rattle.book.specs.Limits.{maxPredicates}
 use Rattle.book.specs.Held.{callOf, clauseAt}
 use Rattle.ordering.specs.Held.{tableIn}
 use Rattle.masks.proofs.Laws.Logic.{clash}
-use Rattle.lanes.proofs.Laws.Passing.{Turn, turn, turn-masks, turn-ready, Visiting, visiting-start, visiting-next, visiting-end}
+use Rattle.lanes.proofs.Laws.Passing.{Subgoal, subgoal, subgoal-masks, subgoal-ready, Visiting, visiting-start, visiting-next, visiting-end}
 use Rattle.lanes.proofs.one_pass.Statement.{statement}
 use Rattle.lanes.proofs.one_pass.Tie as tie
 
@@ -32,9 +32,9 @@ subgoal-at-requires c κs = let n = c .before .before .subgoals-at .ensures in (
 
 -- in a turn: s is subgoal j
 this : (c : tie.After-subgoal-at Inv-loop μ-loop)
-    → Turn (clauseAt (c .before .before .before .before .args .rules .now) (c .before .before .before .before .args .k) .body) (c .before .before .loop .j)
+    → Subgoal (clauseAt (c .before .before .before .before .args .rules .now) (c .before .before .before .before .args .k) .body) (c .before .before .loop .j)
     (callOf (c .subgoal-at .result))
-this c = let n = c .before .before .before .subgoals-at .ensures in turn (c .before .before .before .before .pre .1) (omega arith) (c .subgoal-at .ensures)
+this c = let n = c .before .before .before .subgoals-at .ensures in subgoal (c .before .before .before .before .pre .1) (omega arith) (c .subgoal-at .ensures)
 
 mode-at-requires : tie.Need-mode-at-requires Inv-loop μ-loop
 mode-at-requires c κs = this c .low
@@ -43,7 +43,7 @@ ready-lanes-requires : tie.Need-ready-lanes-requires Inv-loop μ-loop
 ready-lanes-requires c κs =
     let mode = c .before .mode-at in
     let s = c .before .before .before .before .before .before in
-    turn-masks (this (c .before .before)) (s .args .table .now) (masksOf (mode .result)) (mode .ensures) (s .pre .2)
+    subgoal-masks (this (c .before .before)) (s .args .table .now) (masksOf (mode .result)) (mode .ensures) (s .pre .2)
 
 bind-lanes-requires : tie.Need-bind-lanes-requires Inv-loop μ-loop
 bind-lanes-requires c κs = search needs
@@ -63,7 +63,7 @@ loop-again c =
     let l = d .before .before .loop in
     let args = d .before .before .before .before .args in
     visiting-next (tableIn (args .table .now) maxPredicates) (clauseAt (args .rules .now) (args .k) .body) (args .vars .now) (this d)
-    (turn-ready (this d) (args .table .now) (masksOf (mode .result)) (mode .ensures) (l .vars) (ready .result) (ready .ensures)) (bind .ensures)
+    (subgoal-ready (this d) (args .table .now) (masksOf (mode .result)) (mode .ensures) (l .vars) (ready .result) (ready .ensures)) (bind .ensures)
     (λ e. ⊎-elim (λ u. clash (u .1) e) (λ u. (sym (u .1) ∙ e, u .0 .left)) (c .if1 .came)) (l .inv)
 
 returns : tie.Need-returns Inv-loop μ-loop

@@ -13,13 +13,13 @@ use Rattle.tables.specs.Table.{rounds}
 use Rattle.needs.specs.Sets.{Owns, Known}
 use Rattle.needs.specs.Round.{Given, Stepped}
 use Rattle.tables.proofs.Laws.Rounds.{rounds-few}
-use Rattle.needs.proofs.Laws.Turns.{Turn, turn-start, turn-final, turn-rounds, turn-less, turn-next}
+use Rattle.needs.proofs.Laws.AtRound.{AtRound, at-round-start, at-round-final, at-round-rounds, at-round-less, at-round-next}
 use Rattle.needs.proofs.Laws.Settling.{read-size, read-few, read-known, read-given, read-heads, read-calling, read-modes, read-start}
 use Rattle.needs.proofs.settle.Statement.{statement}
 use Rattle.needs.proofs.settle.Tie as tie
 
 abbrev Inv-loop : tie.InvT-loop
-Inv-loop preds arities modes clauses rules own callers t₀ due₀ k₀ t due k = Turn (bookIn preds arities modes clauses rules) k (t .needs) due
+Inv-loop preds arities modes clauses rules own callers t₀ due₀ k₀ t due k = AtRound (bookIn preds arities modes clauses rules) k (t .needs) due
 
 abbrev μ-loop : tie.MeasureT-loop
 μ-loop preds arities modes clauses rules own callers t₀ due₀ k₀ t due k = rounds (bookIn preds arities modes clauses rules) - k
@@ -72,7 +72,7 @@ loop-holds : tie.Need-loop-holds Inv-loop μ-loop
 loop-holds c =
     let s = c .before .before .before .before in
     let first = c .before .first-table in
-    turn-start (book s) (first .result .needs) (c .heads .result)
+    at-round-start (book s) (first .result .needs) (c .heads .result)
     (read-start (s .args .preds) (arities s) (modes s) (s .args .clauses) (rules s) (s .pre .0) (s .pre .1) (s .pre .2) (first .result .needs) (first .ensures .0))
     (first .ensures .1)
     (read-heads (s .args .preds) (arities s) (modes s) (s .args .clauses) (rules s) (s .pre .0) (s .pre .1) (s .pre .2) (c .heads .result) (c .heads .ensures))
@@ -89,8 +89,8 @@ returns c =
     let s = d .before .before .before .before .before .before .before in
     let l = d .before .before .loop in
     let n = read-size (s .args .preds) (arities s) (modes s) (s .args .clauses) (rules s) (s .pre .0) (s .pre .1) (s .pre .2) in (
-      ap (tableIn (l .t .needs)) (sym n) ∙ turn-final (book s) (s .pre .2) (l .k) (l .t .needs) (l .due) (l .inv) _ _ (stepped d) (c .if1 .taken),
-      turn-rounds (book s) (s .pre .2) (l .k) (l .t .needs) (l .due) (l .inv) _ _ (stepped d) (c .if1 .taken),
+      ap (tableIn (l .t .needs)) (sym n) ∙ at-round-final (book s) (s .pre .2) (l .k) (l .t .needs) (l .due) (l .inv) _ _ (stepped d) (c .if1 .taken),
+      at-round-rounds (book s) (s .pre .2) (l .k) (l .t .needs) (l .due) (l .inv) _ _ (stepped d) (c .if1 .taken),
     )
 
 calling-requires : tie.Need-calling-requires Inv-loop μ-loop
@@ -102,7 +102,7 @@ less c =
     let d = c .before in
     let s = d .before .before .before .before .before .before .before in
     let l = d .before .before .loop in
-    turn-less (book s) (s .pre .2) (l .k) (l .t .needs) (l .due) (l .inv) _ _ (stepped d) (small d) (c .if1 .left)
+    at-round-less (book s) (s .pre .2) (l .k) (l .t .needs) (l .due) (l .inv) _ _ (stepped d) (small d) (c .if1 .left)
 
 add-k : tie.Need-add-k Inv-loop μ-loop
 add-k c =
@@ -121,7 +121,7 @@ loop-again c =
     let l = d .before .before .loop in
     let callers = d .before .before .before .before .before .callers in
     rw add-one
-    (turn-next (book s) (s .pre .2) (l .k) (l .t .needs) (l .due) (l .inv) _ _ (stepped d) (small d) (c .before .before .before .if1 .left)
+    (at-round-next (book s) (s .pre .2) (l .k) (l .t .needs) (l .due) (l .inv) _ _ (stepped d) (small d) (c .before .before .before .if1 .left)
     (read-calling (s .args .preds) (arities s) (modes s) (s .args .clauses) (rules s) (s .pre .0) (s .pre .1) (s .pre .2) (callers .result)
     (d .round .result .changed) (c .calling .result) (callers .ensures) (c .calling .ensures)))
 

@@ -60,11 +60,11 @@ module _ (table : List ℕ) (n m : ℕ) (h : n ≤ m) where
 
 -- ---- how many places an order has
 
-pub placed-none : (o : Order) → not (o .found) ≡ true → length (placesOf o) ≡ 0
-placed-none o e = rw (not-true (o .found) e)
+pub order-length-none : (o : Order) → not (o .found) ≡ true → length (placesOf o) ≡ 0
+order-length-none o e = rw (not-true (o .found) e)
 
-pub placed-some : (o : Order) → not (o .found) ≡ false → length (o .places) ≡ maxSubgoals → length (placesOf o) ≡ min (o .n) maxSubgoals
-placed-some o e h = rw (not-false (o .found) e, sym h) (length-take (o .n) (o .places))
+pub order-length-some : (o : Order) → not (o .found) ≡ false → length (o .places) ≡ maxSubgoals → length (placesOf o) ≡ min (o .n) maxSubgoals
+order-length-some o e h = rw (not-false (o .found) e, sym h) (length-take (o .n) (o .places))
 
 -- the places are the first of its array
 pub placesOf-take : (o : Order) → placesOf o ≡ take (cond (o .found) (o .n) 0) (o .places)
@@ -75,7 +75,7 @@ placesOf-take o = go (o .found)
     go false = refl
 
 -- each as it is held
-pub placed-at : (o : Order) (i : ℕ) → i < length (placesOf o) → getD (o .places) i 0 ≡ getD (placesOf o) i 0
-placed-at o i h =
+pub order-length-at : (o : Order) (i : ℕ) → i < length (placesOf o) → getD (o .places) i 0 ≡ getD (placesOf o) i 0
+order-length-at o i h =
     let e = placesOf-take o in
     sym (first-at (cond (o .found) (o .n) 0) (o .places) i (subst (λ (l : List ℕ). i < length l) e h)) ∙ ap (λ (l : List ℕ). getD l i 0) (sym e)

@@ -24,7 +24,7 @@ use Rattle.ordering.proofs.Laws.Good.{greedy-is-first, first-below}
 use Rattle.ordering.proofs.Laws.Asks.{asks-snoc, after-snoc}
 use Rattle.ordering.proofs.Laws.Run.{Run, run-start, run-next, run-stuck, run-end}
 use Rattle.ordering.proofs.Laws.Steps.{first-at, pattern-small}
-use Rattle.ordering.proofs.Laws.Held.{placed-at}
+use Rattle.ordering.proofs.Laws.Held.{order-length-at}
 
 -- ---- the patterns of an order, one place more
 
@@ -141,7 +141,7 @@ module _ (T : Table) (body : List Call) (b : Bound) (o : Order) (e : orderOf o �
   order-long = ap (λ σ. length (orNone σ)) e
 
   pub order-at : (i : ℕ) → i < length (placesOf o) → getD (o .places) i 0 ≡ getD order i 0
-  order-at i h = placed-at o i h ∙ ap (λ σ. getD (orNone σ) i 0) e
+  order-at i h = order-length-at o i h ∙ ap (λ σ. getD (orNone σ) i 0) e
 
   pub order-below : (i : ℕ) → i < length (placesOf o) → getD (o .places) i 0 < length body
   order-below i h = let q = order-at i h in let l = order-long in let r = first-below T body b i (omega arith) in omega arith

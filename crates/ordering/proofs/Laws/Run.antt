@@ -18,7 +18,7 @@ use Rattle.book.specs.Book.{Call}
 use Rattle.ordering.specs.Orders.{In, find, without, count}
 use Rattle.ordering.specs.Adorn.{Bound, patternOf, bindAll, ready, after}
 use Rattle.ordering.specs.Good.{at, readyAt, afterAt}
-use Rattle.ordering.specs.Held.{entryIn, tableIn, callsBelow, orElse, picked, PatternAt}
+use Rattle.ordering.specs.Held.{entryIn, tableIn, callsBelow, foundOr, picked, PatternAt}
 use Rattle.masks.proofs.Laws.Logic.{clash, and-left, and-right}
 use Rattle.ordering.proofs.Laws.Orders.{find-some, find-none, find-least, without-in, without-keeps, without-gone, Ascends, ascends-distinct, ascends-without, count-in, in-count, count-ascends}
 use Rattle.ordering.proofs.Laws.Greedy.{greedyOf, greedy}
@@ -55,7 +55,7 @@ free used passes p = not (getD used p false) && passes p
 -- the first that is free is the first from p on
 pub record Scan (used : List Bool) (passes : ℕ → Bool) (n p : ℕ) : Type 0 where
   pub most : p ≤ n
-  pub rest : picked used passes n ≡ orElse n (find (free used passes) (count p (n - p)))
+  pub rest : picked used passes n ≡ foundOr n (find (free used passes) (count p (n - p)))
 
 pub scan-start : (used : List Bool) (passes : ℕ → Bool) (n : ℕ) → Scan used passes n 0
 unfolding picked
@@ -127,10 +127,10 @@ left-next {n} {used} {rem} p h l = record {
 }
 
 -- what the scan finds is the first of them that passes
-left-picked : {n : ℕ} {used : List Bool} {rem : List ℕ} (passes : ℕ → Bool) → Left n used rem → picked used passes n ≡ orElse n (find passes rem)
+left-picked : {n : ℕ} {used : List Bool} {rem : List ℕ} (passes : ℕ → Bool) → Left n used rem → picked used passes n ≡ foundOr n (find passes rem)
 unfolding picked
 left-picked {n} {used} {rem} passes l =
-    ap (orElse n)
+    ap (foundOr n)
     (find-same (free used passes) passes (count 0 n) rem (count-ascends 0 n) (l .rising)
     (λ p m.
     let e = count-in 0 n p (m .0) in
@@ -178,7 +178,7 @@ module _ {B : Type 0} {ready : B → ℕ → Bool} {after : B → ℕ → B} whe
         sym (w .rest) ∙ rw (e, append-nil (take i places)) (ap (λ (j : ℕ). some (take j places)) q)
 
     module _ (r : ℕ) (p : r ≡ picked used (ready b) n) (h : i < n) where
-      found : r ≡ orElse n (find (ready b) (w .rem))
+      found : r ≡ foundOr n (find (ready b) (w .rem))
       found = p ∙ left-picked (ready b) (w .left)
 
       -- nothing that is left is ready
@@ -189,7 +189,7 @@ module _ {B : Type 0} {ready : B → ℕ → Bool} {after : B → ℕ → B} whe
           let e : find (ready b) (w .rem) ≡ none = go (find (ready b) (w .rem)) refl found in
           sym (w .rest) ∙ rw (s, e)
         where
-          go : (o : Option ℕ) → find (ready b) (w .rem) ≡ o → r ≡ orElse n o → o ≡ none
+          go : (o : Option ℕ) → find (ready b) (w .rem) ≡ o → r ≡ foundOr n o → o ≡ none
           go none q e = refl
           go (some x) q e = let m = w .left .only x (find-some (ready b) (w .rem) x q .0) .0 in absurd (omega arith)
 
@@ -213,7 +213,7 @@ module _ {B : Type 0} {ready : B → ℕ → Bool} {after : B → ℕ → B} whe
                 (sym (joined (greedyOf ready after (n - suc i) (after b r) (without r (w .rem)))) ∙ rw (s, e, add-one i) at (w .rest));
           }
         where
-          go : (o : Option ℕ) → r ≡ orElse n o → o ≡ some r
+          go : (o : Option ℕ) → r ≡ foundOr n o → o ≡ some r
           go none e = absurd (omega arith)
           go (some x) e = ap some (sym e)
 

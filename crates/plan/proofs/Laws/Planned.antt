@@ -31,7 +31,7 @@ use Rattle.needs.specs.Sets.{Owns, Known}
 use Rattle.choices.specs.Choice.{clause, Reaches}
 use Rattle.choices.specs.Reached.{marked, reached}
 use Rattle.choices.specs.Plan.{orStanding, firstChoice, chosen, rowsFor, rowsUnder, rowsOf, planRows, encQuery, encRow, image, planned}
-use Rattle.reach.specs.Marked.{markAt, taken, ReachedIn}
+use Rattle.reach.specs.Marked.{markedAt, taken, ReachedIn}
 use Rattle.plan.specs.Lent.{Lent, EachCallable, rowBy, clauseRows, patternRows, planBytes, rowsLength, planLength}
 use Rattle.masks.proofs.Laws.Logic.{byBool, byRange, same, false-of, clash, and-left, and-right}
 use Rattle.masks.proofs.Laws.Lists.{joined-cong, joined-cut}
@@ -115,14 +115,14 @@ module _ (B : Book) (preds clauses : ℕ) (rules table : List ℕ) (l : Lent B p
 
     module _ (own words : List ℕ) (o : Owns rules clauses own) (m : ReachedIn rules clauses table words) where
       -- the words mark what the chosen orders reach
-      reaches-mark : (p a : ℕ) → markAt words p a ≡ true → Reaches B (chosen B) p a
+      reaches-mark : (p a : ℕ) → markedAt words p a ≡ true → Reaches B (chosen B) p a
       reaches-mark p a e = taken-reaches (m B (l .clauses·) (l .query·) p a .0 e)
 
-      marks : (p a : ℕ) → markAt words p a ≡ marked (reached B (chosen B)) p a
+      marks : (p a : ℕ) → markedAt words p a ≡ marked (reached B (chosen B)) p a
       unfolding chosen
       marks p a =
           let f = reached-iff B (chosen B) (l .well) (chosen-choice (final B) B) p a in
-          same (markAt words p a) (marked (reached B (chosen B)) p a)
+          same (markedAt words p a) (marked (reached B (chosen B)) p a)
           (λ e. f .1 (reaches-mark p a e))
           (λ e. m B (l .clauses·) (l .query·) p a .1 (chosen-reaches (f .0 e)))
 
@@ -144,7 +144,7 @@ module _ (B : Book) (preds clauses : ℕ) (rules table : List ℕ) (l : Lent B p
 
       -- ---- the rows of a predicate under a pattern
 
-      rows-one : (p a k : ℕ) → p < maxPredicates → markAt words p a ≡ true → k < clauses
+      rows-one : (p a k : ℕ) → p < maxPredicates → markedAt words p a ≡ true → k < clauses
           → cond (bitAt (getD own p 0) k) (encRow (rowBy rules table k a)) []
           ≡ run encRow (cond (eqb (clause B k .head .pred) p) (record { clause· = k; pattern = a; places = chosen B .forClause k a } ∷ []) [])
       rows-one p a k q e h =
@@ -157,7 +157,7 @@ module _ (B : Book) (preds clauses : ℕ) (rules table : List ℕ) (l : Lent B p
           (subst (λ (r : ℕ). Reaches B (chosen B) r a) (sym (eqb-true (clause B k .head .pred) p t) ∙ ap (λ (d : Clause). d .head .pred) c) (reaches-mark p a e))))
           (λ t. rw (w, t))
 
-      rows-cell : (p a : ℕ) → p < maxPredicates → markAt words p a ≡ true → clauseRows rules table (getD own p 0) a ≡ run encRow (rowsFor B (chosen B) p a)
+      rows-cell : (p a : ℕ) → p < maxPredicates → markedAt words p a ≡ true → clauseRows rules table (getD own p 0) a ≡ run encRow (rowsFor B (chosen B) p a)
       unfolding clauseRows rowsFor
       rows-cell p a q e =
           joined-cut (λ k. cond (bitAt (getD own p 0) k) (encRow (rowBy rules table k a)) []) clauses maxClauses (l .few)
@@ -213,7 +213,7 @@ module _ (B : Book) (preds clauses : ℕ) (rules table : List ℕ) (l : Lent B p
           let c = ap (λ (d : Clause). length (d .body)) (here k h) in
           omega arith
 
-      cell-long : (p a : ℕ) → p < maxPredicates → markAt words p a ≡ true → length (clauseRows rules table (getD own p 0) a) ≡ rowsLength rules (getD own p 0)
+      cell-long : (p a : ℕ) → p < maxPredicates → markedAt words p a ≡ true → length (clauseRows rules table (getD own p 0) a) ≡ rowsLength rules (getD own p 0)
       unfolding clauseRows rowsLength
       cell-long p a q e =
           length-joined (λ k. cond (bitAt (getD own p 0) k) (encRow (rowBy rules table k a)) []) maxClauses

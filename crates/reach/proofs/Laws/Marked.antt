@@ -12,13 +12,13 @@ use Rattle.book.specs.Held.{clauseAt}
 use Rattle.ordering.specs.Adorn.{Bound, headBound}
 use Rattle.ordering.specs.Asks.{Asked, called}
 use Rattle.ordering.specs.Held.{tableIn}
-use Rattle.reach.specs.Marked.{markAt, Marked, callsBy, clauseBy}
+use Rattle.reach.specs.Marked.{markedAt, Marked, callsBy, clauseBy}
 use Rattle.masks.proofs.Laws.Lists.{any-append}
 use Rattle.masks.proofs.Laws.Set.{bitAt-zero, bitAt-or, bitAt-power, eqb-comm}
 use Rattle.needs.proofs.Laws.Calls.{stored-more}
 
 pub marked-nil : (words : List ℕ) → Marked words words 0 []
-marked-nil words = record { marks = λ q b. sym (or-false (markAt words q b)); names· = bitAt-zero }
+marked-nil words = record { marks = λ q b. sym (or-false (markedAt words q b)); names· = bitAt-zero }
 
 pub marked-append : {before between after : List ℕ} {n m : ℕ} {xs ys : List Asked} → Marked before between n xs → Marked between after m ys
     → Marked before after (bitOr n m) (xs ++ ys)
@@ -26,8 +26,8 @@ marked-append {before} {n = n} {m} {xs} {ys} f g = record {
   marks = λ q b.
       g .marks q b
       ∙ ap (λ (x : Bool). x || called q b ys) (f .marks q b)
-      ∙ or-assoc (markAt before q b) (called q b xs) (called q b ys)
-      ∙ ap (λ (x : Bool). markAt before q b || x) (sym (any-append (λ (x : Asked). eqb (x .pred) q && eqb (x .pattern) b) xs ys));
+      ∙ or-assoc (markedAt before q b) (called q b xs) (called q b ys)
+      ∙ ap (λ (x : Bool). markedAt before q b || x) (sym (any-append (λ (x : Asked). eqb (x .pred) q && eqb (x .pattern) b) xs ys));
   names· = λ q.
       bitAt-or n m q
       ∙ ap₂ (λ (x y : Bool). x || y) (f .names· q) (g .names· q)
@@ -40,8 +40,8 @@ pub marked-one : (words : List ℕ) (p a : ℕ) → p < length words
 marked-one words p a h = record {
   marks = λ q b.
       stored-more words p a h q b
-      ∙ ap (λ (x : Bool). markAt words q b || (x && eqb a b)) (eqb-comm q p)
-      ∙ ap (λ (x : Bool). markAt words q b || x) (sym (or-false (eqb p q && eqb a b)));
+      ∙ ap (λ (x : Bool). markedAt words q b || (x && eqb a b)) (eqb-comm q p)
+      ∙ ap (λ (x : Bool). markedAt words q b || x) (sym (or-false (eqb p q && eqb a b)));
   names· = λ q. bitAt-power p q ∙ eqb-comm q p ∙ sym (or-false (eqb p q));
 }
 

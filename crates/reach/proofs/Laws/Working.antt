@@ -23,7 +23,7 @@ use Rattle.ordering.specs.Held.{tableIn}
 use Rattle.needs.specs.Sets.{Owns, Known}
 use Rattle.needs.specs.Round.{Callable}
 use Rattle.choices.specs.Choice.{clause, queryCalls, clauseCalls, Reaches, by-query, by-clause}
-use Rattle.reach.specs.Marked.{markAt, Marked, callsBy, clauseBy, clausesBy, patternsBy, taken, ReachedIn}
+use Rattle.reach.specs.Marked.{markedAt, Marked, callsBy, clauseBy, clausesBy, patternsBy, taken, ReachedIn}
 use Rattle.masks.proofs.Laws.Logic.{byBool, byRange, clash, false-of, and-intro, and-left, and-right, or-left, or-right, or-case}
 use Rattle.masks.proofs.Laws.Lists.{any-joined, joined-any}
 use Rattle.masks.proofs.Laws.Set.{bitAt-zero, bitAt-or}
@@ -118,8 +118,8 @@ module _ (rules : List ℕ) (n : ℕ) (own : List ℕ) (o : Owns rules n own) (p
 -- ---- the loop
 
 -- nothing is marked
-markAt-none : (q b : ℕ) → markAt (replicate maxPredicates 0) q b ≡ false
-markAt-none q b =
+markedAt-none : (q b : ℕ) → markedAt (replicate maxPredicates 0) q b ≡ false
+markedAt-none q b =
     byRange q maxPredicates (bitAt-none q b)
     (λ h.
     let e = length-replicate {A = ℕ} maxPredicates 0 in
@@ -129,12 +129,12 @@ pub record Working (rules table : List ℕ) (n : ℕ) (reached gone : List ℕ) 
   pub small : work < 2 ^ maxPredicates
   pub size : length gone ≡ maxPredicates
   pub reaches : (B : Book) → B .clauses ≡ clausesOf rules n → B .query ≡ clauseAt rules maxClauses .body
-      → (q b : ℕ) → markAt reached q b ≡ true → Reaches B (taken (tableIn table maxPredicates) B) q b
-  pub query· : (q b : ℕ) → called q b (queryBy rules table) ≡ true → markAt reached q b ≡ true
-  pub clauses· : (k a q b : ℕ) → k < n → markAt gone (clauseAt rules k .head .pred) a ≡ true → called q b (clauseBy rules table k a) ≡ true
-      → markAt reached q b ≡ true
+      → (q b : ℕ) → markedAt reached q b ≡ true → Reaches B (taken (tableIn table maxPredicates) B) q b
+  pub query· : (q b : ℕ) → called q b (queryBy rules table) ≡ true → markedAt reached q b ≡ true
+  pub clauses· : (k a q b : ℕ) → k < n → markedAt gone (clauseAt rules k .head .pred) a ≡ true → called q b (clauseBy rules table k a) ≡ true
+      → markedAt reached q b ≡ true
   pub within : (p : ℕ) → Within (getD gone p 0) (getD reached p 0)
-  pub left : (p a : ℕ) → markAt reached p a ≡ true → markAt gone p a ≡ false → bitAt work p ≡ true
+  pub left : (p a : ℕ) → markedAt reached p a ≡ true → markedAt gone p a ≡ false → bitAt work p ≡ true
 
 -- the query's calls are marked, and nothing is gone over
 pub working-start : {rules table : List ℕ} {n : ℕ} {reached : List ℕ} {names : ℕ} → names < 2 ^ maxPredicates
@@ -144,16 +144,16 @@ working-start {rules} {table} {n} {reached} {names} s m = record {
   size = length-replicate {A = ℕ} maxPredicates 0;
   reaches = λ B e f q b t. by-query (ap (called q b) (book-query rules table n B e f) ∙ sym (is q b) ∙ t);
   query· = λ q b t. is q b ∙ t;
-  clauses· = λ k a q b h t u. clash t (markAt-none (clauseAt rules k .head .pred) a);
-  within = λ p a t. clash t (markAt-none p a);
+  clauses· = λ k a q b h t u. clash t (markedAt-none (clauseAt rules k .head .pred) a);
+  within = λ p a t. clash t (markedAt-none p a);
   left = λ p a t u. m .names· p ∙ called-pred p a (queryBy rules table) (sym (is p a) ∙ t);
 }
   where
-    is : (q b : ℕ) → markAt reached q b ≡ called q b (queryBy rules table)
-    is q b = m .marks q b ∙ ap (λ (x : Bool). x || called q b (queryBy rules table)) (markAt-none q b)
+    is : (q b : ℕ) → markedAt reached q b ≡ called q b (queryBy rules table)
+    is q b = m .marks q b ∙ ap (λ (x : Bool). x || called q b (queryBy rules table)) (markedAt-none q b)
 
 -- a turn for predicate p: `all` are its marks, and the calls under those that are new are marked
-pub record Turn (rules table : List ℕ) (n : ℕ) (own reached gone : List ℕ) (p all : ℕ) (after : List ℕ) (names : ℕ) : Type 0 where
+pub record Step (rules table : List ℕ) (n : ℕ) (own reached gone : List ℕ) (p all : ℕ) (after : List ℕ) (names : ℕ) : Type 0 where
   pub owns : Owns rules n own
   pub few : n ≤ maxClauses
   pub is : all ≡ getD reached p 0
@@ -165,18 +165,18 @@ module _ {rules table : List ℕ} {n : ℕ} {reached gone : List ℕ} {work : �
   -- with no work left
   module _ (z : work ≡ 0) (B : Book) (e : B .clauses ≡ clausesOf rules n) (f : B .query ≡ clauseAt rules maxClauses .body) where
     -- a mark is gone over
-    closed : (p a : ℕ) → markAt reached p a ≡ true → markAt gone p a ≡ true
-    closed p a t = byBool (markAt gone p a) (λ u. u) (λ u. clash (w .left p a t u) (ap (λ (x : ℕ). bitAt x p) z ∙ bitAt-zero p))
+    closed : (p a : ℕ) → markedAt reached p a ≡ true → markedAt gone p a ≡ true
+    closed p a t = byBool (markedAt gone p a) (λ u. u) (λ u. clash (w .left p a t u) (ap (λ (x : ℕ). bitAt x p) z ∙ bitAt-zero p))
 
     -- so the marks are closed
-    reached-marked : (q b : ℕ) → Reaches B (taken (tableIn table maxPredicates) B) q b → markAt reached q b ≡ true
+    reached-marked : (q b : ℕ) → Reaches B (taken (tableIn table maxPredicates) B) q b → markedAt reached q b ≡ true
     reached-marked q b r =
-        closed-reaches B (taken (tableIn table maxPredicates) B) (markAt reached)
+        closed-reaches B (taken (tableIn table maxPredicates) B) (markedAt reached)
         (λ q b t. w .query· q b (ap (called q b) (sym (book-query rules table n B e f)) ∙ t))
         (λ k a q b h t u.
         let l : k < n = let s = clauses-count B rules n e in omega arith in
         let c = book-clause B rules n e k l in
-        w .clauses· k a q b l (closed (clauseAt rules k .head .pred) a (ap (λ (d : Clause). markAt reached (d .head .pred) a) (sym c) ∙ t))
+        w .clauses· k a q b l (closed (clauseAt rules k .head .pred) a (ap (λ (d : Clause). markedAt reached (d .head .pred) a) (sym c) ∙ t))
         (ap (called q b) (sym (book-calls rules table n B e f k a l)) ∙ u))
         r
 
@@ -191,7 +191,7 @@ module _ {rules table : List ℕ} {n : ℕ} {reached gone : List ℕ} {work : �
     pub working-low : p < maxPredicates
     working-low = lowest maxPredicates work (w .small) z .small
 
-    module _ {own : List ℕ} {all : ℕ} {after : List ℕ} {names : ℕ} (t : Turn rules table n own reached gone p all after names) where
+    module _ {own : List ℕ} {all : ℕ} {after : List ℕ} {names : ℕ} (t : Step rules table n own reached gone p all after names) where
       abbrev new : ℕ
       new = bitXor all (getD gone p 0)
 
@@ -208,25 +208,25 @@ module _ {rules table : List ℕ} {n : ℕ} {reached gone : List ℕ} {work : �
       grown j u = ap (λ (x : ℕ). bitAt x j) (t .is) ∙ w .within p j u
 
       -- a mark stays, and a call is marked
-      kept : (q b : ℕ) → markAt reached q b ≡ true → markAt after q b ≡ true
-      kept q b u = t .marked .marks q b ∙ or-left (markAt reached q b) (called q b calls) u
+      kept : (q b : ℕ) → markedAt reached q b ≡ true → markedAt after q b ≡ true
+      kept q b u = t .marked .marks q b ∙ or-left (markedAt reached q b) (called q b calls) u
 
-      added : (q b : ℕ) → called q b calls ≡ true → markAt after q b ≡ true
-      added q b u = t .marked .marks q b ∙ or-right (markAt reached q b) u
+      added : (q b : ℕ) → called q b calls ≡ true → markedAt after q b ≡ true
+      added q b u = t .marked .marks q b ∙ or-right (markedAt reached q b) u
 
       -- by which of the two a mark came
-      origin : {P : Type 0} (q b : ℕ) → markAt after q b ≡ true → (markAt reached q b ≡ true → P) → (called q b calls ≡ true → P) → P
-      origin q b u = or-case (markAt reached q b) (called q b calls) (sym (t .marked .marks q b) ∙ u)
+      origin : {P : Type 0} (q b : ℕ) → markedAt after q b ≡ true → (markedAt reached q b ≡ true → P) → (called q b calls ≡ true → P) → P
+      origin q b u = or-case (markedAt reached q b) (called q b calls) (sym (t .marked .marks q b) ∙ u)
 
       -- gone over: all of p, and of the others what was
-      here : (q b : ℕ) → q ≡ p → markAt next q b ≡ markAt reached q b
+      here : (q b : ℕ) → q ≡ p → markedAt next q b ≡ markedAt reached q b
       here q b u =
           let l = working-low in
           let s = w .size in
-          ap (λ (i : ℕ). markAt next i b) u
-          ∙ ap (λ (x : ℕ). bitAt x b) (getD-set-same gone p all 0 (omega arith) ∙ t .is) ∙ ap (λ (i : ℕ). markAt reached i b) (sym u)
+          ap (λ (i : ℕ). markedAt next i b) u
+          ∙ ap (λ (x : ℕ). bitAt x b) (getD-set-same gone p all 0 (omega arith) ∙ t .is) ∙ ap (λ (i : ℕ). markedAt reached i b) (sym u)
 
-      there : (q b : ℕ) → (q ≡ p → ⊥) → markAt next q b ≡ markAt gone q b
+      there : (q b : ℕ) → (q ≡ p → ⊥) → markedAt next q b ≡ markedAt gone q b
       there q b u = ap (λ (x : ℕ). bitAt x b) (getD-set-other gone p q all 0 u)
 
       -- a call is reached
@@ -246,8 +246,8 @@ module _ {rules table : List ℕ} {n : ℕ} {reached gone : List ℕ} {work : �
           (ap (called q b) (book-calls rules table n B e f k a l) ∙ r .4)
 
       -- a clause under a pattern that is gone over: its calls are marked
-      over : (k a q b : ℕ) → k < n → markAt next (clauseAt rules k .head .pred) a ≡ true → called q b (clauseBy rules table k a) ≡ true
-          → markAt after q b ≡ true
+      over : (k a q b : ℕ) → k < n → markedAt next (clauseAt rules k .head .pred) a ≡ true → called q b (clauseBy rules table k a) ≡ true
+          → markedAt after q b ≡ true
       over k a q b l u v =
           let i = clauseAt rules k .head .pred in
           let m = t .few in
@@ -255,8 +255,8 @@ module _ {rules table : List ℕ} {n : ℕ} {reached gone : List ℕ} {work : �
           (λ s.
           let d = eqb-true i p s in
           let j : bitAt all a ≡ true =
-          ap (λ (x : ℕ). bitAt x a) (t .is) ∙ ap (λ (r : ℕ). markAt reached r a) (sym d) ∙ sym (here i a d) ∙ u in
-          byBool (markAt gone p a) (λ g. kept q b (w .clauses· k a q b l (ap (λ (r : ℕ). markAt gone r a) d ∙ g) v))
+          ap (λ (x : ℕ). bitAt x a) (t .is) ∙ ap (λ (r : ℕ). markedAt reached r a) (sym d) ∙ sym (here i a d) ∙ u in
+          byBool (markedAt gone p a) (λ g. kept q b (w .clauses· k a q b l (ap (λ (r : ℕ). markedAt gone r a) d ∙ g) v))
           (λ g.
           added q b
           (calls-any (λ (x : Asked). eqb (x .pred) q && eqb (x .pattern) b) rules table (getD own p 0) new a k
@@ -265,7 +265,7 @@ module _ {rules table : List ℕ} {n : ℕ} {reached gone : List ℕ} {work : �
           (λ s. kept q b (w .clauses· k a q b l (sym (there i a (eqb-false i p s)) ∙ u) v))
 
       -- a predicate that is not p keeps its work
-      waits : (q b : ℕ) → markAt reached q b ≡ true → markAt next q b ≡ false → bitAt (bitAnd work (work - 1)) q ≡ true
+      waits : (q b : ℕ) → markedAt reached q b ≡ true → markedAt next q b ≡ false → bitAt (bitAnd work (work - 1)) q ≡ true
       waits q b u v =
           others maxPredicates work q (w .small) z
           ∙ byBool (eqb q p) (λ s. clash (here q b (eqb-true q p s) ∙ u) v)

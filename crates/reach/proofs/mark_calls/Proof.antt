@@ -23,8 +23,8 @@ abbrev μ-loop : tie.MeasureT-loop
 first-order-requires : tie.Need-first-order-requires Inv-loop μ-loop
 first-order-requires c κs = c .before .pre
 
-placed-requires : tie.Need-placed-requires Inv-loop μ-loop
-placed-requires c κs = search needs
+order-length-requires : tie.Need-order-length-requires Inv-loop μ-loop
+order-length-requires c κs = search needs
 
 loop-holds : tie.Need-loop-holds Inv-loop μ-loop
 loop-holds c = marking-start (c .before .before .words .given .0 .1)
@@ -36,7 +36,7 @@ place : (c : tie.In-loop Inv-loop μ-loop)
 place c =
     let s = c .before .before .before .before .before .args in
     let o = c .before .before .before .first-order in
-    let n = c .before .before .placed .ensures .0 in
+    let n = c .before .before .order-length .ensures .0 in
     order-below (tableIn (s .table .now) maxPredicates) (clauseAt (s .rules .now) (s .k) .body) (s .bound) (o .result) (o .ensures .0) (c .before .loop .i) (omega arith)
 
 element-copy-out-subgoal-at : tie.Need-element-copy-out-subgoal-at Inv-loop μ-loop
@@ -75,7 +75,7 @@ with-member-requires c κs =
     let d = c .before .before .before in
     let s = d .before .before .before .before .before .before .before .args in
     let o = d .before .before .before .before .before .first-order in
-    let n = d .before .before .before .before .placed .ensures .0 in
+    let n = d .before .before .before .before .order-length .ensures .0 in
     let l =
     pattern-low (tableIn (s .table .now) maxPredicates) (clauseAt (s .rules .now) (s .k) .body) (s .bound) (o .result) (o .ensures .0) (o .ensures .1)
     (d .before .before .before .loop .i) (omega arith) (d .subgoal-at .result) (d .subgoal-at .ensures) (few (c .before .before)) in
@@ -106,7 +106,7 @@ unfolding callsBy
 returns c =
     let s = c .before .before .before .before .before .args in
     let o = c .before .before .before .first-order in
-    let n = c .before .before .placed .ensures .0 in
+    let n = c .before .before .order-length .ensures .0 in
     marking-end (tableIn (s .table .now) maxPredicates) (clauseAt (s .rules .now) (s .k) .body) (s .bound) (o .result) (o .ensures .0) (o .ensures .1) (c .before .loop .inv) n (omega arith)
 
 pub mark-calls-spec : {M : Type 1} → statement M
@@ -116,7 +116,7 @@ mark-calls-spec =
     Inv-loop
     μ-loop
     first-order-requires
-    placed-requires
+    order-length-requires
     loop-holds
     element-copy-out-subgoal-at
     cast-subgoal-at

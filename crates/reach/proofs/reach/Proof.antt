@@ -7,7 +7,7 @@ use lib.Count.{trailingZeros}
 use borrow.Author.Needs.{needs}
 use Rattle.ordering.specs.Adorn.{nothing}
 use Rattle.reach.proofs.Laws.Space.{space}
-use Rattle.reach.proofs.Laws.Working.{own-callable, Working, working-start, Turn, working-low, working-next, working-less, working-end}
+use Rattle.reach.proofs.Laws.Working.{own-callable, Working, working-start, Step, working-low, working-next, working-less, working-end}
 use Rattle.reach.proofs.reach.Statement.{statement}
 use Rattle.reach.proofs.reach.Tie as tie
 
@@ -66,7 +66,7 @@ sub-work c = search needs
 turn : (c : tie.After-mark-patterns Inv-loop μ-loop)
     → let d = c .before .before .before .before .before in
     let s = d .before .before .before .before .args in
-    Turn (s .rules .now) (s .table .now) (s .clauses) (s .own .now) (d .before .loop .reached) (d .before .loop .gone) (trailingZeros 64 (d .before .loop .work))
+    Step (s .rules .now) (s .table .now) (s .clauses) (s .own .now) (d .before .loop .reached) (d .before .loop .gone) (trailingZeros 64 (d .before .loop .work))
     (c .before .before .before .word-at .result) (c .mark-patterns .last .1 .1 .1 .1 .0) (c .mark-patterns .result)
 turn c =
     let s = c .before .before .before .before .before .before .before .before .before in

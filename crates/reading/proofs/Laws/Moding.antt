@@ -8,7 +8,7 @@ use lib.ListN.{length, drop, length-append, length-drop}
 use borrow.Author.Tests.{ltb-true, leb-true}
 use Rattle.book.specs.Limits.{maxPredicates}
 use Rattle.book.specs.Book.{Mode}
-use Rattle.book.specs.Format.{within, low, lowFrom, markAt, turn, inRecord, many, mode, modeFields}
+use Rattle.book.specs.Format.{allows, low, lowFrom, markAt, turn, inRecord, many, mode, modeFields}
 use Rattle.book.specs.Encode.{encMode}
 use Rattle.book.specs.Held.{modeAt, modesOf, StoredMode}
 use Rattle.book.specs.declared.fault.Fault.{Fault}
@@ -57,7 +57,7 @@ module _ (ar s : List ℕ) (arities : Arities ar) (from : ℕ) where
             mode-inv ar (modesOf modes b) (drop at s) (record { pred = p; masks = ms }) (drop next s) t (sym (u .is))
 
         fits : (p < length ar) × (b ≤ p)
-        unfolding within
+        unfolding allows
         fits =
             let k : p < length ar = ltb-true p (length ar) (mode-known ar (record { pred = p; masks = ms }) (read .1 .0)) in
             let r : low (modesOf modes b) ≤ p = leb-true _ _ (read .1 .1) in

@@ -7,7 +7,7 @@ use lib.ListN.{length, take, drop, length-drop}
 use Rattle.masks.specs.Limits.{maxArity}
 use Rattle.book.specs.Limits.{maxPredicates, maxClauses, maxSubgoals}
 use Rattle.book.specs.Book.{Call, Mode, Clause, Book}
-use Rattle.book.specs.Format.{within, got, many, predicate, mode, clause, subgoal, rules, readBook, fault, judged, judge}
+use Rattle.book.specs.Format.{allows, got, many, predicate, mode, clause, subgoal, rules, readBook, fault, judged, judge}
 use Rattle.book.specs.Encode.{encPredicate, encClause}
 use Rattle.book.specs.Held.{modesOf, clausesOf, clauseAt, StoredClause, bookIn}
 use Rattle.book.specs.declared.fault.Fault.{Fault}
@@ -51,7 +51,7 @@ module _ (s : List ℕ) {p : Found} {arities : ℕ → List ℕ} (w : Reads s p 
         let u : Reads s (Next at n) arities (many Predicates predicate maxPredicates [] s) =
         subst (λ (q : Found). Reads s q arities (many Predicates predicate maxPredicates [] s)) e w in
         let r = many-inv Predicates predicate PredicateFits encPredicate predicate-inv maxPredicates s (arities n) (drop at s) (sym (u .is)) in
-        record { few = r .few; fit = each-all (within (AtMost maxArity)) [] (arities n) (r .good) }
+        record { few = r .few; fit = each-all (allows (AtMost maxArity)) [] (arities n) (r .good) }
 
     pub whole-next : {q : Found} {f : ℕ → Book} → Reads s q f (rules (arities n) (drop at s)) → judgement q (f (counted q)) ≡ judge s
     unfolding readBook

@@ -13,9 +13,9 @@ use Rattle.masks.specs.Limits.{maxArity, maxMasks}
 use Rattle.masks.proofs.Laws.Logic.{byBool, same, or-left, or-right, or-case}
 use Rattle.book.specs.Limits.{maxSubgoals}
 use Rattle.book.specs.Book.{Call, Mode, Clause}
-use Rattle.book.specs.Format.{within, Got, got, andThen, byte, bytes, inRecord, predicate, call, subgoal, masks, modeFields, hasMode, headFields, clause, many}
+use Rattle.book.specs.Format.{allows, Got, got, andThen, byte, bytes, inRecord, predicate, call, subgoal, masks, modeFields, hasMode, headFields, clause, many}
 use Rattle.book.specs.declared.fault.Fault.{Fault}
-use Rattle.book.specs.declared.fault.Fault.the-variants.{PastEnd, OutOfRange, Conflict}
+use Rattle.book.specs.declared.fault.Fault.the-variants.{PastEnd, OutOfRange, Clash}
 use Rattle.book.specs.declared.mark.Phase.the-variants.{Body}
 use Rattle.book.specs.declared.range.Range.{Range}
 use Rattle.book.specs.declared.range.Range.the-variants.{Below, AtMost, Argument, HeadArgument}
@@ -27,8 +27,8 @@ use Rattle.records.specs.Found.{placeOf, means, Reads, recorded}
 
 -- ---- arguments
 
-pub argument-is : (x : ℕ) → x ≤ 255 → (leb x 15 || leb 254 x) ≡ within Argument x
-unfolding within
+pub argument-is : (x : ℕ) → x ≤ 255 → (leb x 15 || leb 254 x) ≡ allows Argument x
+unfolding allows
 argument-is x h =
     ap (λ (b : Bool). leb x 15 || b)
     (same (leb 254 x) (eqb x 254 || eqb x 255)
@@ -36,8 +36,8 @@ argument-is x h =
     (λ e. or-right (eqb x 254) (eq-eqb x 255 (let n : x ≡ 254 → ⊥ = eqb-false x 254 e in omega arith))))
     (λ t. or-case (eqb x 254) (eqb x 255) t (λ e. let q = eqb-true x 254 e in le-leb 254 x (omega arith)) (λ e. let q = eqb-true x 255 e in le-leb 254 x (omega arith))))
 
-pub head-argument-is : (x : ℕ) → x ≤ 255 → (leb x 15 || leb 255 x) ≡ within HeadArgument x
-unfolding within
+pub head-argument-is : (x : ℕ) → x ≤ 255 → (leb x 15 || leb 255 x) ≡ allows HeadArgument x
+unfolding allows
 head-argument-is x h =
     ap (λ (b : Bool). leb x 15 || b)
     (same (leb 255 x) (eqb x 255) (λ t. let l = leb-true 255 x t in eq-eqb x 255 (omega arith)) (λ e. let q = eqb-true x 255 e in le-leb 255 x (omega arith)))
@@ -51,17 +51,17 @@ module _ (r : Range) (s : List ℕ) (at : ℕ) where
   pub byte-past : at ≤ length s → length s ≤ at → Reads s (Bad PastEnd at) (λ x. x) (byte r (drop at s))
   byte-past g h = let z : length s - at ≡ 0 = omega arith in record { inside = g; is = rw (drop-of-length-le s h, z) }
 
-  pub byte-out : at < length s → within r (getD s at 0) ≡ false → Reads s (Bad OutOfRange at) (λ x. x) (byte r (drop at s))
+  pub byte-out : at < length s → allows r (getD s at 0) ≡ false → Reads s (Bad OutOfRange at) (λ x. x) (byte r (drop at s))
   byte-out h t =
       let z : suc (length (drop (at + 1) s)) ≡ length s - at = simp length-drop (omega arith) in
       record { inside = omega arith; is = rw (drop-at s at h, t, z) }
 
-  pub byte-in : at < length s → within r (getD s at 0) ≡ true → Reads s (Next (at + 1) (getD s at 0)) (λ x. x) (byte r (drop at s))
+  pub byte-in : at < length s → allows r (getD s at 0) ≡ true → Reads s (Next (at + 1) (getD s at 0)) (λ x. x) (byte r (drop at s))
   byte-in h t = record { inside = omega arith; is = rw (drop-at s at h, t) }
 
 -- a byte that was read is in its range
-pub byte-within : (r : Range) (s : List ℕ) (at : ℕ) {next x : ℕ} → Reads s (Next next x) (λ y. y) (byte r (drop at s)) → within r x ≡ true
-byte-within r s at w = byte-inv r (drop at s) (sym (w .is)) .1
+pub byte-allowed : (r : Range) (s : List ℕ) (at : ℕ) {next x : ℕ} → Reads s (Next next x) (λ y. y) (byte r (drop at s)) → allows r x ≡ true
+byte-allowed r s at w = byte-inv r (drop at s) (sym (w .is)) .1
 
 -- ---- what was read, then what follows
 
@@ -148,9 +148,9 @@ module _ (r : Range) (s : List ℕ) (k from : ℕ) where
 
 -- what a predicate that was read is
 pub predicate-known : (ar s : List ℕ) (at : ℕ) {g : Found} → Reads s g (λ x. x) (byte (Below (length ar)) (drop at s)) → {next p : ℕ} → g ≡ Next next p → p < length ar
-unfolding within
+unfolding allows
 predicate-known ar s at {g} w {next} {p} e =
-    ltb-true p (length ar) (byte-within (Below (length ar)) s at (subst (λ (q : Found). Reads s q (λ x. x) (byte (Below (length ar)) (drop at s))) e w))
+    ltb-true p (length ar) (byte-allowed (Below (length ar)) s at (subst (λ (q : Found). Reads s q (λ x. x) (byte (Below (length ar)) (drop at s))) e w))
 
 pub next-inside : {A : Type 0} {s : List ℕ} {g : Found} {f : ℕ → A} {x : Got A} → Reads s g f x → {next n : ℕ} → g ≡ Next next n → next ≤ length s
 next-inside {A} {s} w e = subst (λ (q : Found). placeOf q ≤ length s) e (w .inside)
@@ -194,8 +194,8 @@ module _ (k : ℕ) (s : List ℕ) (at : ℕ) {g : Found} (w : Reads s g (λ x. x
   masks-next e v = then-next _ w e v
 
   pub masks-few : {next n : ℕ} → g ≡ Next next n → n ≤ maxMasks
-  unfolding within
-  masks-few {next} {n} e = leb-true n maxMasks (byte-within (AtMost maxMasks) s at (subst (λ (q : Found). Reads s q (λ x. x) (byte (AtMost maxMasks) (drop at s))) e w))
+  unfolding allows
+  masks-few {next} {n} e = leb-true n maxMasks (byte-allowed (AtMost maxMasks) s at (subst (λ (q : Found). Reads s q (λ x. x) (byte (AtMost maxMasks) (drop at s))) e w))
 
 -- a predicate, then its masks, which are to rise
 module _ (ar s : List ℕ) (b at : ℕ) {g : Found} (w : Reads s g (λ x. x) (byte (Below (length ar)) (drop at s))) where
@@ -212,7 +212,7 @@ module _ (ar s : List ℕ) (b at : ℕ) {g : Found} (w : Reads s g (λ x. x) (by
     mode-masks-bad {f} d = then-next _ w e (then-bad _ sized {h = f} d)
 
     module _ {end n : ℕ} (d : h ≡ Next end n) where
-      pub mode-low : {f : ℕ → Mode} → at ≤ length s → p < b → Reads s (Bad Conflict at) f (modeFields ar b (drop at s))
+      pub mode-low : {f : ℕ → Mode} → at ≤ length s → p < b → Reads s (Bad Clash at) f (modeFields ar b (drop at s))
       unfolding modeFields
       mode-low i l =
           let z : length (drop at s) ≡ length s - at = simp length-drop in
@@ -224,7 +224,7 @@ module _ (ar s : List ℕ) (b at : ℕ) {g : Found} (w : Reads s g (λ x. x) (by
 
 -- a call, then whether its predicate has MO
 pub call-below : (r : Range) (ar s : List ℕ) (at : ℕ) {g : Found} {c : Call} → Reads s g (λ n. c) (call r ar (drop at s)) → {next n : ℕ} → g ≡ Next next n → c .pred < length ar
-unfolding within
+unfolding allows
 call-below r ar s at {g} {c} w {next} {n} e =
     let u : Reads s (Next next n) (λ k. c) (call r ar (drop at s)) = subst (λ (q : Found). Reads s q (λ k. c) (call r ar (drop at s))) e w in
     ltb-true (c .pred) (length ar) (call-known r ar c (call-inv r ar (drop at s) c (drop next s) (sym (u .is)) .1))
@@ -235,7 +235,7 @@ module _ (ar s : List ℕ) (ms : List Mode) (at : ℕ) {g : Found} {c : Call} (w
   head-bad {f} e = then-bad _ w {h = f} e
 
   module _ {next n : ℕ} (e : g ≡ Next next n) where
-    pub head-has : {f : ℕ → Call} → at ≤ length s → hasMode ms (c .pred) ≡ true → Reads s (Bad Conflict at) f (headFields ar ms (drop at s))
+    pub head-has : {f : ℕ → Call} → at ≤ length s → hasMode ms (c .pred) ≡ true → Reads s (Bad Clash at) f (headFields ar ms (drop at s))
     unfolding headFields
     head-has i t =
         let z : length (drop at s) ≡ length s - at = simp length-drop in

@@ -8,7 +8,7 @@ use Prim.Native.Nat.{ℕ}
 use Rattle.masks.specs.Mask.{within}
 use Rattle.masks.specs.Constraint.{admits, drops, least, written, minimise}
 use Rattle.book.specs.Book.{Call, Mode, Clause, Book}
-use Rattle.book.proofs.Laws.Examples.{bench}
+use Rattle.book.proofs.Laws.Examples.{k1-book}
 use Rattle.ordering.specs.Adorn.{Table, nothing, isBound, patternOf, bindVar, bindAll, bindHead, headBound, ready, after}
 use Rattle.ordering.specs.Orders.{find, without, each, ordersOf, count, orders}
 use Rattle.ordering.specs.Turns as turns
@@ -17,7 +17,7 @@ use Rattle.tables.specs.Table.{modeOf, firstNeeds, start, own, defined, 
 use Rattle.tables.specs.Image.{image}
 
 unfoldable pub compute : Unit {0}
-unfolding within admits drops least written minimise bench nothing isBound patternOf bindVar bindAll bindHead headBound ready after find without each ordersOf count orders turns.goodFrom turns.firstGood at goodClause modeOf firstNeeds start own defined good next step table settled patternsOf seek rounds final
+unfolding within admits drops least written minimise k1-book nothing isBound patternOf bindVar bindAll bindHead headBound ready after find without each ordersOf count orders turns.goodFrom turns.firstGood at goodClause modeOf firstNeeds start own defined good next step table settled patternsOf seek rounds final
 compute = tt
 
 -- ---- books
@@ -50,7 +50,7 @@ EachHolds (r ∷ rs) = Holds r × EachHolds rs
 
 -- "K1: the book above"
 abbrev pub k1 : Row
-k1 = record { book = bench; rounds = 1; needs = (0 ∷ []) ∷ (1 ∷ []) ∷ (1 ∷ []) ∷ (1 ∷ []) ∷ [] }
+k1 = record { book = k1-book; rounds = 1; needs = (0 ∷ []) ∷ (1 ∷ []) ∷ (1 ∷ []) ∷ (1 ∷ []) ∷ [] }
 
 -- "K2: QU alone: 0 rounds"
 abbrev pub k2 : Row
@@ -200,6 +200,6 @@ others-hold = ((refl, refl), ((refl, refl), tt))
 -- ---- an image
 
 -- "for each predicate in turn CN, predicate, n, n masks"
-pub k1-image : image bench ≡ 67 ∷ 78 ∷ 0 ∷ 1 ∷ 0 ∷ 67 ∷ 78 ∷ 1 ∷ 1 ∷ 1 ∷ 67 ∷ 78 ∷ 2 ∷ 1 ∷ 1 ∷ 67 ∷ 78 ∷ 3 ∷ 1 ∷ 1 ∷ []
+pub k1-image : image k1-book ≡ 67 ∷ 78 ∷ 0 ∷ 1 ∷ 0 ∷ 67 ∷ 78 ∷ 1 ∷ 1 ∷ 1 ∷ 67 ∷ 78 ∷ 2 ∷ 1 ∷ 1 ∷ 67 ∷ 78 ∷ 3 ∷ 1 ∷ 1 ∷ []
 unfolding compute image
 k1-image = refl

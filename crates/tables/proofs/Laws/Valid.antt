@@ -14,7 +14,7 @@ use Rattle.masks.specs.Constraint.{inRange}
 use Rattle.masks.proofs.Laws.Logic.{clash, and-left, and-right, or-case}
 use Rattle.masks.proofs.Laws.Lists.{all-mono, all-at}
 use Rattle.book.specs.Book.{Call, Mode, Clause, Book}
-use Rattle.book.specs.Format.{within, hasMode}
+use Rattle.book.specs.Format.{allows, hasMode}
 use Rattle.book.specs.Encode.{callFits, modeFits, clauseFits, WellFormed}
 use Rattle.book.specs.declared.range.Range.the-variants.{Argument, HeadArgument}
 use Rattle.book.proofs.Laws.Trip.{call-known, call-size, mode-range, clause-head, clause-free, clause-goals}
@@ -27,14 +27,14 @@ use Rattle.tables.proofs.Laws.Modes.{modeOf-all, mode-none}
 -- ---- a clause
 
 pub calls-known : (ar : List ℕ) (body : List Call) → all (callFits Argument ar) body ≡ true → callsBelow (length ar) body ≡ true
-unfolding callsBelow within
+unfolding callsBelow allows
 calls-known ar body = all-mono (callFits Argument ar) (λ s. ltb (s .pred) (length ar)) (λ s. call-known Argument ar s) body
 
 body-known : (ar : List ℕ) (ms : List Mode) (c : Clause) → clauseFits ar ms c ≡ true → callsBelow (length ar) (c .body) ≡ true
 body-known ar ms c t = calls-known ar (c .body) (clause-goals ar ms c t)
 
 head-known : (ar : List ℕ) (ms : List Mode) (c : Clause) → clauseFits ar ms c ≡ true → c .head .pred < length ar
-unfolding within
+unfolding allows
 head-known ar ms c t = ltb-true (c .head .pred) (length ar) (call-known HeadArgument ar (c .head) (clause-head ar ms c t))
 
 defined-fits : (ar : List ℕ) (ms : List Mode) (cs : List Clause) → all (clauseFits ar ms) cs ≡ true → (p : ℕ) → defined cs p ≡ true
@@ -56,7 +56,7 @@ module _ (ar : List ℕ) (body : List Call) (t : all (callFits Argument ar) body
   goal-fits = all-at (callFits Argument ar) (record { pred = 0; args = [] }) body p h t
 
   pub goal-known : at body p .pred < length ar
-  unfolding within
+  unfolding allows
   goal-known = ltb-true (at body p .pred) (length ar) (call-known Argument ar (at body p) goal-fits)
 
   pub goal-size : length (at body p .args) ≡ getD ar (at body p .pred) 0
@@ -69,7 +69,7 @@ module _ (B : Book) (w : WellFormed B) where
   arity-low p = arities-at (B .arities) (w .aritiesFit) p
 
   pub masks-low : (p : ℕ) (masks : List ℕ) → modeOf (B .modes) p ≡ some masks → inRange (2 ^ getD (B .arities) p 0) masks ≡ true
-  unfolding inRange within
+  unfolding inRange allows
   masks-low p masks e = mode-range (B .arities) (record { pred = p; masks = masks }) (modeOf-all (modeFits (B .arities)) (B .modes) (w .modesFit) p masks e)
 
   pub defined-known : (p : ℕ) → defined (B .clauses) p ≡ true → p < length (B .arities)

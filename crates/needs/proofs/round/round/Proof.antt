@@ -16,7 +16,7 @@ use Rattle.masks.specs.Held.{masksOf}
 use Rattle.masks.specs.Set.{bitAt}
 use Rattle.masks.proofs.Laws.Held.{masksOf-packed}
 use Rattle.masks.proofs.Laws.Members.{others-less, Over, over-start, over-end, over-lowest, over-member, over-here, over-next}
-use Rattle.needs.proofs.Laws.Turns.{rounding-end}
+use Rattle.needs.proofs.Laws.AtRound.{rounding-end}
 use Rattle.needs.proofs.Laws.Rounding.{given-arity, given-callable, gets, Rounding, rounding-start, rounding-skip, rounding-same, rounding-new}
 use Rattle.needs.proofs.round.round.Statement.{statement}
 use Rattle.needs.proofs.round.round.Tie as tie

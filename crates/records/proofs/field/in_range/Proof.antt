@@ -2,7 +2,7 @@
 use mathlib.Core.Path.{_∙_}
 use native.Mathlib.Omega.{arith}
 use borrow.Author.Needs.{needs}
-use Rattle.book.specs.Format.{within}
+use Rattle.book.specs.Format.{allows}
 use Rattle.records.proofs.Laws.Reads.{argument-is, head-argument-is}
 use Rattle.records.proofs.field.in_range.Statement.{statement}
 use Rattle.records.proofs.field.in_range.Tie as tie
@@ -26,11 +26,11 @@ is-argument-requires-2 : tie.Need-is-argument-requires-2
 is-argument-requires-2 c κs = search needs
 
 returns : tie.Need-returns
-unfolding within
+unfolding allows
 returns c = rw (c .before .range .given .1)
 
 returns-2 : tie.Need-returns-2
-unfolding within
+unfolding allows
 returns-2 c = rw (c .before .range2 .given .1)
 
 returns-3 : tie.Need-returns-3

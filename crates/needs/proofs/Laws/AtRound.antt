@@ -73,14 +73,14 @@ module _ (B : Book) (arities rules own· old : List ℕ) (due : ℕ) (g : Given 
 
 -- ---- the loop: table k, with what is due
 
-pub record Turn (B : Book) (k : ℕ) (needs : List ℕ) (due : ℕ) : Type 0 where
+pub record AtRound (B : Book) (k : ℕ) (needs : List ℕ) (due : ℕ) : Type 0 where
   pub going : Going B k (tableIn needs (length (B .arities)))
   pub low : Low needs
   pub due· : Due B (tableIn needs (length (B .arities))) due
 
-pub turn-start : (B : Book) (needs : List ℕ) (due : ℕ) → tableIn needs (length (B .arities)) ≡ start B → Low needs → Holds due (defined (B .clauses))
-    → Turn B 0 needs due
-turn-start B needs due e l h =
+pub at-round-start : (B : Book) (needs : List ℕ) (due : ℕ) → tableIn needs (length (B .arities)) ≡ start B → Low needs → Holds due (defined (B .clauses))
+    → AtRound B 0 needs due
+at-round-start B needs due e l h =
     record {
       going = subst (λ (T : Table). Going B 0 T) (sym e) (going-start B);
       low = l;
@@ -90,7 +90,7 @@ turn-start B needs due e l h =
       };
     }
 
-module _ (B : Book) (w : WellFormed B) (k : ℕ) (old : List ℕ) (due : ℕ) (t : Turn B k old due) (new : List ℕ) (changed : ℕ) (s : Stepped B old new changed) where
+module _ (B : Book) (w : WellFormed B) (k : ℕ) (old : List ℕ) (due : ℕ) (t : AtRound B k old due) (new : List ℕ) (changed : ℕ) (s : Stepped B old new changed) where
   abbrev n : ℕ
   n = length (B .arities)
 
@@ -108,11 +108,11 @@ module _ (B : Book) (w : WellFormed B) (k : ℕ) (old : List ℕ) (due : ℕ) (t
       let f = few in
       sym (s .table) ∙ values-cong (entryIn new) (entryIn old) n (λ p h. unmarked p (omega arith) (ap (λ (x : ℕ). bitAt x p) e ∙ bitAt-zero p))
 
-  pub turn-final : changed ≡ 0 → tableIn old n ≡ final B
-  turn-final e = going-final B k (tableIn old n) (t .going) w (same-table e)
+  pub at-round-final : changed ≡ 0 → tableIn old n ≡ final B
+  at-round-final e = going-final B k (tableIn old n) (t .going) w (same-table e)
 
-  pub turn-rounds : changed ≡ 0 → k ≡ rounds B
-  turn-rounds e = going-rounds B k (tableIn old n) (t .going) w (same-table e)
+  pub at-round-rounds : changed ≡ 0 → k ≡ rounds B
+  at-round-rounds e = going-rounds B k (tableIn old n) (t .going) w (same-table e)
 
   -- one is marked: the table is another
   module _ (small : changed < 2 ^ 64) (z : changed ≡ 0 → ⊥) where
@@ -126,11 +126,11 @@ module _ (B : Book) (w : WellFormed B) (k : ℕ) (old : List ℕ) (due : ℕ) (t
         sym (tableIn-at new n m h) ∙ ap (λ (T : Table). entry T m) (s .table ∙ e) ∙ tableIn-at old n m h in
         false≢true (sym (s .changed· m (omega arith) ∙ ap not (ap (λ (c : List ℕ). sameMasks c (entryIn old m)) q ∙ sameMasks-refl (entryIn old m))) ∙ l .member)
 
-    pub turn-less : k < rounds B
-    turn-less = going-less B k (tableIn old n) (t .going) w other-table
+    pub at-round-less : k < rounds B
+    at-round-less = going-less B k (tableIn old n) (t .going) w other-table
 
-    pub turn-next : {more : ℕ} → Holds more (touched (bitAt changed) (B .clauses)) → Turn B (suc k) new more
-    turn-next {more} h =
+    pub at-round-next : {more : ℕ} → Holds more (touched (bitAt changed) (B .clauses)) → AtRound B (suc k) new more
+    at-round-next {more} h =
         record {
           going = subst (λ (T : Table). Going B (suc k) T) (sym (s .table)) (going-next B k (tableIn old n) (t .going) other-table);
           low = s .low;
