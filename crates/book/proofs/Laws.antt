@@ -5,6 +5,7 @@ pub mod Trip
 pub mod Answer
 pub mod Encode
 pub mod Bound
+pub mod Longest
 pub mod Examples
 pub mod Windows
 pub mod Words

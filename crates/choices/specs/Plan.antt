@@ -44,6 +44,10 @@ pub record Row : Type 0 where
   pub pattern : ℕ
   pub places : List ℕ
 
+-- what a row stands by: its clause's predicate, its pattern, its clause
+unfoldable pub rowKey : Book → Row → List ℕ
+rowKey B r = clause B (r .clause·) .head .pred ∷ r .pattern ∷ r .clause· ∷ []
+
 -- the clauses of p under pattern a, in turn
 unfoldable pub rowsFor : Book → Choice → ℕ → ℕ → List Row
 rowsFor B χ p a =

@@ -1,2 +1,3 @@
--- That the demands are met.
+-- That what is promised holds.
+pub mod Examples
 pub mod Demands

@@ -1,48 +1,56 @@
--- The file to open first: the three demands, each one statement over the definitions that the contracts of the public operations name. That the code
--- keeps to those contracts, is safe and ends is proved function by function; that the demands are met, and document 01's examples K1 to K12, in
+-- The file to open first: everything that this repository promises as a whole, as one statement, `Demands`, over the definitions that the contracts of the
+-- public operations name. That the code keeps to those contracts, is safe and ends is proved function by function; that `Demands` holds, in
 -- proofs/Laws/Demands.antt. Assumes nothing.
 use mathlib.Core.Path.{_≡_}
-use mathlib.Core.Bool.{true}
+use mathlib.Core.Bool.{true, false}
 use mathlib.Core.Logic.{_↔_}
-use mathlib.Core.List.{List}
+use mathlib.Core.List.{List, [], _∷_, _++_}
 use mathlib.Core.Option.{none, some}
-use Prim.Native.Nat.{ℕ, suc, _≤_, _<_}
+use Prim.Native.Nat.{ℕ, suc, _+_, _^_, _≤_, _<_}
 use lib.Bits.{bitOr}
-use lib.ListN.{length, take, drop}
+use lib.ListN.{length, getD, take, drop}
+use Rattle.masks.specs.Constraint.{admits}
 use Rattle.masks.specs.Outcome.{Outcome, refused, done, Answers}
 use Rattle.masks.specs.Joining.{joining}
 use Rattle.masks.specs.declared.Way.the-variants.{Choice, Joint}
 use Rattle.masks.specs.declared.reply.Reply.{Reply}
-use Rattle.book.specs.Limits.{longest}
-use Rattle.book.specs.Book.{Call, Book}
-use Rattle.book.specs.Format.{number, fault, book, judge}
-use Rattle.book.specs.Encode.{encode, WellFormed}
+use Rattle.book.specs.Limits.{longest, shortest}
+use Rattle.book.specs.Book.{Call, Clause, Book}
+use Rattle.book.specs.Format.{spelling, number, fault, book, judge}
+use Rattle.book.specs.Encode.{run, encode, WellFormed}
+use Rattle.book.specs.Held.{bookIn}
 use Rattle.book.specs.declared.fault.Fault.{Fault}
+use Rattle.book.specs.declared.mark.Mark.the-variants.{Pr, Mo, Cl, Sg, Qu}
 use Rattle.reading.specs.Judged.{checked}
 use Rattle.ordering.specs.Adorn.{Table, Bound, nothing, headBound}
-use Rattle.ordering.specs.Orders.{In, Rearranges, Least}
-use Rattle.ordering.specs.Good.{goodFrom}
-use Rattle.tables.specs.Table.{table, rounds, final}
+use Rattle.ordering.specs.Orders.{In, Rearranges, LexLt, Least, Sorted}
+use Rattle.ordering.specs.Good.{goodFrom, goodClause}
+use Rattle.tables.specs.Table.{entry, modeOf, firstNeed, defined, table, rounds, final}
 use Rattle.tables.specs.Image as analysed
 use Rattle.choices.specs.Choice.{clause, IsChoice, Reaches, WellModed, Orderable}
-use Rattle.choices.specs.Plan.{Row, chosen, planRows, image, planning}
+use Rattle.choices.specs.Plan.{Row, rowKey, chosen, planRows, image, planning}
+use Rattle.printing.specs.Sheet.{line, printing}
 use Rattle.closing.specs.Close.{lacked, closing}
 
 -- ---- Demand 1: every string of bytes gets a defined reply; a refusal has its number and place and alters no byte of a lent buffer
 
--- The public operations that are lent a buffer, with their input. (`reading::check` is lent none.)
+-- The public operations that are lent a buffer, with their input: `choice` and `joint` of the crate `masks`, `analyse`, `plan`, `close`, `sheet`, and
+-- `write_book`, whose input is a book as the code holds it. (`check` is lent none.)
 pub data Operation : Type 0 where
   choice joint : (arity : ℕ) (first second : List ℕ) → Operation
-  analyse plan : (bytes : List ℕ) → Operation
+  analyse plan sheet : (bytes : List ℕ) → Operation
   close : (set : ℕ) (bytes : List ℕ) → Operation
+  write : (preds : ℕ) (arities modes : List ℕ) (clauses : ℕ) (rules : List ℕ) → Operation
 
--- What each comes to: the contracts of `masks::choice`, `masks::joint`, `needs::analyse`, `plan::plan` and `closing::close` are `Answers` of this.
+-- What each comes to: the contract of each is `Answers` of this. Those of the C functions cite it by this name.
 abbrev pub outcome : Operation → Outcome
 outcome (choice arity first second) = joining Choice arity first second
 outcome (joint arity first second) = joining Joint arity first second
 outcome (analyse bytes) = analysed.analysis bytes
 outcome (plan bytes) = planning bytes
+outcome (sheet bytes) = printing bytes
 outcome (close set bytes) = closing set bytes
+outcome (write preds arities modes clauses rules) = done 0 (encode (bookIn preds arities modes clauses rules))
 
 -- There is an answer, the reply and every byte of the buffer, and it is the only one.
 pub record OneAnswer (o : Outcome) (out : List ℕ) : Type 0 where
@@ -50,6 +58,10 @@ pub record OneAnswer (o : Outcome) (out : List ℕ) : Type 0 where
   pub after : List ℕ
   pub answers : Answers o out reply· after
   pub only : (r : Reply) (a : List ℕ) → Answers o out r a → (r ≡ reply·) × (a ≡ after)
+
+-- There is a valid book of n bytes.
+abbrev pub BookOf : ℕ → Type 0
+BookOf n = (s : List ℕ) × (B : Book) × (judge s ≡ book B) × (length s ≡ n)
 
 -- Every operation on a book refuses the bytes with number n, from 1 to 6, and a place in them or at their end.
 pub record Faulty (s : List ℕ) (n at : ℕ) : Type 0 where
@@ -71,7 +83,10 @@ pub record Demand1 : Type 0 where
       → drop (r .value) after ≡ drop (r .value) out
   -- the strings that are books are the bytes of the books that keep to all limits
   pub books : (s : List ℕ) (B : Book) → (judge s ≡ book B) ↔ ((encode B ≡ s) × WellFormed B)
-  -- and the check answers 0 with the value 0 exactly for these
+  -- "The longest book is therefore 6,962 bytes .., the shortest 2": none is longer or shorter, and there is one of each length
+  pub most : (s : List ℕ) (B : Book) → judge s ≡ book B → (shortest ≤ length s) × (length s ≤ longest)
+  pub attained : BookOf shortest × BookOf longest
+  -- and the check answers 0 with the value 0 exactly for the books
   pub checks : (s : List ℕ) → (checked (judge s) ≡ record { number = 0; value = 0; rounds = 0 }) ↔ ((B : Book) × (judge s ≡ book B))
   -- all others have a first fault, with which they are refused
   pub faults : (s : List ℕ) (f : Fault) (at : ℕ) → judge s ≡ fault f at → Faulty s (number f) at
@@ -79,12 +94,30 @@ pub record Demand1 : Type 0 where
 -- ---- Demand 2: the needs are those of document 01; an accepted book gets orders in which every outside call has what it must have; a book is refused as
 -- unorderable exactly when no orders give that; the order chosen is the first of the good ones
 
--- Of the orders of a body that are good against a table, with b bound at the start, σ is the first, "compared from the left".
+-- σ is an order of a body, and with b bound at the start it "makes every subgoal's pattern fit the constraint of its predicate" in a table.
+abbrev pub GoodOrder : Table → List Call → Bound → List ℕ → Type 0
+GoodOrder T body b σ = Rearranges (length body) σ × (goodFrom T body b σ ≡ true)
+
+-- "A clause is good under a head pattern when some order" does.
+abbrev pub GoodClause : Table → Clause → ℕ → Type 0
+GoodClause T c a = (σ : List ℕ) × GoodOrder T (c .body) (headBound (c .head .args) a) σ
+
+-- "A predicate's pattern is good when all its clauses are good under it."
+abbrev pub GoodPattern : Table → Book → ℕ → ℕ → Type 0
+GoodPattern T B p a = (j : ℕ) → j < length (B .clauses) → clause B j .head .pred ≡ p → GoodClause T (clause B j) a
+
+-- Of the good orders of a body σ is the first, "compared from the left".
 abbrev pub FirstGood : Table → List Call → Bound → List ℕ → Type 0
-FirstGood T body b σ = Least (λ τ. Rearranges (length body) τ × (goodFrom T body b τ ≡ true)) (some σ)
+FirstGood T body b σ = Least (GoodOrder T body b) (some σ)
 
 -- Of the bytes of a valid book.
 pub record Demand2 (s : List ℕ) (B : Book) : Type 0 where
+  -- "Table 0: each MO as given and minimised, all others trivial."
+  pub first : (p : ℕ) → p < length (B .arities) → entry (table B 0) p ≡ firstNeed (modeOf (B .modes) p)
+  -- "Table k+1: each predicate with clauses gets exactly the patterns good under table k, the rest keep theirs."
+  pub gets : (k p a : ℕ) → p < length (B .arities) → defined (B .clauses) p ≡ true → a < 2 ^ getD (B .arities) p 0
+      → (admits (entry (table B (suc k)) p) a ≡ true) ↔ GoodPattern (table B k) B p a
+  pub keeps : (k p : ℕ) → p < length (B .arities) → defined (B .clauses) p ≡ false → entry (table B (suc k)) p ≡ entry (table B k) p
   -- the analysis gives the image of table k and k rounds, where k is the least at which table k+1 equals table k
   pub needs : analysed.analysis s ≡ done (rounds B) (analysed.image B)
   pub last : final B ≡ table B (rounds B)
@@ -103,6 +136,8 @@ pub record Demand2 (s : List ℕ) (B : Book) : Type 0 where
   -- it has a record for exactly the clauses of reached predicates, under the patterns reached
   pub reached : (k a : ℕ) → ((σ : List ℕ) × In (record { clause· = k; pattern = a; places = σ }) (planRows B))
       ↔ ((k < length (B .clauses)) × Reaches B (chosen B) (clause B k .head .pred) a)
+  -- its records stand "ascending by predicate and then pattern, for each of its clauses in turn", each once
+  pub ascending : Sorted (λ (r q : Row). LexLt (rowKey B r) (rowKey B q)) (planRows B)
   -- each order is the first of the good ones
   pub queryFirst : Orderable B → FirstGood (final B) (B .query) nothing (chosen B .forQuery)
   pub clauseFirst : Orderable B → (r : Row) → In r (planRows B)
@@ -147,3 +182,132 @@ pub record Demand3 (s : List ℕ) (B : Book) : Type 0 where
   pub again : (set : ℕ) (t u : List ℕ) → Closes set s t → Closes set t u → u ≡ t
   pub none· : (t : List ℕ) → Closes 0 s t → t ≡ s
   pub one : (set : ℕ) (t u : List ℕ) → Closes set s t → Closes set s u → t ≡ u
+
+-- ---- Document 01's examples: "K1 to K12 are proved as one table under one statement." Where it gives no numbers to predicates and no query, the predicates
+-- without clauses come first, and the query reaches the patterns that it names.
+
+pub data Example : Type 0 where
+  -- the bytes of a valid book; its rounds and its table; its plan, or that it has none
+  ofBook : (bytes : List ℕ) (rounds : ℕ) (table : List ℕ) (plan : Outcome) → Example
+  -- the bytes of a book, and what is printed of it
+  ofSheet : (bytes sheet : List ℕ) → Example
+  -- two lists of masks of six positions, and their joint
+  ofMasks : (first second joint : List ℕ) → Example
+
+abbrev pub Holds : Example → Type 0
+Holds (ofBook s k t p) = (checked (judge s) ≡ record { number = 0; value = 0; rounds = 0 }) × (outcome (analyse s) ≡ done k t) × (outcome (plan s) ≡ p)
+Holds (ofSheet s t) = outcome (sheet s) ≡ done 0 t
+Holds (ofMasks x y z) = outcome (joint 6 x y) ≡ done 0 z
+
+abbrev pub EachHolds : List Example → Type 0
+EachHolds [] = Unit {0}
+EachHolds (e ∷ es) = Holds e × EachHolds es
+
+-- the records of a book, of a table and of a plan: a mark, and its fields
+abbrev pub PR : List ℕ → List ℕ
+PR fields = spelling Pr ++ fields
+
+abbrev pub MO : List ℕ → List ℕ
+MO fields = spelling Mo ++ fields
+
+abbrev pub CL : List ℕ → List ℕ
+CL fields = spelling Cl ++ fields
+
+abbrev pub SG : List ℕ → List ℕ
+SG fields = spelling Sg ++ fields
+
+abbrev pub CN : List ℕ → List ℕ
+CN fields = 67 ∷ 78 ∷ fields
+
+abbrev pub QO : List ℕ → List ℕ
+QO fields = 81 ∷ 79 ∷ fields
+
+abbrev pub CO : List ℕ → List ℕ
+CO fields = 67 ∷ 79 ∷ fields
+
+abbrev pub QU : List ℕ
+QU = spelling Qu
+
+-- a line of the sheet: its letter, and fields of one digit each
+abbrev pub text : ℕ → List ℕ → List ℕ
+text letter digits = line letter (run (λ d. 32 ∷ (48 + d) ∷ []) digits)
+
+-- "The book has 45 bytes"
+abbrev pub k1 : List ℕ
+k1 =
+    PR (1 ∷ []) ++ PR (2 ∷ []) ++ PR (1 ∷ []) ++ PR (1 ∷ []) ++ MO (1 ∷ 1 ∷ 1 ∷ []) ++ MO (3 ∷ 1 ∷ 1 ∷ []) ++ CL (2 ∷ 0 ∷ []) ++ SG (3 ∷ 1 ∷ [])
+    ++ SG (1 ∷ 0 ∷ 1 ∷ []) ++ QU ++ SG (2 ∷ 0 ∷ []) ++ SG (0 ∷ 0 ∷ [])
+
+abbrev pub examples : List Example
+examples =
+    -- "K1: the book above has the constraints, rounds and orders printed."
+    ofBook k1
+    1 (CN (0 ∷ 1 ∷ 0 ∷ []) ++ CN (1 ∷ 1 ∷ 1 ∷ []) ++ CN (2 ∷ 1 ∷ 1 ∷ []) ++ CN (3 ∷ 1 ∷ 1 ∷ []))
+    (done 0 (QO (2 ∷ 1 ∷ 0 ∷ []) ++ CO (0 ∷ 1 ∷ 2 ∷ 1 ∷ 0 ∷ [])))
+    -- "Printed whole": `C 0 0`, `C 1 1`, `C 2 1`, `C 3 1`, `R 1`, `Q 1 0`, `O 0 1 1 0`
+    ∷ ofSheet k1
+    (text 67 (0 ∷ 0 ∷ []) ++ text 67 (1 ∷ 1 ∷ []) ++ text 67 (2 ∷ 1 ∷ []) ++ text 67 (3 ∷ 1 ∷ []) ++ text 82 (1 ∷ [])
+    ++ text 81 (1 ∷ 0 ∷ []) ++ text 79 (0 ∷ 1 ∷ 1 ∷ 0 ∷ []))
+    -- "K2: `QU` alone: 0 rounds, plan `QO` 0."
+    ∷ ofBook QU
+    0 []
+    (done 0 (QO (0 ∷ [])))
+    -- "K3: r(X,Y) :- f(X,Y), g(X,Y) with f {1,2}, g {1}: masks 1; under pattern 1 places 1 0, under 3 places 0 1."
+    ∷ ofBook (PR (2 ∷ []) ++ PR (2 ∷ []) ++ PR (2 ∷ []) ++ MO (0 ∷ 1 ∷ 3 ∷ []) ++ MO (1 ∷ 1 ∷ 1 ∷ []) ++ CL (2 ∷ 0 ∷ 1 ∷ []) ++ SG (0 ∷ 0 ∷ 1 ∷ [])
+    ++ SG (1 ∷ 0 ∷ 1 ∷ []) ++ QU ++ SG (2 ∷ 255 ∷ 0 ∷ []) ++ SG (2 ∷ 255 ∷ 255 ∷ []))
+    1 (CN (0 ∷ 1 ∷ 3 ∷ []) ++ CN (1 ∷ 1 ∷ 1 ∷ []) ++ CN (2 ∷ 1 ∷ 1 ∷ []))
+    (done 0 (QO (2 ∷ 0 ∷ 1 ∷ []) ++ CO (0 ∷ 1 ∷ 2 ∷ 1 ∷ 0 ∷ []) ++ CO (0 ∷ 3 ∷ 2 ∷ 0 ∷ 1 ∷ [])))
+    -- "K4 (document 000, 4.7): r(Y,Z) :- f(X), g(X,Y,Z), h(Z), i(X), j(X,W), with f {1}, g {1,2} or {1,3}, h {1}: masks 1 2; under 1 places 3 0 1 2 4,
+    -- under 2 places 2 3 0 1 4."
+    ∷ ofBook (PR (1 ∷ []) ++ PR (3 ∷ []) ++ PR (1 ∷ []) ++ PR (1 ∷ []) ++ PR (2 ∷ []) ++ PR (2 ∷ []) ++ MO (0 ∷ 1 ∷ 1 ∷ []) ++ MO (1 ∷ 2 ∷ 3 ∷ 5 ∷ [])
+    ++ MO (2 ∷ 1 ∷ 1 ∷ []) ++ CL (5 ∷ 0 ∷ 1 ∷ []) ++ SG (0 ∷ 2 ∷ []) ++ SG (1 ∷ 2 ∷ 0 ∷ 1 ∷ []) ++ SG (2 ∷ 1 ∷ []) ++ SG (3 ∷ 2 ∷ [])
+    ++ SG (4 ∷ 2 ∷ 3 ∷ []) ++ QU ++ SG (5 ∷ 255 ∷ 0 ∷ []) ++ SG (5 ∷ 254 ∷ 255 ∷ []))
+    1 (CN (0 ∷ 1 ∷ 1 ∷ []) ++ CN (1 ∷ 2 ∷ 3 ∷ 5 ∷ []) ++ CN (2 ∷ 1 ∷ 1 ∷ []) ++ CN (3 ∷ 1 ∷ 0 ∷ []) ++ CN (4 ∷ 1 ∷ 0 ∷ []) ++ CN (5 ∷ 2 ∷ 1 ∷ 2 ∷ []))
+    (done 0 (QO (2 ∷ 0 ∷ 1 ∷ []) ++ CO (0 ∷ 1 ∷ 5 ∷ 3 ∷ 0 ∷ 1 ∷ 2 ∷ 4 ∷ []) ++ CO (0 ∷ 2 ∷ 5 ∷ 2 ∷ 3 ∷ 0 ∷ 1 ∷ 4 ∷ [])))
+    -- "K5 (4.10): r(X) :- g(Y), f(X), each needing {1}: ill."
+    ∷ ofBook (PR (1 ∷ []) ++ PR (1 ∷ []) ++ PR (1 ∷ []) ++ MO (0 ∷ 1 ∷ 1 ∷ []) ++ MO (1 ∷ 1 ∷ 1 ∷ []) ++ CL (2 ∷ 0 ∷ []) ++ SG (1 ∷ 1 ∷ []) ++ SG (0 ∷ 0 ∷ [])
+    ++ QU ++ SG (2 ∷ 255 ∷ []))
+    1 (CN (0 ∷ 1 ∷ 1 ∷ []) ++ CN (1 ∷ 1 ∷ 1 ∷ []) ++ CN (2 ∷ 0 ∷ []))
+    (refused 7 0)
+    -- "K6 (5.2): joint of {1}, {3,6} and {4} as masks, two at a time: 7."
+    ∷ ofMasks (1 ∷ []) (3 ∷ 6 ∷ []) (3 ∷ [])
+    ∷ ofMasks (3 ∷ []) (4 ∷ []) (7 ∷ [])
+    -- "K7: weak(P,H) :- hash(P,H), rainbow(H,P), each needing {1}: masks 1 2."
+    ∷ ofBook (PR (2 ∷ []) ++ PR (2 ∷ []) ++ PR (2 ∷ []) ++ MO (0 ∷ 1 ∷ 1 ∷ []) ++ MO (1 ∷ 1 ∷ 1 ∷ []) ++ CL (2 ∷ 0 ∷ 1 ∷ []) ++ SG (0 ∷ 0 ∷ 1 ∷ [])
+    ++ SG (1 ∷ 1 ∷ 0 ∷ []) ++ QU ++ SG (2 ∷ 255 ∷ 0 ∷ []) ++ SG (2 ∷ 1 ∷ 0 ∷ []))
+    1 (CN (0 ∷ 1 ∷ 1 ∷ []) ++ CN (1 ∷ 1 ∷ 1 ∷ []) ++ CN (2 ∷ 2 ∷ 1 ∷ 2 ∷ []))
+    (done 0 (QO (2 ∷ 0 ∷ 1 ∷ []) ++ CO (0 ∷ 1 ∷ 2 ∷ 0 ∷ 1 ∷ []) ++ CO (0 ∷ 2 ∷ 2 ∷ 1 ∷ 0 ∷ [])))
+    -- "K8: a(X) :- b(X) and b(X) :- m(X), m {1}: 2 rounds, a and b both 1."
+    ∷ ofBook (PR (1 ∷ []) ++ PR (1 ∷ []) ++ PR (1 ∷ []) ++ MO (0 ∷ 1 ∷ 1 ∷ []) ++ CL (1 ∷ 0 ∷ []) ++ SG (2 ∷ 0 ∷ []) ++ CL (2 ∷ 0 ∷ []) ++ SG (0 ∷ 0 ∷ [])
+    ++ QU ++ SG (1 ∷ 255 ∷ []))
+    2 (CN (0 ∷ 1 ∷ 1 ∷ []) ++ CN (1 ∷ 1 ∷ 1 ∷ []) ++ CN (2 ∷ 1 ∷ 1 ∷ []))
+    (done 0 (QO (1 ∷ 0 ∷ []) ++ CO (0 ∷ 1 ∷ 1 ∷ 0 ∷ []) ++ CO (1 ∷ 1 ∷ 1 ∷ 0 ∷ [])))
+    -- "K9: p(X) :- p(X), m(X), m {1}: trivial, 0 rounds, places 0 1."
+    ∷ ofBook (PR (1 ∷ []) ++ PR (1 ∷ []) ++ MO (0 ∷ 1 ∷ 1 ∷ []) ++ CL (1 ∷ 0 ∷ []) ++ SG (1 ∷ 0 ∷ []) ++ SG (0 ∷ 0 ∷ []) ++ QU ++ SG (1 ∷ 0 ∷ []))
+    0 (CN (0 ∷ 1 ∷ 1 ∷ []) ++ CN (1 ∷ 1 ∷ 0 ∷ []))
+    (done 0 (QO (1 ∷ 0 ∷ []) ++ CO (0 ∷ 0 ∷ 2 ∷ 0 ∷ 1 ∷ [])))
+    -- "K10: r(X,X) :- f(X), f {1}: masks 1 2."
+    ∷ ofBook (PR (1 ∷ []) ++ PR (2 ∷ []) ++ MO (0 ∷ 1 ∷ 1 ∷ []) ++ CL (1 ∷ 0 ∷ 0 ∷ []) ++ SG (0 ∷ 0 ∷ []) ++ QU ++ SG (1 ∷ 255 ∷ 0 ∷ [])
+    ++ SG (1 ∷ 254 ∷ 255 ∷ []))
+    1 (CN (0 ∷ 1 ∷ 1 ∷ []) ++ CN (1 ∷ 2 ∷ 1 ∷ 2 ∷ []))
+    (done 0 (QO (2 ∷ 0 ∷ 1 ∷ []) ++ CO (0 ∷ 1 ∷ 1 ∷ 0 ∷ []) ++ CO (0 ∷ 2 ∷ 1 ∷ 0 ∷ [])))
+    -- "K11: the query m(255), m {1}: accepted; m(254): reply 7."
+    ∷ ofBook (PR (1 ∷ []) ++ MO (0 ∷ 1 ∷ 1 ∷ []) ++ QU ++ SG (0 ∷ 255 ∷ []))
+    0 (CN (0 ∷ 1 ∷ 1 ∷ []))
+    (done 0 (QO (1 ∷ 0 ∷ [])))
+    ∷ ofBook (PR (1 ∷ []) ++ MO (0 ∷ 1 ∷ 1 ∷ []) ++ QU ++ SG (0 ∷ 254 ∷ []))
+    0 (CN (0 ∷ 1 ∷ 1 ∷ []))
+    (refused 7 0)
+    -- "K12: an ill predicate that nothing reached calls: accepted."
+    ∷ ofBook (PR (1 ∷ []) ++ PR (1 ∷ []) ++ PR (1 ∷ []) ++ MO (0 ∷ 0 ∷ []) ++ CL (1 ∷ 0 ∷ []) ++ SG (0 ∷ 0 ∷ []) ++ QU ++ SG (2 ∷ 0 ∷ []))
+    1 (CN (0 ∷ 0 ∷ []) ++ CN (1 ∷ 0 ∷ []) ++ CN (2 ∷ 1 ∷ 0 ∷ []))
+    (done 0 (QO (1 ∷ 0 ∷ [])))
+    ∷ []
+
+-- ---- All of it
+
+pub record Demands : Type 0 where
+  pub demand1 : Demand1
+  pub demand2 : (s : List ℕ) (B : Book) → judge s ≡ book B → Demand2 s B
+  pub demand3 : (s : List ℕ) (B : Book) → judge s ≡ book B → Demand3 s B
+  pub bench : EachHolds examples

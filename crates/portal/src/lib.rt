@@ -1,15 +1,11 @@
-// The operations as C functions: a slice is a pointer and a length, and the reply is given back as C lays it out. What each promises is what the
-// operation under it promises; include/shodhvirup.h says it in words.
+// The operations as C functions: a slice is a pointer and a length, and the reply is given back as C lays it out. What each promises is said by the
+// definitions that the demands are stated over, `outcome` and `checked`; include/shodhvirup.h says it in words.
 use masks::reply::Reply;
 ghost use mathlib.Core.Path.{_≡_};
-ghost use Rattle.masks.specs.declared.Way.{Way};
 ghost use Rattle.masks.specs.Outcome.{Answers};
-ghost use Rattle.masks.specs.Joining.{joining};
 ghost use Rattle.book.specs.Format.{judge};
 ghost use Rattle.reading.specs.Judged.{checked};
-ghost use Rattle.tables.specs.Image.{analysis};
-ghost use Rattle.choices.specs.Plan.{planning};
-ghost use Rattle.closing.specs.Close.{closing};
+ghost use Rattle.demands.specs.Demands as say;
 
 // Whether the bytes are a book: 0, or the first fault.
 #[no_mangle]
@@ -22,7 +18,7 @@ pub extern "C" fn shodh_check(book: &[u8]) -> Reply
 // The table of needs of a book, and its rounds.
 #[no_mangle]
 pub extern "C" fn shodh_analyse(book: &[u8], out: &mut [u8]) -> Reply
-    ensures { λ r. ⌜ Answers (analysis (now (book .entry))) (now (out .entry)) r (now (out .exit)) ⌝ }
+    ensures { λ r. ⌜ Answers (say.outcome (say.analyse (now (book .entry)))) (now (out .entry)) r (now (out .exit)) ⌝ }
 {
     needs::analyse(book, out)
 }
@@ -30,7 +26,7 @@ pub extern "C" fn shodh_analyse(book: &[u8], out: &mut [u8]) -> Reply
 // The plan of a book.
 #[no_mangle]
 pub extern "C" fn shodh_plan(book: &[u8], out: &mut [u8]) -> Reply
-    ensures { λ r. ⌜ Answers (planning (now (book .entry))) (now (out .entry)) r (now (out .exit)) ⌝ }
+    ensures { λ r. ⌜ Answers (say.outcome (say.plan (now (book .entry)))) (now (out .entry)) r (now (out .exit)) ⌝ }
 {
     plan::plan(book, out)
 }
@@ -38,7 +34,7 @@ pub extern "C" fn shodh_plan(book: &[u8], out: &mut [u8]) -> Reply
 // The book closed over a set of predicates: predicate p is in it where bit p is set.
 #[no_mangle]
 pub extern "C" fn shodh_close(book: &[u8], set: u64, out: &mut [u8]) -> Reply
-    ensures { λ r. ⌜ Answers (closing set (now (book .entry))) (now (out .entry)) r (now (out .exit)) ⌝ }
+    ensures { λ r. ⌜ Answers (say.outcome (say.close set (now (book .entry)))) (now (out .entry)) r (now (out .exit)) ⌝ }
 {
     closing::close(book, set, out)
 }
@@ -46,7 +42,7 @@ pub extern "C" fn shodh_close(book: &[u8], set: u64, out: &mut [u8]) -> Reply
 // The choice of two lists of masks.
 #[no_mangle]
 pub extern "C" fn shodh_choice(arity: u8, first: &[u8], second: &[u8], out: &mut [u8]) -> Reply
-    ensures { λ r. ⌜ Answers (joining Way.Choice arity (now (first .entry)) (now (second .entry))) (now (out .entry)) r (now (out .exit)) ⌝ }
+    ensures { λ r. ⌜ Answers (say.outcome (say.choice arity (now (first .entry)) (now (second .entry)))) (now (out .entry)) r (now (out .exit)) ⌝ }
 {
     masks::choice(arity, first, second, out)
 }
@@ -54,7 +50,7 @@ pub extern "C" fn shodh_choice(arity: u8, first: &[u8], second: &[u8], out: &mut
 // The joint of two lists of masks.
 #[no_mangle]
 pub extern "C" fn shodh_joint(arity: u8, first: &[u8], second: &[u8], out: &mut [u8]) -> Reply
-    ensures { λ r. ⌜ Answers (joining Way.Joint arity (now (first .entry)) (now (second .entry))) (now (out .entry)) r (now (out .exit)) ⌝ }
+    ensures { λ r. ⌜ Answers (say.outcome (say.joint arity (now (first .entry)) (now (second .entry)))) (now (out .entry)) r (now (out .exit)) ⌝ }
 {
     masks::joint(arity, first, second, out)
 }

@@ -1,3 +1,2 @@
--- What a reader has to believe of this crate: the printed sheet of a book; and how the code finds the lines of an image.
-pub mod Sheet
+-- What a reader has to believe of this crate: how the code finds the lines of an image. What the printed sheet is, is defined in the crate `printing`.
 pub mod Records

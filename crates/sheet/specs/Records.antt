@@ -6,7 +6,7 @@ use lib.Dec.{ltb}
 use lib.ListN.{length, getD, take, drop}
 use Rattle.book.specs.Format.{number, Judged, fault, book}
 use Rattle.book.specs.Encode.{run}
-use Rattle.sheet.specs.Sheet.{field, line, listing, refusalLine, orderLines}
+use Rattle.printing.specs.Sheet.{field, line, listing, refusalLine, orderLines}
 
 -- the fields of the first record that are listed: n and the n behind it
 abbrev pub listedIn : ℕ → List ℕ → List ℕ

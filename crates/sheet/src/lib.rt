@@ -16,7 +16,7 @@ ghost use lib.ListN.{length};
 ghost use Rattle.masks.specs.Outcome.{Answers, done};
 ghost use Rattle.book.specs.Format.{judge};
 ghost use Rattle.writing.specs.Wrote.{Room, Wrote};
-ghost use Rattle.sheet.specs.Sheet.{line, field, judgedSheet, refusalLine, printing};
+ghost use Rattle.printing.specs.Sheet.{line, field, judgedSheet, refusalLine, printing};
 ghost use Rattle.sheet.specs.Records.{listedIn, lineIn, linesIn, judgedOrders};
 
 // Of a book that is read: one byte more than the longest has.

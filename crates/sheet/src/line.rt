@@ -3,7 +3,7 @@ use writing::put::put_byte;
 use writing::put::put_bytes;
 ghost use Rattle.book.specs.Encode.{run};
 ghost use Rattle.writing.specs.Wrote.{Room, Wrote};
-ghost use Rattle.sheet.specs.Sheet.{field, listing};
+ghost use Rattle.printing.specs.Sheet.{field, listing};
 
 // A space and a number in decimal.
 pub fn put_field(out: &mut [u8], at: usize, n: u64) -> usize

@@ -6,7 +6,7 @@ use Rattle.book.specs.Format.{markAt, allows, bytes, many, lowFrom, hasM
 use Rattle.book.specs.Encode.{encode}
 use Rattle.book.specs.declared.fault.Fault.the-variants.{PastEnd, OutOfTurn, OutOfRange}
 
-compute : Unit {0}
+unfoldable pub compute : Unit {0}
 unfolding markAt allows bytes many lowFrom hasMode predicate masks modeFields mode call subgoal headFields clause rules readBook judge encode
 compute = tt
 
@@ -26,6 +26,11 @@ pub k1 : judge (80 ∷ 82 ∷ 1 ∷ 80 ∷ 82 ∷ 2 ∷ 80 ∷ 82 ∷ 1 ∷ 80 �
     ∷ 83 ∷ 71 ∷ 3 ∷ 1 ∷ 83 ∷ 71 ∷ 1 ∷ 0 ∷ 1 ∷ 81 ∷ 85 ∷ 83 ∷ 71 ∷ 2 ∷ 0 ∷ 83 ∷ 71 ∷ 0 ∷ 0 ∷ []) ≡ book k1-book
 unfolding compute k1-book
 k1 = refl
+
+-- "the shortest 2 (QU alone)"
+pub shortest-book : judge (81 ∷ 85 ∷ []) ≡ book (record { arities = []; modes = []; clauses = []; query = [] })
+unfolding compute
+shortest-book = refl
 
 -- "an empty book (3 at 0); a lone Q (1 at 0)"
 pub empty : judge [] ≡ fault OutOfTurn 0

@@ -2,7 +2,7 @@
 -- table the row has the smallest of the good rearrangements. A clause is of one predicate, so it has at most one row under each pattern. Assumes nothing.
 use mathlib.Core.Path.{_≡_, refl, ap, _∙_, subst}
 use mathlib.Core.Bool.{Bool, true, false, cond}
-use mathlib.Core.Logic.{inl, ⊎-elim}
+use mathlib.Core.Logic.{inl, inr, ⊎-elim}
 use mathlib.Core.List.{List, [], _∷_}
 use mathlib.Core.Option.{Option, none, some}
 use Prim.Native.Nat.{ℕ, _*_, _≤_, _<_}
@@ -16,17 +16,17 @@ use Rattle.book.specs.Limits.{maxClauses, maxSubgoals}
 use Rattle.book.specs.Book.{Call, Book}
 use Rattle.book.specs.Encode.{run, clauseFits, WellFormed}
 use Rattle.ordering.specs.Adorn.{Table, Bound, nothing, headBound, bit}
-use Rattle.ordering.specs.Orders.{In, Rearranges, Least}
+use Rattle.ordering.specs.Orders.{In, Rearranges, LexLt, Least, Sorted}
 use Rattle.ordering.specs.Good.{goodFrom, firstGood, isSome}
 use Rattle.tables.specs.Table.{sumBelow, final}
 use Rattle.choices.specs.Choice.{clause, Choice, IsChoice}
 use Rattle.choices.specs.Reached.{marked, reached}
-use Rattle.choices.specs.Plan.{orStanding, firstChoice, chosen, Row, rowsFor, rowsUnder, rowsOf, planRows, encQuery, encRow, image}
+use Rattle.choices.specs.Plan.{orStanding, firstChoice, chosen, Row, rowKey, rowsFor, rowsUnder, rowsOf, planRows, encQuery, encRow, image}
 use Rattle.masks.proofs.Laws.Logic.{clash}
 use Rattle.masks.proofs.Laws.Lists.{all-at}
 use Rattle.book.proofs.Laws.Encode.{run-joined}
 use Rattle.book.proofs.Laws.Trip.{clause-few}
-use Rattle.ordering.proofs.Laws.Orders.{cond-in, in-cond, in-joined, joined-in}
+use Rattle.ordering.proofs.Laws.Orders.{cond-in, in-cond, in-joined, joined-in, sorted-joined, sorted-cond}
 use Rattle.ordering.proofs.Laws.Good.{first-is-least}
 use Rattle.tables.proofs.Laws.Sums.{sum-le, sum-most, sum-times, length-joined, howMany, howMany-times, howMany-parted}
 use Rattle.choices.proofs.Laws.Moded.{chosen-choice}
@@ -81,6 +81,47 @@ module _ (B : Book) (χ : Choice) (f : ℕ → ℕ → Bool) where
       let r = rowAt χ k a in
       in-joined r (λ p. joined (rowsIf p) allPatterns) (length (B .arities)) p l
       (in-joined r (rowsIf p) allPatterns a s (in-cond r (f p a) (rowsFor B χ p a) t (for-in B χ k a h)))
+
+-- ---- "ascending by predicate and then pattern, for each of its clauses in turn"
+
+module _ (B : Book) (χ : Choice) where
+  abbrev Before : Row → Row → Type 0
+  Before r q = LexLt (rowKey B r) (rowKey B q)
+
+  key-at : (p a k : ℕ) → clause B k .head .pred ≡ p → rowKey B (rowAt χ k a) ≡ p ∷ a ∷ k ∷ []
+  unfolding rowKey
+  key-at p a k e = ap (λ (q : ℕ). q ∷ a ∷ k ∷ []) e
+
+  one-key : (p a k : ℕ) (r : Row) → In r (rowIf B χ p a k) → rowKey B r ≡ p ∷ a ∷ k ∷ []
+  one-key p a k r m =
+      let (e, j) = cond-in r (eqb (clause B k .head .pred) p) (rowAt χ k a ∷ []) m in
+      ap (rowKey B) (⊎-elim (λ q. q) (λ n. absurd n) j) ∙ key-at p a k (eqb-true (clause B k .head .pred) p e)
+
+  for-rises : (p a : ℕ) → Sorted Before (rowsFor B χ p a)
+  unfolding rowsFor
+  for-rises p a =
+      sorted-joined Before (rowIf B χ p a) (λ k. sorted-cond Before (eqb (clause B k .head .pred) p) (rowAt χ k a ∷ []) (λ y m. absurd m, tt))
+      (λ i j l x y m n. rw (one-key p a i x m, one-key p a j y n) (inr (refl, inr (refl, inl l)))) (length (B .clauses))
+
+  module _ (f : ℕ → ℕ → Bool) where
+    if-key : (p a : ℕ) (r : Row) → In r (rowsIf B χ f p a) → (k : ℕ) × (rowKey B r ≡ p ∷ a ∷ k ∷ [])
+    if-key p a r m =
+        let (k, _, e, q) = for-out B χ p a r (cond-in r (f p a) (rowsFor B χ p a) m .1) in
+        (k, ap (rowKey B) q ∙ key-at p a k e)
+
+    of-rises : (p : ℕ) → Sorted Before (joined (rowsIf B χ f p) allPatterns)
+    of-rises p =
+        sorted-joined Before (rowsIf B χ f p) (λ a. sorted-cond Before (f p a) (rowsFor B χ p a) (for-rises p a))
+        (λ i j l x y m n. rw (if-key p i x m .1, if-key p j y n .1) (inr (refl, inl l))) allPatterns
+
+    of-key : (p : ℕ) (r : Row) → In r (joined (rowsIf B χ f p) allPatterns) → (a : ℕ) × (k : ℕ) × (rowKey B r ≡ p ∷ a ∷ k ∷ [])
+    of-key p r m = let (a, _, i) = joined-in r (rowsIf B χ f p) allPatterns m in let (k, e) = if-key p a r i in (a, k, e)
+
+    pub rows-rise : Sorted Before (rowsUnder B χ f)
+    unfolding rowsUnder
+    rows-rise =
+        sorted-joined Before (λ p. joined (rowsIf B χ f p) allPatterns) of-rises
+        (λ i j l x y m n. rw (of-key i x m .2, of-key j y n .2) (inl l)) (length (B .arities))
 
 -- ---- FIRST: "the smallest list of subgoal places (from 0, compared from the left) among the orders good against the final table"
 

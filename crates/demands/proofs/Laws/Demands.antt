@@ -1,12 +1,14 @@
 -- The demands are met. Assumes nothing.
 use mathlib.Core.Path.{_≡_, refl, sym, ap, _∙_, subst}
-use mathlib.Core.Bool.{true}
+use mathlib.Core.Bool.{true, false}
+use mathlib.Core.Logic.{_↔_}
 use mathlib.Core.List.{List}
 use mathlib.Core.Option.{none}
-use Prim.Native.Nat.{ℕ, suc, _≤_}
+use Prim.Native.Nat.{ℕ, suc, _^_, _≤_, _<_}
 use native.Mathlib.Omega.{arith}
 use lib.Bits.{bitOr}
-use lib.ListN.{length}
+use lib.ListN.{length, getD}
+use Rattle.masks.specs.Constraint.{admits}
 use Rattle.masks.specs.Outcome.{Outcome, done, reply, left, Answers}
 use Rattle.masks.specs.Set.{bitAt}
 use Rattle.masks.specs.declared.reply.Reply.{Reply}
@@ -17,28 +19,35 @@ use Rattle.book.specs.Encode.{encode, WellFormed}
 use Rattle.book.specs.declared.fault.Fault.{Fault}
 use Rattle.reading.specs.Judged.{checked}
 use Rattle.ordering.specs.Adorn.{Table, nothing}
+use Rattle.ordering.specs.Orders.{LexLt, Sorted}
 use Rattle.ordering.specs.Good.{firstGood, isSome}
-use Rattle.tables.specs.Table.{table, settled, rounds, final}
+use Rattle.tables.specs.Table.{entry, defined, table, settled, rounds, final}
 use Rattle.tables.specs.Image.{analysed}
-use Rattle.choices.specs.Choice.{Orderable}
-use Rattle.choices.specs.Plan.{planned}
+use Rattle.choices.specs.Choice.{clause, Orderable}
+use Rattle.choices.specs.Reached.{marked, reached}
+use Rattle.choices.specs.Plan.{Row, rowKey, chosen, rowsOf, planRows, planned}
 use Rattle.closing.specs.Close.{closeOver, close, lacked, closed, closing}
 use Rattle.demands.specs.Demands as say
 use Rattle.masks.proofs.Laws.Logic.{byRange, clash}
 use Rattle.masks.proofs.Laws.Outcome.{answers-unique, answers-kept, answers-rest, answers-zero, done-bytes}
 use Rattle.book.proofs.Laws.Answer.{number-range, fault-place, book-injective, on-fault, on-book}
-use Rattle.book.proofs.Laws.Bound.{encode-length}
+use Rattle.book.proofs.Laws.Bound.{encode-length, judge-length}
+use Rattle.book.proofs.Laws.Examples.{shortest-book}
+use Rattle.book.proofs.Laws.Longest.{longest-book, longest-well, longest-length}
 use Rattle.book.proofs.Laws.Trip.{judge-encode, judge-inv}
 use Rattle.reading.proofs.Laws.Judged.{check-zero}
+use Rattle.ordering.proofs.Laws.Good.{good-clause-order, order-good-clause}
+use Rattle.tables.proofs.Laws.Own.{good-at, at-good}
+use Rattle.tables.proofs.Laws.Round.{step-admits, step-outside}
 use Rattle.tables.proofs.Laws.Image.{table-length}
-use Rattle.tables.proofs.Laws.Rounds.{sameTable-true, true-sameTable, rounds-least, rounds-settled}
-use Rattle.choices.proofs.Laws.Examples.{rows, EachHolds, examples}
+use Rattle.tables.proofs.Laws.Rounds.{sameTable-true, true-sameTable, start-at, rounds-least, rounds-settled}
 use Rattle.choices.proofs.Laws.Moded.{orderable}
 use Rattle.choices.proofs.Laws.Plan.{seven-none, seven-iff, plan-iff, plan-sound, plan-exact, plan-query-first, plan-first}
-use Rattle.choices.proofs.Laws.Rows.{plan-length}
+use Rattle.choices.proofs.Laws.Rows.{rows-rise, plan-length}
 use Rattle.closing.proofs.Laws.Valid.{closed-well}
 use Rattle.closing.proofs.Laws.Close.{final-close}
 use Rattle.closing.proofs.Laws.Closing.{closed-lacks, closing-done, closing-valid, done-closing, closing-twice, closing-turned, closing-again, closing-none, never-seven, closing-gave}
+use Rattle.demands.proofs.Laws.Examples.{bench}
 
 -- ---- demand 1
 
@@ -62,13 +71,15 @@ faulty s f at e =
 encoded : (s : List ℕ) (B : Book) → (encode B ≡ s) × WellFormed B → judge s ≡ book B
 encoded s B x = subst (λ (t : List ℕ). judge t ≡ book B) (x .0) (judge-encode B (x .1))
 
-pub demand-1 : say.Demand1
+demand-1 : say.Demand1
 demand-1 =
     record {
       defined = λ op out. one-answer (say.outcome op) out;
       kept = λ op a. answers-kept a;
       rest = λ op a. answers-rest a;
       books = λ s B. (judge-inv s B, encoded s B);
+      most = judge-length;
+      attained = ((_, _, shortest-book, refl), (encode longest-book, longest-book, judge-encode longest-book longest-well, longest-length));
       checks = λ s. (λ e. let x = check-zero s (ap (λ (r : Reply). r .number) e) in (x .0, encoded s (x .0) (x .1, x .2)), λ x. ap checked (x .1));
       faults = faulty;
     }
@@ -90,10 +101,33 @@ module _ (s : List ℕ) (B : Book) (valid : judge s ≡ book B) where
   ordered : Orderable B → isSome (firstGood (final B) (B .query) nothing) ≡ true
   ordered x = orderable B well .0 x
 
-  pub demand-2 : say.Demand2 s B
-  unfolding final
+  gets : (k p a : ℕ) → p < length (B .arities) → defined (B .clauses) p ≡ true → a < 2 ^ getD (B .arities) p 0
+      → (admits (entry (table B (suc k)) p) a ≡ true) ↔ say.GoodPattern (table B k) B p a
+  unfolding table clause
+  gets k p a h d l =
+      let e = step-admits (B .arities) (B .clauses) (table B k) p h d a l in (
+        λ t j i q.
+            let (σ, r, g) = good-clause-order (table B k) (clause B j) a (good-at _ (table B k) (B .clauses) p a (sym e ∙ t) j i q) in
+            (σ, (r, g)),
+        λ f. e ∙ at-good _ (table B k) (B .clauses) p a
+            (λ j i q. let x = f j i q in order-good-clause (table B k) (clause B j) a (x .0) (x .1 .0) (x .1 .1)),
+      )
+
+  keeps : (k p : ℕ) → p < length (B .arities) → defined (B .clauses) p ≡ false → entry (table B (suc k)) p ≡ entry (table B k) p
+  unfolding table
+  keeps k p h d = step-outside (B .arities) (B .clauses) (table B k) p h d
+
+  rising : Sorted (λ (r q : Row). LexLt (rowKey B r) (rowKey B q)) (planRows B)
+  unfolding planRows rowsOf
+  rising = rows-rise B (chosen B) (marked (reached B (chosen B)))
+
+  demand-2 : say.Demand2 s B
+  unfolding final table
   demand-2 =
       record {
+        first = start-at B well;
+        gets = gets;
+        keeps = keeps;
         needs = sym (on-book analysed s B (sym valid));
         last = refl;
         settled = its-own-next;
@@ -105,6 +139,7 @@ module _ (s : List ℕ) (B : Book) (valid : judge s ≡ book B) where
         choice· = λ x. plan-sound s B valid (plan-iff s B valid .1 x) .0;
         wellModed = λ x. plan-sound s B valid (plan-iff s B valid .1 x) .1;
         reached = plan-exact B well;
+        ascending = rising;
         queryFirst = λ x. plan-query-first B well (ordered x);
         clauseFirst = λ x. plan-first B well (ordered x);
       }
@@ -146,7 +181,7 @@ module _ (s : List ℕ) (B : Book) (valid : judge s ≡ book B) where
       let n = encode-length (close set B) (closed-well (bitAt set) B (judge-inv s B valid .1)) .1 in
       answers-zero (subst (λ (o : Outcome). Answers o out r after) (done-closing set s B valid h) a) (omega arith)
 
-  pub demand-3 : say.Demand3 s B
+  demand-3 : say.Demand3 s B
   demand-3 =
       record {
         lacks = λ set p h. sym (on-book (closed set) s B (sym valid)) ∙ closed-lacks set B p h;
@@ -161,8 +196,7 @@ module _ (s : List ℕ) (B : Book) (valid : judge s ≡ book B) where
         one = λ set t u x y. done-bytes (sym (gave set s t x) ∙ gave set s u y);
       }
 
--- ---- document 01's examples
+-- ---- all of it
 
--- K1 to K12: their rounds, constraints, orders and replies are those that document 01 gives
-pub bench : EachHolds rows
-bench = examples
+pub demands : say.Demands
+demands = record { demand1 = demand-1; demand2 = demand-2; demand3 = demand-3; bench = bench }

@@ -293,6 +293,28 @@ module _ {A : Type 0} (x : A) where
     joined-in (suc n) m =
         ⊎-elim (λ i. let r = joined-in n i in (r .0, omega (arith, r .1), r .2)) (λ i. (n, omega arith, i)) (append-in (joined f n) (f n) m)
 
+-- ---- lists that are sorted, one after the other
+
+module _ {A : Type 0} (R : A → A → Type 0) where
+  sorted-append : (s t : List A) → Sorted R s → Sorted R t → ((x y : A) → In x s → In y t → R x y) → Sorted R (s ++ t)
+  sorted-append [] t a b h = b
+  sorted-append (x ∷ s) t a b h = (
+    λ y m. ⊎-elim (λ k. a .0 y k) (λ k. h x y (inl refl) k) (append-in y s t m),
+    sorted-append s t (a .1) b (λ z y m k. h z y (inr m) k),
+  )
+
+  pub sorted-joined : (f : ℕ → List A) → ((i : ℕ) → Sorted R (f i)) → ((i j : ℕ) → i < j → (x y : A) → In x (f i) → In y (f j) → R x y)
+      → (n : ℕ) → Sorted R (joined f n)
+  sorted-joined f each· h zero = tt
+  sorted-joined f each· h (suc n) =
+      sorted-append (joined f n) (f n) (sorted-joined f each· h n) (each· n)
+      (λ x y m k. let r = joined-in x f n m in h (r .0) n (r .1) x y (r .2) k)
+
+  -- a list that stands there only where a test holds
+  pub sorted-cond : (b : Bool) (l : List A) → Sorted R l → Sorted R (cond b l [])
+  sorted-cond true l s = s
+  sorted-cond false l s = tt
+
 -- ---- the members of lists of orders
 
 map-in : (x : ℕ) (σ : List ℕ) (l : List (List ℕ)) → In σ (map (λ τ. x ∷ τ) l) → (τ : List ℕ) × (σ ≡ x ∷ τ) × In τ l
@@ -347,13 +369,6 @@ orders-all n σ r = takes-orders n (count 0 n) (count-length 0 n) σ (right-take
 abbrev pub Rising : List (List ℕ) → Type 0
 Rising l = Sorted LexLt l
 
-rising-append : (s t : List (List ℕ)) → Rising s → Rising t → ((σ τ : List ℕ) → In σ s → In τ t → LexLt σ τ) → Rising (s ++ t)
-rising-append [] t a b h = b
-rising-append (σ ∷ s) t a b h = (
-  λ τ m. ⊎-elim (λ k. a .0 τ k) (λ k. h σ τ (inl refl) k) (append-in τ s t m),
-  rising-append s t (a .1) b (λ ρ τ m k. h ρ τ (inr m) k),
-)
-
 rising-map : (x : ℕ) (l : List (List ℕ)) → Rising l → Rising (map (λ σ. x ∷ σ) l)
 rising-map x [] r = tt
 rising-map x (σ ∷ l) r =
@@ -364,7 +379,7 @@ module _ (f : ℕ → List (List ℕ)) (starts : (x : ℕ) (σ : List ℕ) → I
   unfolding each
   rising-each [] h a = tt
   rising-each (x ∷ l) h a =
-      rising-append (f x) (each f l) (h x (inl refl)) (rising-each l (λ y m. h y (inr m)) (a .1))
+      sorted-append LexLt (f x) (each f l) (h x (inl refl)) (rising-each l (λ y m. h y (inr m)) (a .1))
       (λ σ τ m k.
       let r = each-in f τ l k in
       let u = starts x σ m in

@@ -8,7 +8,7 @@ use lib.ListN.{length}
 use borrow.Author.Tests.{lt-ltb, le-ltb}
 use Rattle.io.specs.Digits.{glyph, digits, Fewest}
 use Rattle.writing.specs.Wrote.{Room, Wrote}
-use Rattle.sheet.specs.Sheet.{decimalIn, decimal, field}
+use Rattle.printing.specs.Sheet.{decimalIn, decimal, field}
 use Rattle.writing.proofs.Laws.Wrote.{room-second}
 
 -- the last digit

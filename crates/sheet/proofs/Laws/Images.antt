@@ -12,7 +12,7 @@ use Rattle.ordering.specs.Adorn.{Table}
 use Rattle.tables.specs.Table.{entry}
 use Rattle.tables.specs.Image.{row, rows}
 use Rattle.choices.specs.Plan.{Row, encQuery, encRow}
-use Rattle.sheet.specs.Sheet.{field, line, listing, none·, constraintLine, queryLine, orderLine}
+use Rattle.printing.specs.Sheet.{field, line, listing, none·, constraintLine, queryLine, orderLine}
 use Rattle.sheet.specs.Records.{listedIn, lineIn, linesIn}
 use Rattle.masks.proofs.Laws.Lists.{joined-cong}
 use Rattle.book.proofs.Laws.Encode.{run-joined}

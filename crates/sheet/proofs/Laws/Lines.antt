@@ -9,7 +9,7 @@ use lib.Seq.{take-suc, take-all, take-length, drop-drop}
 use borrow.Author.Tests.{lt-ltb, le-ltb}
 use Rattle.book.specs.Encode.{run}
 use Rattle.writing.specs.Wrote.{Room, Wrote}
-use Rattle.sheet.specs.Sheet.{field, line, listing}
+use Rattle.printing.specs.Sheet.{field, line, listing}
 use Rattle.sheet.specs.Records.{listedIn, lineIn, linesIn}
 use Rattle.masks.proofs.Laws.Lists.{take-front}
 use Rattle.writing.proofs.Laws.Wrote.{wrote-nil, wrote-append, wrote-as, wrote-length, room-second}

@@ -15,7 +15,7 @@ use Rattle.ordering.specs.Good.{firstGood, isSome}
 use Rattle.tables.specs.Table.{final}
 use Rattle.tables.specs.Image as table
 use Rattle.choices.specs.Plan as plan
-use Rattle.sheet.specs.Sheet.{field, line, none·, constraintLines, roundsLine, queryLine, orderLine, refusalLine, orderLines, bookSheet, judgedSheet}
+use Rattle.printing.specs.Sheet.{field, line, none·, constraintLines, roundsLine, queryLine, orderLine, refusalLine, orderLines, bookSheet, judgedSheet}
 use Rattle.sheet.specs.Records.{listedIn, lineIn, linesIn, judgedOrders}
 use Rattle.masks.proofs.Laws.Logic.{byBool}
 use Rattle.masks.proofs.Laws.Outcome.{Sized}

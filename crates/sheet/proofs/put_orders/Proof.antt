@@ -9,7 +9,7 @@ use borrow.Author.Needs.{needs}
 use Rattle.book.specs.Format.{judge}
 use Rattle.writing.specs.Wrote.{Room}
 use Rattle.choices.specs.Plan.{planning}
-use Rattle.sheet.specs.Sheet.{refusalLine}
+use Rattle.printing.specs.Sheet.{refusalLine}
 use Rattle.sheet.specs.Records.{lineIn, linesIn, judgedOrders}
 use Rattle.masks.proofs.Laws.Outcome.{Told, refusal-told, result-told}
 use Rattle.writing.proofs.Laws.Wrote.{wrote-as, wrote-append, room-first, room-second}

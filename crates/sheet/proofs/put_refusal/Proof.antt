@@ -3,7 +3,7 @@ use mathlib.Core.List.{_++_}
 use native.Mathlib.Omega.{arith}
 use lib.ListN.{length-append}
 use borrow.Author.Needs.{needs}
-use Rattle.sheet.specs.Sheet.{field, refusalLine}
+use Rattle.printing.specs.Sheet.{field, refusalLine}
 use Rattle.writing.proofs.Laws.Wrote.{wrote-append, room-second}
 use Rattle.sheet.proofs.Laws.Lines.{room-fields, room-newline, wrote-line}
 use Rattle.sheet.proofs.put_refusal.Statement.{statement}

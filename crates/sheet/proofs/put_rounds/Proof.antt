@@ -1,6 +1,6 @@
 -- `sheet::put_rounds` meets its contract. The letter is written, then the field, then the newline. Assumes nothing.
 use borrow.Author.Needs.{needs}
-use Rattle.sheet.specs.Sheet.{field}
+use Rattle.printing.specs.Sheet.{field}
 use Rattle.sheet.proofs.Laws.Lines.{room-fields, room-newline, wrote-line}
 use Rattle.sheet.proofs.put_rounds.Statement.{statement}
 use Rattle.sheet.proofs.put_rounds.Tie as tie

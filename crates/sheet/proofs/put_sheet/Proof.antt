@@ -10,11 +10,11 @@ use Rattle.masks.specs.Outcome.{Outcome}
 use Rattle.book.specs.Format.{judge}
 use Rattle.writing.specs.Wrote.{Room}
 use Rattle.tables.specs.Image.{analysis}
-use Rattle.sheet.specs.Sheet.{field, line, none·, refusalLine, judgedSheet}
+use Rattle.printing.specs.Sheet.{field, line, none·, refusalLine, judgedSheet}
 use Rattle.sheet.specs.Records.{linesIn, judgedOrders}
 use Rattle.masks.proofs.Laws.Outcome.{Told, refusal-told, result-told}
 use Rattle.writing.proofs.Laws.Wrote.{wrote-as, wrote-append, room-first, room-second}
-use Rattle.sheet.proofs.Laws.Length.{judged-length}
+use Rattle.printing.proofs.Laws.Length.{judged-length}
 use Rattle.sheet.proofs.Laws.Printed.{analysis-sized, tableLines, analysis-lines}
 use Rattle.sheet.proofs.put_sheet.Statement.{statement}
 use Rattle.sheet.proofs.put_sheet.Tie as tie

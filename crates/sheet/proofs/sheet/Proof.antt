@@ -7,9 +7,9 @@ use lib.ListN.{length, take, length-replicate, length-take}
 use lib.Seq.{length-take-le}
 use borrow.Author.Needs.{needs}
 use Rattle.book.specs.Format.{judge}
-use Rattle.sheet.specs.Sheet.{judgedSheet, sheet}
+use Rattle.printing.specs.Sheet.{judgedSheet, sheet}
 use Rattle.writing.proofs.Laws.Wrote.{wrote-as, wrote-length, wrote-front, Front, front}
-use Rattle.sheet.proofs.Laws.Length.{sheet-length}
+use Rattle.printing.proofs.Laws.Length.{sheet-length}
 use Rattle.sheet.proofs.sheet.Statement.{statement}
 use Rattle.sheet.proofs.sheet.Tie as tie
 

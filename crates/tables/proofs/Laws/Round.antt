@@ -1,6 +1,6 @@
 -- One round. What is good stays good where more is bound or the table admits more; and a predicate's constraint after a round hangs only on those
 -- of the predicates that its clauses call. Assumes nothing.
-use mathlib.Core.Path.{_≡_, refl, _∙_, subst}
+use mathlib.Core.Path.{_≡_, refl, ap, _∙_, subst}
 use mathlib.Core.Bool.{Bool, true, false, cond, false≢true}
 use mathlib.Core.List.{List, [], _∷_}
 use Prim.Native.Nat.{ℕ, _^_, _≤_, _<_}
@@ -12,7 +12,7 @@ use Rattle.masks.specs.Constraint.{admits, written}
 use Rattle.masks.proofs.Laws.Logic.{and-left, and-right}
 use Rattle.masks.proofs.Laws.Lists.{all-mono, all-same, length-values, getD-values}
 use Rattle.masks.proofs.Laws.Mask.{within-refl}
-use Rattle.masks.proofs.Laws.Constraint.{Up, written-cong}
+use Rattle.masks.proofs.Laws.Constraint.{Up, admits-written-up, written-cong}
 use Rattle.book.specs.Book.{Clause}
 use Rattle.ordering.specs.Adorn.{Table}
 use Rattle.ordering.specs.Good.{goodClause}
@@ -93,3 +93,7 @@ module _ (ar : List ℕ) (cs : List Clause) (T : Table) where
     pub step-outside : defined cs p ≡ false → entry (step ar cs T) p ≡ entry T p
     unfolding next
     step-outside d = step-at ∙ rw d
+
+    -- "gets exactly the patterns good"
+    pub step-admits : defined cs p ≡ true → (a : ℕ) → a < 2 ^ getD ar p 0 → admits (entry (step ar cs T) p) a ≡ good T cs p a
+    step-admits d a l = ap (λ (c : List ℕ). admits c a) (step-defined d) ∙ admits-written-up (good T cs p) (good-up T cs p) (2 ^ getD ar p 0) a l

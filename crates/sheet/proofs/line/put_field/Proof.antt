@@ -1,7 +1,7 @@
 -- `sheet::line::put_field` meets its contract. A space is written, then the digits, which are the fewest that hold the number. Assumes nothing.
 use native.Mathlib.Omega.{arith}
 use borrow.Author.Needs.{needs}
-use Rattle.sheet.specs.Sheet.{field}
+use Rattle.printing.specs.Sheet.{field}
 use Rattle.writing.proofs.Laws.Wrote.{wrote-append, wrote-as}
 use Rattle.sheet.proofs.Laws.Decimal.{spelled, spelled-room}
 use Rattle.sheet.proofs.line.put_field.Statement.{statement}

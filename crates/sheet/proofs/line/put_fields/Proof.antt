@@ -3,7 +3,7 @@ use Prim.Native.Nat.{_-_}
 use native.Mathlib.Omega.{arith}
 use lib.ListN.{length}
 use Rattle.book.specs.Encode.{run}
-use Rattle.sheet.specs.Sheet.{field}
+use Rattle.printing.specs.Sheet.{field}
 use Rattle.writing.proofs.Laws.Chunks.{Writing, writing-start, writing-length, writing-room, writing-next, writing-end}
 use Rattle.sheet.proofs.Laws.Lines.{fieldsTo, fieldAt, fields-chunks}
 use Rattle.sheet.proofs.line.put_fields.Statement.{statement}

@@ -5,11 +5,11 @@ use Prim.Native.Nat.{ℕ}
 use Rattle.book.specs.Format.{fault}
 use Rattle.book.specs.Encode.{run}
 use Rattle.book.specs.declared.fault.Fault.the-variants.{OutOfRange}
-use Rattle.sheet.specs.Sheet.{decimalIn, decimal, field, line, constraintLine, constraintLines, roundsLine, queryLine, orderLine, refusalLine, orderLines, bookSheet, judgedSheet}
+use Rattle.printing.specs.Sheet.{decimalIn, decimal, field, line, constraintLine, constraintLines, roundsLine, queryLine, orderLine, refusalLine, orderLines, bookSheet, judgedSheet}
 use Rattle.tables.proofs.Laws.Examples.{k1, k2, k11-wildcard}
 use Rattle.choices.proofs.Laws.Examples.{compute-plan}
 
-compute-sheet : Unit {0}
+unfoldable pub compute-sheet : Unit {0}
 unfolding compute-plan decimalIn decimal field constraintLine constraintLines roundsLine queryLine orderLine refusalLine orderLines bookSheet
 compute-sheet = tt
 

@@ -22,7 +22,7 @@ use Rattle.tables.specs.Table.{entry, rounds, final}
 use Rattle.tables.specs.Image as table
 use Rattle.choices.specs.Reached.{marked, reached}
 use Rattle.choices.specs.Plan as plan
-use Rattle.sheet.specs.Sheet.{decimalIn, decimal, field, listing, none·, constraintLine, constraintLines, roundsLine, queryLine, orderLine, refusalLine, orderLines, bookSheet, judgedSheet, sheet}
+use Rattle.printing.specs.Sheet.{decimalIn, decimal, field, listing, none·, constraintLine, constraintLines, roundsLine, queryLine, orderLine, refusalLine, orderLines, bookSheet, judgedSheet, sheet}
 use Rattle.masks.proofs.Laws.Logic.{byBool}
 use Rattle.masks.proofs.Laws.Constraint.{inRange-at}
 use Rattle.book.proofs.Laws.Answer.{number-range, fault-place}

@@ -1,0 +1,16 @@
+-- Document 01's examples K1 to K12, computed from the definitions. Assumes nothing.
+use mathlib.Core.Path.{refl}
+use Rattle.masks.specs.Constraint.{inRange, joint}
+use Rattle.masks.specs.Joining.{listFault, fault, joining}
+use Rattle.book.specs.Answer.{onBook}
+use Rattle.tables.specs.Image.{image}
+use Rattle.printing.specs.Sheet.{sheet}
+use Rattle.demands.specs.Demands.{examples, EachHolds}
+use Rattle.book.proofs.Laws.Examples as reading
+use Rattle.choices.proofs.Laws.Examples.{compute-plan}
+use Rattle.printing.proofs.Laws.Examples.{compute-sheet}
+
+pub bench : EachHolds examples
+unfolding reading.compute compute-plan compute-sheet inRange joint listFault fault joining onBook image sheet
+bench =
+    ((refl, refl, refl), (refl, ((refl, refl, refl), ((refl, refl, refl), ((refl, refl, refl), ((refl, refl, refl), (refl, (refl, ((refl, refl, refl), ((refl, refl, refl), ((refl, refl, refl), ((refl, refl, refl), ((refl, refl, refl), ((refl, refl, refl), ((refl, refl, refl), tt)))))))))))))))

@@ -1,0 +1,3 @@
+-- The laws of this crate's definitions.
+pub mod Examples
+pub mod Length
