@@ -1,6 +1,9 @@
-// Reads a book on standard input and prints its sheet.
-use libc::STDIN_FILENO;
-use libc::STDOUT_FILENO;
+// Reads a book on standard input and prints its sheet. Where a read fails it prints no sheet, since a book cut short is another book; there, and where a
+// write fails, it prints a line on standard error that says why. It prints nothing else there.
+mod stream;
+
+use crate::stream::read_input;
+use crate::stream::write_output;
 use sheet::BOOK_SIZE;
 use sheet::SHEET_SIZE;
 use sheet::sheet;
@@ -8,9 +11,16 @@ use sheet::sheet;
 // "Above 6,962 bytes it judges the first 6,963": no more is read.
 fn main() {
     let mut book = [0u8; BOOK_SIZE];
-    let n = io::read_full(STDIN_FILENO, &mut book);
+    let input = read_input(&mut book);
+    if input.failed {
+        os::fail(b"orders: reading standard input");
+        return;
+    }
+    let n = input.n;
     let mut text = [0u8; SHEET_SIZE];
     let r = sheet(&book[..n], &mut text);
     let k = r.value as usize;
-    io::write_all(STDOUT_FILENO, &text[..k]);
+    if !write_output(&text[..k]) {
+        os::fail(b"orders: writing standard output");
+    }
 }

@@ -1,4 +1,4 @@
--- Closing, computed from its definitions: each by itself, then K1 and K8 closed. Assumes nothing.
+-- Closing, computed from its definitions: each by itself, then document 01's book closed. Assumes nothing.
 use mathlib.Core.Path.{_≡_, refl}
 use mathlib.Core.List.{List, [], _∷_, _++_}
 use mathlib.Core.Option.{none, some}
@@ -9,7 +9,8 @@ use Rattle.book.specs.Book.{Mode, Clause}
 use Rattle.book.specs.Format.{markAt, many, predicate, rules, readBook, judge}
 use Rattle.book.specs.Encode.{encode}
 use Rattle.book.specs.Answer.{onBook}
-use Rattle.tables.proofs.Laws.Examples.{compute, k1, k8, several}
+use Rattle.book.proofs.Laws.Examples.{k1-book}
+use Rattle.tables.proofs.Laws.Examples.{compute, chain, several}
 use Rattle.closing.specs.Close.{keptClauses, closedMode, closedModes, closeOver, close, lacked, closed, closing}
 
 compute-close : Unit {0}
@@ -26,7 +27,7 @@ abbrev heads : List Clause → List ℕ
 heads [] = []
 heads (c ∷ cs) = c .head .pred ∷ heads cs
 
-pub drops : heads (keptClauses (bitAt 1) (several .book .clauses)) ++ heads (keptClauses (bitAt 2) (several .book .clauses)) ≡ 1 ∷ 0 ∷ 0 ∷ []
+pub drops : heads (keptClauses (bitAt 1) (several .clauses)) ++ heads (keptClauses (bitAt 2) (several .clauses)) ≡ 1 ∷ 0 ∷ 0 ∷ []
 unfolding compute-close
 drops = refl
 
@@ -51,22 +52,22 @@ pub has-all : lacked 15 4 ≡ none
 unfolding compute-close
 has-all = refl
 
--- "its final constraint": a of K8, which has another one after one round
-pub final-one : close 1 (k8 .book) .modes ≡ needs 0 (1 ∷ []) ∷ needs 2 (1 ∷ []) ∷ []
+-- "its final constraint": a of `chain`, which has another one after one round
+pub final-one : close 1 chain .modes ≡ needs 0 (1 ∷ []) ∷ needs 2 (1 ∷ []) ∷ []
 unfolding compute-close
 final-one = refl
 
 -- ---- books
 
--- K1 with fault(H) closed
-pub k1-closed : closed 4 (k1 .book)
+-- document 01's book with fault(H) closed
+pub k1-closed : closed 4 k1-book
     ≡ done 0 (80 ∷ 82 ∷ 1 ∷ 80 ∷ 82 ∷ 2 ∷ 80 ∷ 82 ∷ 1 ∷ 80 ∷ 82 ∷ 1 ∷ 77 ∷ 79 ∷ 1 ∷ 1 ∷ 1 ∷ 77 ∷ 79 ∷ 2 ∷ 1 ∷ 1 ∷ 77 ∷ 79 ∷ 3 ∷ 1 ∷ 1
     ∷ 81 ∷ 85 ∷ 83 ∷ 71 ∷ 2 ∷ 0 ∷ 83 ∷ 71 ∷ 0 ∷ 0 ∷ [])
 unfolding compute-close
 k1-closed = refl
 
 -- with a predicate that it lacks chosen, too
-pub k1-lacks : closed 580 (k1 .book) ≡ refused 8 6
+pub k1-lacks : closed 580 k1-book ≡ refused 8 6
 unfolding compute-close
 k1-lacks = refl
 

@@ -1,4 +1,4 @@
--- Sheets, computed from their definitions: numbers and lines by themselves, then document 01's. Assumes nothing.
+-- Sheets, computed from their definitions: numbers and lines by themselves, then sheets of refusals. Document 01's own is in the crate `demands`. Assumes nothing.
 use mathlib.Core.Path.{_≡_, refl}
 use mathlib.Core.List.{List, [], _∷_, _++_}
 use Prim.Native.Nat.{ℕ}
@@ -6,7 +6,7 @@ use Rattle.book.specs.Format.{fault}
 use Rattle.book.specs.Encode.{run}
 use Rattle.book.specs.declared.fault.Fault.the-variants.{OutOfRange}
 use Rattle.printing.specs.Sheet.{decimalIn, decimal, field, line, constraintLine, constraintLines, roundsLine, queryLine, orderLine, refusalLine, orderLines, bookSheet, judgedSheet}
-use Rattle.tables.proofs.Laws.Examples.{k1, k2, k11-wildcard}
+use Rattle.tables.proofs.Laws.Examples.{wild}
 use Rattle.choices.proofs.Laws.Examples.{compute-plan}
 
 unfoldable pub compute-sheet : Unit {0}
@@ -50,21 +50,10 @@ order = refl
 abbrev digits : ℕ → List ℕ → List ℕ
 digits letter fields = line letter (run (λ d. 32 ∷ d ∷ []) fields)
 
--- "Printed whole"
-pub k1-sheet : bookSheet (k1 .book)
-    ≡ digits 67 (48 ∷ 48 ∷ []) ++ digits 67 (49 ∷ 49 ∷ []) ++ digits 67 (50 ∷ 49 ∷ []) ++ digits 67 (51 ∷ 49 ∷ []) ++ digits 82 (49 ∷ []) ++ digits 81 (49 ∷ 48 ∷ []) ++ digits 79 (48 ∷ 49 ∷ 49 ∷ 48 ∷ [])
-unfolding compute-sheet
-k1-sheet = refl
-
--- `QU` alone: `R 0` and `Q`
-pub k2-sheet : bookSheet (k2 .book) ≡ digits 82 (48 ∷ []) ++ digits 81 []
-unfolding compute-sheet
-k2-sheet = refl
-
 -- "At 7, `X 7 0` stands in place of the `Q` and `O` lines."
-pub k11-sheet : bookSheet (k11-wildcard .book) ≡ digits 67 (48 ∷ 49 ∷ []) ++ digits 82 (48 ∷ []) ++ digits 88 (55 ∷ 48 ∷ [])
+pub seven-sheet : bookSheet wild ≡ digits 67 (48 ∷ 49 ∷ []) ++ digits 82 (48 ∷ []) ++ digits 88 (55 ∷ 48 ∷ [])
 unfolding compute-sheet
-k11-sheet = refl
+seven-sheet = refl
 
 -- "At 1 to 6 it prints only `X`, number, value."
 pub fault-sheet : judgedSheet (fault OutOfRange 3) ≡ digits 88 (52 ∷ 51 ∷ [])
