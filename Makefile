@@ -1,6 +1,6 @@
 # make: the library for C, proved and built. make install: the library, its header and its pkg-config file under PREFIX.
 PREFIX ?= /usr/local
-VERSION = 0.1.0
+VERSION := $(shell sed -n 's/.*SHODH_VERSION "\(.*\)"/\1/p' include/shodhvirup.h)
 
 built = target/lib
 sources = $(shell find crates crates.txt -type f \( -name '*.rt' -o -name '*.antt' -o -name crates.txt \))

@@ -1,9 +1,11 @@
-// calls WORKLOADS NAME OPERATION N: one operation, N times, on each book of that name. The instructions are counted from outside (see run).
-// A line of WORKLOADS is a name and a book in hexadecimal digits. With -DLIMIT it is the C version that is called, else the library.
+// calls WORKLOADS NAME OPERATION N: one operation, N times, on each book of that name. The instructions are counted from outside (see run). With `stack`
+// for N it is called once, and the bytes of stack that it took, the most of all books, are printed. A line of WORKLOADS is a name and a book in
+// hexadecimal digits. With -DLIMIT it is the C version that is called, else the library.
 #include <shodhvirup.h>
 #include <stdio.h>
 #include <stdlib.h>
 #include <string.h>
+#include <ucontext.h>
 
 #include "limit.h"
 
@@ -49,6 +51,38 @@ static shodh_reply call(int operation, size_t n, uint64_t set)
     }
 }
 
+// one call, for a stack of its own
+static struct {
+    int operation;
+    size_t n;
+    uint64_t set;
+} asked;
+
+static void ask(void)
+{
+    call(asked.operation, asked.n, asked.set);
+}
+
+// the bytes of stack that a call takes: those that are no longer as they were painted
+static size_t stack_of(int operation, size_t n, uint64_t set)
+{
+    static uint8_t stack[1 << 20];
+    ucontext_t here, there;
+    size_t left = 0;
+
+    asked.operation = operation, asked.n = n, asked.set = set;
+    memset(stack, 0xA5, sizeof stack);
+    getcontext(&there);
+    there.uc_stack.ss_sp = stack;
+    there.uc_stack.ss_size = sizeof stack;
+    there.uc_link = &here;
+    makecontext(&there, ask, 0);
+    swapcontext(&here, &there);
+    while (left < sizeof stack && stack[left] == 0xA5)
+        left++;
+    return sizeof stack - left;
+}
+
 int main(int argc, char **argv)
 {
     FILE *file = argc == 5 ? fopen(argv[1], "r") : NULL;
@@ -58,7 +92,7 @@ int main(int argc, char **argv)
     while (argc == 5 && operation < 6 && strcmp(operations[operation], argv[3]) != 0)
         operation++;
     if (file == NULL || operation == 6) {
-        fprintf(stderr, "usage: calls WORKLOADS NAME check|analyse|plan|close-none|close-all|close-beyond N\n");
+        fprintf(stderr, "usage: calls WORKLOADS NAME check|analyse|plan|close-none|close-all|close-beyond N|stack\n");
         return 2;
     }
     while (fgets(line, sizeof line, file)) {
@@ -69,6 +103,10 @@ int main(int argc, char **argv)
         for (; digits[2 * n] != 0; n++)
             book[n] = (uint8_t)(digit(digits[2 * n]) * 16 + digit(digits[2 * n + 1]));
         uint64_t set = chosen(operation, n);
+        if (strcmp(argv[4], "stack") == 0) {
+            size_t taken = stack_of(operation, n, set);
+            sum = sum < taken ? taken : sum;
+        }
         for (long i = atol(argv[4]); i > 0; i--) {
             shodh_reply r = call(operation, n, set);
             sum += r.number * 7 + r.value + r.rounds;

@@ -1,5 +1,5 @@
 // Clauses: by value, and in the array of words that holds those of a book. A call is one word there: its predicate in the lowest byte, above it the
-// number of its arguments, above that six arguments, one byte each. Stores go by a slice, since only then is the array's length known to the proof.
+// number of its arguments, above that six arguments, one byte each. Stores go through a slice, whose length the proof knows.
 use crate::limits::CLAUSE_SIZE;
 use crate::limits::MAX_ARGUMENTS;
 use crate::limits::MAX_SUBGOALS;

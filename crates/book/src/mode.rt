@@ -1,5 +1,5 @@
-// The modes of predicates, in the array that holds those of a book. The array is gone over as a slice, since only then is its length known to
-// the proof.
+// The modes of predicates, in the array that holds those of a book. It is read and written through a slice, whose length the proof
+// knows.
 use crate::limits::MODE_SIZE;
 use crate::limits::MODES_SIZE;
 use masks::constraint::Constraint;

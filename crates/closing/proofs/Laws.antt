@@ -2,10 +2,10 @@
 pub mod Examples
 pub mod Modes
 pub mod Valid
-pub mod Close
+pub mod Final
 pub mod Parts
 pub mod Lacked
-pub mod Closing
+pub mod Outcome
 pub mod Moding
 pub mod Keeping
 pub mod Held

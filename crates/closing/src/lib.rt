@@ -87,7 +87,7 @@ fn keep_clauses(rules: &mut [u64; RULES_SIZE], clauses: u8, set: u64) -> u8
     n
 }
 
-// Makes clause `to` of an array what clause `from` is.
+// Copies clause `from` of an array over clause `to`.
 fn move_clause(rules: &mut [u64; RULES_SIZE], from: usize, to: usize)
     requires { ⌜ (from ≤ maxClauses) × (to ≤ maxClauses) ⌝ }
     ensures { λ _. ⌜ StoredClause (now (rules .entry)) (now (rules .exit)) to (clauseAt (now (rules .entry)) from) ⌝ }

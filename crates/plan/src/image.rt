@@ -94,6 +94,7 @@ pub fn put_plan<'a>(
     at
 }
 
+// "`QO`, n, n places".
 fn put_query(out: &mut [u8], o: Order) -> usize
     requires { ⌜ Room (now out) 0 (encQuery (placesOf o)) ⌝ }
     ensures { λ r. ⌜ Wrote (now (out .entry)) (now (out .exit)) 0 r (encQuery (placesOf o)) ⌝ }

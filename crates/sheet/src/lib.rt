@@ -19,7 +19,7 @@ ghost use Rattle.writing.specs.Wrote.{Room, Wrote};
 ghost use Rattle.printing.specs.Sheet.{line, field, judgedSheet, refusalLine, printing};
 ghost use Rattle.sheet.specs.Records.{listedIn, lineIn, linesIn, judgedOrders};
 
-// Of a book that is read: one byte more than the longest has.
+// "it judges the first 6,963": as many bytes of a book are looked at, one more than the longest has.
 pub const BOOK_SIZE: usize = 6963;
 
 // The longest image of a table, and the longest plan.

@@ -94,6 +94,7 @@ pub fn put_image(out: &mut [u8], preds: u8, table: &[u8; MODES_SIZE]) -> usize
     at
 }
 
+// "`CN`, predicate, n, n masks".
 fn put_row(out: &mut [u8], at: usize, p: u8, c: Constraint) -> usize
     requires { ⌜ Room (now out) at (row p (masksOf c)) ⌝ }
     ensures { λ r. ⌜ Wrote (now (out .entry)) (now (out .exit)) at r (row p (masksOf c)) ⌝ }

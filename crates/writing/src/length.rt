@@ -1,5 +1,5 @@
-// How many bytes a book has, and its parts. Each part also says how many it has at most, so that the sums fit. A lent array is gone over as a
-// slice, since only then is its length known to the proof.
+// How many bytes a book has, and its parts. Each part also says how many it has at most, so that the sums fit. A lent array is read through a
+// slice, whose length the proof knows.
 use crate::put::least;
 use book::clause::Clause;
 use book::clause::arguments;

@@ -1,5 +1,5 @@
-// Bytes and marks, stored from a place on; each answers the place after it. A lent array is gone over as a slice, since only then is its
-// length known to the proof.
+// Bytes and marks, stored from a place on; each answers the place after it. A lent array is read through a slice, whose length the
+// proof knows.
 use masks::constraint::Constraint;
 use masks::constraint::count;
 use masks::constraint::put_masks;
@@ -10,6 +10,7 @@ ghost use lib.ListN.{length};
 ghost use Rattle.masks.specs.Held.{masksOf};
 ghost use Rattle.writing.specs.Wrote.{Room, Wrote};
 
+// The two bytes of a mark.
 pub fn put_mark(out: &mut [u8], at: usize, m: &[u8; 2]) -> usize
     requires { ⌜ Room (now out) at (now m) ⌝ }
     ensures { λ r. ⌜ Wrote (now (out .entry)) (now (out .exit)) at r (now (m .entry)) ⌝ }
@@ -19,6 +20,7 @@ pub fn put_mark(out: &mut [u8], at: usize, m: &[u8; 2]) -> usize
     put_byte(out, p, bytes[1])
 }
 
+// Bytes, one after the other.
 pub fn put_bytes(out: &mut [u8], at: usize, b: &[u8]) -> usize
     requires { ⌜ Room (now out) at (now b) ⌝ }
     ensures { λ r. ⌜ Wrote (now (out .entry)) (now (out .exit)) at r (now (b .entry)) ⌝ }
@@ -44,6 +46,7 @@ pub fn put_constraint(out: &mut [u8], at: usize, p: u8, c: Constraint) -> usize
     r + n
 }
 
+// One byte.
 pub fn put_byte(out: &mut [u8], at: usize, x: u8) -> usize
     requires { ⌜ Room (now out) at (x ∷ []) ⌝ }
     ensures { λ r. ⌜ Wrote (now (out .entry)) (now (out .exit)) at r (x ∷ []) ⌝ }

@@ -16,7 +16,7 @@ use Rattle.masks.proofs.Laws.Logic.{byBool}
 use Rattle.masks.proofs.Laws.Lists.{all-mono, joined-cong}
 use Rattle.book.proofs.Laws.Trip.{mode-known}
 use Rattle.closing.proofs.Laws.Modes.{made-back}
-use Rattle.closing.proofs.Laws.Close.{mode-close, final-close}
+use Rattle.closing.proofs.Laws.Final.{mode-close, final-close}
 
 -- the set of the predicates of either
 abbrev pub either : (ℕ → Bool) → (ℕ → Bool) → ℕ → Bool

@@ -20,7 +20,7 @@ use Rattle.book.proofs.Laws.Answer.{on-fault, on-book}
 use Rattle.reading.proofs.Laws.Judged.{read-well, read-fault, read-book}
 use Rattle.needs.proofs.Laws.Settling.{read-known}
 use Rattle.closing.proofs.Laws.Lacked.{lacked-lowest, lacked-none}
-use Rattle.closing.proofs.Laws.Closing.{closed-lacks, closed-has}
+use Rattle.closing.proofs.Laws.Outcome.{closed-lacks, closed-has}
 use Rattle.closing.proofs.Laws.Held.{close-held}
 use Rattle.closing.proofs.close.Statement.{statement}
 use Rattle.closing.proofs.close.Tie as tie

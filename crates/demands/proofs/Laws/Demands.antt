@@ -45,8 +45,8 @@ use Rattle.choices.proofs.Laws.Moded.{orderable}
 use Rattle.choices.proofs.Laws.Plan.{seven-none, seven-iff, plan-iff, plan-sound, plan-exact, plan-query-first, plan-first}
 use Rattle.choices.proofs.Laws.Rows.{rows-rise, plan-length}
 use Rattle.closing.proofs.Laws.Valid.{closed-well}
-use Rattle.closing.proofs.Laws.Close.{final-close}
-use Rattle.closing.proofs.Laws.Closing.{closed-lacks, closing-done, closing-valid, done-closing, closing-twice, closing-turned, closing-again, closing-none, never-seven, closing-gave}
+use Rattle.closing.proofs.Laws.Final.{final-close}
+use Rattle.closing.proofs.Laws.Outcome.{closed-lacks, closing-done, closing-valid, done-closing, closing-twice, closing-turned, closing-again, closing-none, never-seven, closing-gave}
 use Rattle.demands.proofs.Laws.Examples.{bench}
 
 -- ---- demand 1

@@ -213,7 +213,7 @@ ready-mono T T′ b b′ s m h t =
     m (s .pred) (patternOf b′ (s .args))
     (admits-up (getD T (s .pred) []) (patternOf b (s .args)) (patternOf b′ (s .args)) (pattern-mono b b′ (s .args) h) t)
 
--- it hangs on the constraint of the predicate called
+-- it depends on the constraint of the predicate called
 pub ready-same : (T U : Table) (b : Bound) (s : Call) → getD T (s .pred) [] ≡ getD U (s .pred) [] → ready T b s ≡ ready U b s
 unfolding ready
 ready-same T U b s e = ap (λ (c : List ℕ). admits c (patternOf b (s .args))) e

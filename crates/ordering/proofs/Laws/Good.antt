@@ -57,7 +57,7 @@ first-below T body b i = go (firstGood T body b) refl
     go none e h = absurd (omega arith)
     go (some σ) e h = first-is-least T body b .has σ e .0 .below (getD σ i 0) (in-at 0 σ i h)
 
--- what is bound after all of them does not hang on their order
+-- what is bound after all of them does not depend on their order
 pub bound-after : (body : List Call) (b : Bound) (σ τ : List ℕ) → Rearranges (length body) σ → Rearranges (length body) τ
     → allAfter (afterAt body) b σ ≡ allAfter (afterAt body) b τ
 bound-after body b σ τ r s =
@@ -93,7 +93,7 @@ good-clause-pattern T c a a′ w t = good-clause-mono T T c a a′ (more-refl T)
 pub good-clause-table : (T T′ : Table) (c : Clause) (a : ℕ) → More T T′ → goodClause T c a ≡ true → goodClause T′ c a ≡ true
 good-clause-table T T′ c a m t = good-clause-mono T T′ c a a m (within-refl a) t
 
--- ---- a clause hangs on the constraints of the predicates it calls only
+-- ---- a clause depends on the constraints of the predicates it calls only
 
 module _ (T U : Table) (x : ℕ → Bool) (agree : (q : ℕ) → x q ≡ false → getD T q [] ≡ getD U q []) where
   -- no subgoal calls a predicate of x

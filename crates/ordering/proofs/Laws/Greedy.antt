@@ -123,7 +123,7 @@ module _ {B B′ : Type 0} (ready : B → ℕ → Bool) (after : B → ℕ → B
 
 -- ---- a state that grows
 
--- more is ready in a greater state, taking grows it, and what is taken does not hang on the order or on taking it again
+-- more is ready in a greater state, taking grows it, and what is taken does not depend on the order or on taking it again
 pub record Growing {B : Type 0} (ready : B → ℕ → Bool) (after : B → ℕ → B) (Le : B → B → Type 0) : Type 0 where
   pub le-refl : (b : B) → Le b b
   pub le-trans : (b c d : B) → Le b c → Le c d → Le b d
@@ -248,7 +248,7 @@ module _ {B : Type 0} {ready : B → ℕ → Bool} {after : B → ℕ → B} {Le
       (greedy-least n b (count 0 n) (count-length 0 n) (count-ascends 0 n)))
       (first-least ready after b n)
 
--- ---- the state after all of them does not hang on their order
+-- ---- the state after all of them does not depend on their order
 
 module _ {B : Type 0} (after : B → ℕ → B) where
   unfoldable pub allAfter : B → List ℕ → B

@@ -1,5 +1,5 @@
--- One round. What is good stays good where more is bound or the table admits more; and a predicate's constraint after a round hangs only on those
--- of the predicates that its clauses call. Assumes nothing.
+-- One round. What is good stays good where more is bound or the table admits more; and a predicate's constraint after a round depends only on
+-- those of the predicates that its clauses call. Assumes nothing.
 use mathlib.Core.Path.{_≡_, refl, ap, _∙_, subst}
 use mathlib.Core.Bool.{Bool, true, false, cond, false≢true}
 use mathlib.Core.List.{List, [], _∷_}
