@@ -1,2 +1,3 @@
--- What a reader has to believe of this crate: hexadecimal digits.
+-- What a reader has to believe of this crate: lines and their fields; digits, numbers and bytes.
 pub mod Hex
+pub mod Line
