@@ -60,15 +60,11 @@ fn give(preds: u8, d: Needs, out: &mut [u8]) -> Reply
     ensures { λ r. ⌜ Answers (done (d .rounds) (rows (tableIn (d .table .needs) preds) preds)) (now (out .entry)) r (now (out .exit)) ⌝ }
 {
     let n = image_length(preds, &d.table.needs);
-    if out.len() < n {
-        return Reply::refused(9, n as u64);
+    let r = Reply::in_room(n, d.rounds, out.len());
+    if r.number == 0 {
+        put_image(out, preds, &d.table.needs);
     }
-    put_image(out, preds, &d.table.needs);
-    Reply {
-        number: 0,
-        value: n as u64,
-        rounds: d.rounds,
-    }
+    r
 }
 
 // "The rounds reported are the least k at which table k+1 equals table k, and table k is the answer."

@@ -58,13 +58,9 @@ fn give<'a>(
     let own = own_clauses(clauses, rules);
     let reached = reach(rules, table, &own, clauses);
     let n = plan_length(preds, rules, &own, &reached);
-    if out.len() < n {
-        return Reply::refused(9, n as u64);
+    let r = Reply::in_room(n, 0, out.len());
+    if r.number == 0 {
+        put_plan(out, query, preds, rules, table, &own, &reached);
     }
-    put_plan(out, query, preds, rules, table, &own, &reached);
-    Reply {
-        number: 0,
-        value: n as u64,
-        rounds: 0,
-    }
+    r
 }

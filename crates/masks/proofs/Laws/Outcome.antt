@@ -9,8 +9,8 @@ use native.Mathlib.Omega.{arith}
 use lib.Dec.{ltb}
 use lib.ListN.{length, take, drop, length-append, length-drop}
 use lib.Seq.{take-at, drop-at, length-take-le, sets, sets-eq}
-use borrow.Author.Tests.{lt-ltb, le-ltb, ltb-false}
-use Rattle.masks.specs.Outcome.{Outcome, refused, done, reply, left, Answers}
+use borrow.Author.Tests.{lt-ltb, le-ltb, ltb-true, ltb-false}
+use Rattle.masks.specs.Outcome.{Outcome, refused, done, inRoom, reply, left, Answers}
 use Rattle.masks.specs.declared.reply.Reply.{Reply}
 use Rattle.masks.proofs.Laws.Logic.{byBool, clash}
 
@@ -21,23 +21,40 @@ pub answers-refused : (number value : ℕ) (out : List ℕ) {r : Reply} → r �
 unfolding reply left
 answers-refused number value out e = record { replies = e; leaves = refl }
 
-module _ (rounds : ℕ) (bytes out : List ℕ) (n : ℕ) (size : n ≡ length bytes) {r : Reply} where
-  pub answers-short : length out < n → r ≡ record { number = 9; value = n; rounds = 0 } → Answers (done rounds bytes) out r out
-  unfolding reply left
-  answers-short h e =
-      let t = lt-ltb (length out) (length bytes) (omega arith) in
-      record { replies = e ∙ rw (t, size); leaves = rw t }
+-- the reply of a result of n bytes, at the room lent
+module _ (n rounds : ℕ) (out : List ℕ) {r : Reply} (e : r ≡ inRoom n rounds (length out)) where
+  -- 0 tells that there is room
+  pub room-enough : r .number ≡ 0 → n ≤ length out
+  room-enough z =
+      byBool (ltb (length out) n)
+      (λ t. let f : _≡_ {A = ℕ} 9 0 = sym (ap (λ (x : Reply). x .number) e ∙ rw t) ∙ z in absurd (omega arith))
+      (λ t. ltb-false (length out) n t)
 
-  pub answers-done : {after : List ℕ} → n ≤ length out → r ≡ record { number = 0; value = n; rounds = rounds } → after ≡ sets out 0 bytes
-      → Answers (done rounds bytes) out r after
-  unfolding reply left
-  answers-done h e f =
-      let t = le-ltb (length out) (length bytes) (omega arith) in
-      let z : 0 + length bytes ≡ length bytes = omega arith in
-      record {
-        replies = e ∙ rw (t, size);
-        leaves = rw t (f ∙ sets-eq bytes out 0 (omega arith) ∙ ap (λ (k : ℕ). bytes ++ drop k out) z);
-      }
+  -- anything else, that there is not
+  room-short : (r .number ≡ 0 → ⊥) → length out < n
+  room-short f =
+      byBool (ltb (length out) n) (λ t. ltb-true (length out) n t)
+      (λ t. absurd (f (ap (λ (x : Reply). x .number) e ∙ rw t)))
+
+  module _ (bytes : List ℕ) (size : n ≡ length bytes) where
+    replied : r ≡ reply (done rounds bytes) (length out)
+    unfolding reply
+    replied = e ∙ ap (λ (k : ℕ). inRoom k rounds (length out)) size
+
+    pub answers-short : (r .number ≡ 0 → ⊥) → Answers (done rounds bytes) out r out
+    unfolding left
+    answers-short f =
+        let h = room-short f in
+        let t = lt-ltb (length out) (length bytes) (omega arith) in
+        record { replies = replied; leaves = rw t }
+
+    pub answers-done : {after : List ℕ} → r .number ≡ 0 → after ≡ sets out 0 bytes → Answers (done rounds bytes) out r after
+    unfolding left
+    answers-done f w =
+        let h = room-enough f in
+        let t = le-ltb (length out) (length bytes) (omega arith) in
+        let z : 0 + length bytes ≡ length bytes = omega arith in
+        record { replies = replied; leaves = rw t (w ∙ sets-eq bytes out 0 (omega arith) ∙ ap (λ (k : ℕ). bytes ++ drop k out) z) }
 
 -- ---- what holds of every answer
 

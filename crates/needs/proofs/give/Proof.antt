@@ -1,42 +1,42 @@
 -- `needs::give` meets its contract. The image's length decides between the two answers of an outcome that is done. Assumes nothing.
-use mathlib.Core.Path.{refl}
 use native.Mathlib.Omega.{arith}
 use borrow.Author.Needs.{needs}
-use Rattle.masks.proofs.Laws.Outcome.{answers-short, answers-done}
+use Rattle.masks.proofs.Laws.Outcome.{room-enough, answers-short, answers-done}
 use Rattle.needs.proofs.give.Statement.{statement}
 use Rattle.needs.proofs.give.Tie as tie
 
 image-length-requires : tie.Need-image-length-requires
 image-length-requires c κs = c .before .before .before .pre
 
-refused-requires : tie.Need-refused-requires
-refused-requires c κs = search needs
-
-returns : tie.Need-returns
-returns c =
-    let s = c .before .before .before .before .before .before .args in
-    let n = c .before .before .image-length in
-    answers-short (s .t2 .rounds) _ (s .out .now) (n .result) (n .ensures) (omega arith) (c .refused .ensures)
+in-room-requires : tie.Need-in-room-requires
+in-room-requires c κs = search needs
 
 put-image-requires : tie.Need-put-image-requires
-put-image-requires c κs = let n = c .before .before .before .before .image-length .ensures in (c .before .before .before .before .before .before .before .before .pre, omega arith)
+put-image-requires c κs =
+    let s = c .before .before .before .before .before .before .before .before .before .before in
+    let n = c .before .before .before .before .before .before .image-length in
+    let size = n .ensures in
+    let h = room-enough (n .result) (s .args .t2 .rounds) (s .args .out .now) (c .before .before .before .before .before .in-room .ensures) (omega arith) in
+    (s .pre, omega arith)
 
 same-length : tie.Need-same-length
 same-length c = search needs
 
+returns : tie.Need-returns
+returns c =
+    let k = c .before .before .before .before .before .before .before .before in
+    answers-done _ _ _ (k .in-room .ensures) _ (k .before .image-length .ensures) (c .before .before .before .before .before .before .if1 .taken) (c .before .before .put-image .ensures .is)
+
 returns-2 : tie.Need-returns-2
-returns-2 c =
-    let s = c .before .before .before .before .before .before .before .before .before .before .before .args in
-    let n = c .before .before .before .before .before .before .before .image-length in
-    answers-done (s .t2 .rounds) _ (s .out .now) (n .result) (n .ensures) (omega arith) refl (c .before .before .put-image .ensures .is)
+returns-2 c = let k = c .before .before in answers-short _ _ _ (k .in-room .ensures) _ (k .before .image-length .ensures) (c .if1 .left)
 
 pub give-spec : {M : Type 1} → statement M
 give-spec =
     tie.close
     (tie.spec
     image-length-requires
-    refused-requires
-    returns
+    in-room-requires
     put-image-requires
     same-length
+    returns
     returns-2)

@@ -14,7 +14,7 @@ use lib.Seq.{sets}
 use borrow.Author.Tests.{eqb-true, leb-true, ltb-true, lt-ltb, le-ltb}
 use Rattle.masks.specs.Limits.{allPatterns}
 use Rattle.masks.specs.Lists.{joined}
-use Rattle.masks.specs.Outcome.{Answers, refused}
+use Rattle.masks.specs.Outcome.{Answers, refused, inRoom}
 use Rattle.masks.specs.Set.{bitAt}
 use Rattle.masks.specs.declared.reply.Reply.{Reply}
 use Rattle.book.specs.Limits.{maxPredicates, maxClauses}
@@ -36,7 +36,7 @@ use Rattle.plan.specs.Lent.{Lent, EachCallable, rowBy, clauseRows, patte
 use Rattle.masks.proofs.Laws.Logic.{byBool, byRange, same, false-of, clash, and-left, and-right}
 use Rattle.masks.proofs.Laws.Lists.{joined-cong, joined-cut}
 use Rattle.masks.proofs.Laws.Set.{bitAt-zero}
-use Rattle.masks.proofs.Laws.Outcome.{answers-short, answers-done}
+use Rattle.masks.proofs.Laws.Outcome.{room-enough, answers-short, answers-done}
 use Rattle.book.proofs.Laws.Encode.{run-joined}
 use Rattle.ordering.proofs.Laws.Held.{callsBelow-mono, first-cut}
 use Rattle.tables.proofs.Laws.Sums.{howMany, sum-cong, length-joined, howMany-each, ones-below}
@@ -283,16 +283,18 @@ module _ (B : Book) (preds clauses : ℕ) (rules table : List ℕ) (l : Lent B p
       given-size = size ∙ plan-long B preds clauses rules table l given-some own words o m
 
       -- there is room for it
-      pub given-room : (out : List ℕ) → n ≤ length out → Room out 0 (planBytes (placesOf q) preds rules table own words)
-      given-room out h = let z = given-size in let b = ap length given-bytes in omega arith
+      pub given-room : (rounds : ℕ) (out : List ℕ) {r : Reply} → r ≡ inRoom n rounds (length out) → r .number ≡ 0
+          → Room out 0 (planBytes (placesOf q) preds rules table own words)
+      given-room rounds out g z = let h = room-enough n rounds out g z in let s = given-size in let b = ap length given-bytes in omega arith
 
       -- 9, or the plan with its length
-      pub given-short : (out : List ℕ) {r : Reply} → length out < n → r ≡ record { number = 9; value = n; rounds = 0 } → Answers (planned B) out r out
-      given-short out h g = rw (planned-good B given-some) (answers-short 0 (image B) out n given-size h g)
+      module _ (out : List ℕ) {r : Reply} (g : r ≡ inRoom n 0 (length out)) where
+        pub given-short : (r .number ≡ 0 → ⊥) → Answers (planned B) out r out
+        given-short z = rw (planned-good B given-some) (answers-short n 0 out g (image B) given-size z)
 
-      pub given-done : (out : List ℕ) {after : List ℕ} {next : ℕ} {r : Reply} → n ≤ length out → r ≡ record { number = 0; value = n; rounds = 0 }
-          → Wrote out after 0 next (planBytes (placesOf q) preds rules table own words) → Answers (planned B) out r after
-      given-done out h g w = rw (planned-good B given-some) (answers-done 0 (image B) out n given-size h g (w .is ∙ ap (sets out 0) given-bytes))
+        pub given-done : {after : List ℕ} {next : ℕ} → r .number ≡ 0 → Wrote out after 0 next (planBytes (placesOf q) preds rules table own words)
+            → Answers (planned B) out r after
+        given-done z w = rw (planned-good B given-some) (answers-done n 0 out g (image B) given-size z (w .is ∙ ap (sets out 0) given-bytes))
 
 -- ---- a book that was read
 
