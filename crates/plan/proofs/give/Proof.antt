@@ -4,7 +4,7 @@ use native.Mathlib.Omega.{arith}
 use borrow.Author.Needs.{needs}
 use borrow.Author.Tests.{not-true, not-false}
 use Rattle.ordering.specs.Adorn.{nothing}
-use Rattle.masks.proofs.Laws.Outcome.{answers-refused}
+use Rattle.masks.proofs.Laws.Outcome.{answers-refused, room-enough}
 use Rattle.plan.proofs.Laws.Planned.{few-preds, lent-known, query-below, each-callable, given-none, given-room, given-short, given-done}
 use Rattle.plan.proofs.give.Statement.{statement}
 use Rattle.plan.proofs.give.Tie as tie
@@ -59,10 +59,11 @@ put-plan-requires c κs =
     let q = k .before .before .before .before .before .before .before .before .before .first-order in
     let own = k .before .before .before .before .before .before .own-clauses in
     let m = k .before .before .before .before .reach in
-    let n = k .before .plan-length in (
+    let n = k .before .plan-length in
+    let z = room-enough _ _ _ (k .in-room .ensures) (omega arith) in (
       few-preds (h .0) (s .preds) (s .clauses) (s .rules .now) (s .table .now) (h .1),
       each-callable (s .rules .now) (own .result) (s .clauses) (search needs) (lent-known (h .0) (s .preds) (s .clauses) (s .rules .now) (s .table .now) (h .1)) (own .ensures),
-      given-room (h .0) (s .preds) (s .clauses) (s .rules .now) (s .table .now) (h .1) (q .result) (q .ensures .0) (not-false (q .result .found) (k .before .before .before .before .before .before .before .if1 .left)) (own .result) (m .result) (own .ensures) (m .ensures) (n .result) (n .ensures) _ (s .out .now) (k .in-room .ensures) (omega arith),
+      given-room (h .0) (s .preds) (s .clauses) (s .rules .now) (s .table .now) (h .1) (q .result) (q .ensures .0) (not-false (q .result .found) (k .before .before .before .before .before .before .before .if1 .left)) (own .result) (m .result) (own .ensures) (m .ensures) (n .result) (n .ensures) (s .out .now) (omega arith),
     )
 
 same-length : tie.Need-same-length
@@ -78,7 +79,7 @@ returns-2 c =
     let own = k .before .before .before .before .before .before .own-clauses in
     let m = k .before .before .before .before .reach in
     let n = k .before .plan-length in
-    given-done B (s .preds) (s .clauses) (s .rules .now) (s .table .now) l (q .result) (q .ensures .0) (not-false (q .result .found) (k .before .before .before .before .before .before .before .if1 .left)) (own .result) (m .result) (own .ensures) (m .ensures) (n .result) (n .ensures) (s .out .now) (k .in-room .ensures) (c .before .before .before .before .before .before .if2 .taken) (c .before .before .put-plan .ensures)
+    given-done B (s .preds) (s .clauses) (s .rules .now) (s .table .now) l (q .result) (q .ensures .0) (not-false (q .result .found) (k .before .before .before .before .before .before .before .if1 .left)) (own .result) (m .result) (own .ensures) (m .ensures) (n .result) (n .ensures) _ (k .in-room .ensures) (omega arith) (c .before .before .before .before .before .before .if2 .taken) (c .before .before .put-plan .ensures)
 
 returns-3 : tie.Need-returns-3
 unfolding nothing
@@ -90,7 +91,7 @@ returns-3 c =
     let own = k .before .before .before .before .before .before .own-clauses in
     let m = k .before .before .before .before .reach in
     let n = k .before .plan-length in
-    given-short B (s .preds) (s .clauses) (s .rules .now) (s .table .now) l (q .result) (q .ensures .0) (not-false (q .result .found) (k .before .before .before .before .before .before .before .if1 .left)) (own .result) (m .result) (own .ensures) (m .ensures) (n .result) (n .ensures) (s .out .now) (k .in-room .ensures) (c .if2 .left)
+    given-short B (s .preds) (s .clauses) (s .rules .now) (s .table .now) l (q .result) (q .ensures .0) (not-false (q .result .found) (k .before .before .before .before .before .before .before .if1 .left)) (own .result) (m .result) (own .ensures) (m .ensures) (n .result) (n .ensures) _ (k .in-room .ensures) (omega arith) (c .if2 .left)
 
 pub give-spec : {M : Type 1} → statement M
 give-spec =
