@@ -3,7 +3,6 @@
 use book::clause::clause_at;
 use book::clause::head_at;
 use book::clause::put_clause;
-use book::fault::number;
 use book::limits::MAX_PREDICATES;
 use book::limits::MODES_SIZE;
 use book::limits::NO_CALL;
@@ -15,7 +14,6 @@ use masks::constraint::has_member;
 use masks::reply::Reply;
 use needs::settle;
 use reading::read_book;
-use records::field::Found;
 use writing::write_book;
 ghost use Prim.Native.Nat.{_+_, _≤_};
 ghost use Rattle.masks.specs.Outcome.{Answers};
@@ -34,19 +32,18 @@ pub fn close(book: &[u8], set: u64, out: &mut [u8]) -> Reply
     let mut arities = [0u8; MAX_PREDICATES];
     let mut modes = [0u8; MODES_SIZE];
     let mut rules = [NO_CALL; RULES_SIZE];
-    let r = read_book(book, &mut arities, &mut modes, &mut rules);
-    let f = r.found;
-    if let Found::Bad(v, at) = f {
-        return Reply::refused(number(v), at as u64);
+    let b = read_book(book, &mut arities, &mut modes, &mut rules);
+    if b.reply.number != 0 {
+        return b.reply;
     }
-    let beyond = chosen_from(set, r.preds);
+    let beyond = chosen_from(set, b.preds);
     if beyond != 0 {
-        return Reply::refused(8, r.preds as u64 + u64::trailing_zeros(beyond) as u64);
+        return Reply::refused(8, b.preds as u64 + u64::trailing_zeros(beyond) as u64);
     }
-    let d = settle(r.preds, &arities, &modes, r.clauses, &rules);
+    let d = settle(b.preds, &arities, &modes, b.clauses, &rules);
     close_modes(&mut modes, set, &d.table.needs);
-    let n = keep_clauses(&mut rules, r.clauses, set);
-    write_book(r.preds, &arities, &modes, n, &rules, out)
+    let n = keep_clauses(&mut rules, b.clauses, set);
+    write_book(b.preds, &arities, &modes, n, &rules, out)
 }
 
 // The chosen numbers from n on, counted from n.

@@ -12,8 +12,8 @@ ghost use mathlib.Core.Path.{_≡_};
 ghost use mathlib.Core.Bool.{true};
 ghost use Rattle.masks.specs.Limits.{allPatterns};
 ghost use Rattle.masks.specs.Constraint.{inRange, choice, joint};
-ghost use Rattle.masks.specs.Held.{masksOf, packed};
-ghost use Rattle.masks.specs.Outcome.{Answers, done};
+ghost use Rattle.masks.specs.Held.{packed};
+ghost use Rattle.masks.specs.Outcome.{Answers};
 ghost use Rattle.masks.specs.Joining.{listFault, fault, combined, joining};
 
 // "Two constraints of one arity are combined in two ways."
@@ -45,23 +45,11 @@ fn join(way: Way, arity: u8, first: &[u8], second: &[u8], out: &mut [u8]) -> Rep
         return Reply::refused(number, 0);
     }
     let c = combine(way, first, second);
-    give(c, out)
-}
-
-// The masks of a constraint as the result of an operation: written from the output's start, or 9 where the output is too short.
-fn give(c: Constraint, out: &mut [u8]) -> Reply
-    ensures { λ r. ⌜ Answers (done 0 (masksOf c)) (now (out .entry)) r (now (out .exit)) ⌝ }
-{
-    let n = constraint::count(c);
-    if out.len() < n {
-        return Reply::refused(9, n as u64);
+    let r = Reply::in_room(constraint::count(c), 0, out.len());
+    if r.number == 0 {
+        constraint::put_masks(out, 0, c);
     }
-    constraint::put_masks(out, 0, c);
-    Reply {
-        number: 0,
-        value: n as u64,
-        rounds: 0,
-    }
+    r
 }
 
 // "tried as arity, first list's length, its masks, the second's": the number of the first fault, or 0.

@@ -9,14 +9,12 @@ use crate::calls::calling;
 use crate::calls::heads;
 use crate::calls::own_clauses;
 use crate::round::round;
-use book::fault::number;
 use book::limits::MAX_PREDICATES;
 use book::limits::MODES_SIZE;
 use book::limits::NO_CALL;
 use book::limits::RULES_SIZE;
 use masks::reply::Reply;
 use reading::read_book;
-use records::field::Found;
 use tables::Table;
 use tables::first_table;
 use tables::image_length;
@@ -24,13 +22,13 @@ use tables::put_image;
 ghost use mathlib.Core.Path.{_≡_};
 ghost use Prim.Native.Nat.{_≤_};
 ghost use lib.ListN.{length, take};
-ghost use Rattle.masks.specs.Outcome.{Answers, done};
-ghost use Rattle.book.specs.Limits.{maxPredicates, maxClauses};
+ghost use Rattle.masks.specs.Outcome.{Answers};
+ghost use Rattle.book.specs.Limits.{maxClauses};
 ghost use Rattle.book.specs.Encode.{WellFormed};
 ghost use Rattle.book.specs.Held.{bookIn};
 ghost use Rattle.ordering.specs.Held.{tableIn};
 ghost use Rattle.tables.specs.Table.{rounds, final};
-ghost use Rattle.tables.specs.Image.{rows, analysis};
+ghost use Rattle.tables.specs.Image.{analysis};
 
 // The final table of a book, and its rounds.
 pub struct Needs {
@@ -45,30 +43,17 @@ pub fn analyse(book: &[u8], out: &mut [u8]) -> Reply
     let mut arities = [0u8; MAX_PREDICATES];
     let mut modes = [0u8; MODES_SIZE];
     let mut rules = [NO_CALL; RULES_SIZE];
-    let r = read_book(book, &mut arities, &mut modes, &mut rules);
-    let f = r.found;
-    if let Found::Bad(v, at) = f {
-        return Reply::refused(number(v), at as u64);
+    let b = read_book(book, &mut arities, &mut modes, &mut rules);
+    if b.reply.number != 0 {
+        return b.reply;
     }
-    let d = settle(r.preds, &arities, &modes, r.clauses, &rules);
-    give(r.preds, d, out)
-}
-
-// The image of a final table as the result of the analysis: written from the output's start, or 9 where the output is too short.
-fn give(preds: u8, d: Needs, out: &mut [u8]) -> Reply
-    requires { ⌜ preds ≤ maxPredicates ⌝ }
-    ensures { λ r. ⌜ Answers (done (d .rounds) (rows (tableIn (d .table .needs) preds) preds)) (now (out .entry)) r (now (out .exit)) ⌝ }
-{
-    let n = image_length(preds, &d.table.needs);
-    if out.len() < n {
-        return Reply::refused(9, n as u64);
+    let d = settle(b.preds, &arities, &modes, b.clauses, &rules);
+    let n = image_length(b.preds, &d.table.needs);
+    let r = Reply::in_room(n, d.rounds, out.len());
+    if r.number == 0 {
+        put_image(out, b.preds, &d.table.needs);
     }
-    put_image(out, preds, &d.table.needs);
-    Reply {
-        number: 0,
-        value: n as u64,
-        rounds: d.rounds,
-    }
+    r
 }
 
 // "The rounds reported are the least k at which table k+1 equals table k, and table k is the answer."

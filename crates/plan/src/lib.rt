@@ -3,7 +3,6 @@ pub mod image;
 
 use crate::image::plan_length;
 use crate::image::put_plan;
-use book::fault::number;
 use book::limits::MAX_CLAUSES;
 use book::limits::MAX_PREDICATES;
 use book::limits::MODES_SIZE;
@@ -16,7 +15,6 @@ use needs::settle;
 use ordering::first_order;
 use reach::reach;
 use reading::read_book;
-use records::field::Found;
 ghost use Rattle.masks.specs.Outcome.{Answers};
 ghost use Rattle.choices.specs.Plan.{planning};
 ghost use Rattle.plan.specs.Lent.{SomeLent, Gives};
@@ -29,13 +27,12 @@ pub fn plan(book: &[u8], out: &mut [u8]) -> Reply
     let mut arities = [0u8; MAX_PREDICATES];
     let mut modes = [0u8; MODES_SIZE];
     let mut rules = [NO_CALL; RULES_SIZE];
-    let r = read_book(book, &mut arities, &mut modes, &mut rules);
-    let f = r.found;
-    if let Found::Bad(v, at) = f {
-        return Reply::refused(number(v), at as u64);
+    let b = read_book(book, &mut arities, &mut modes, &mut rules);
+    if b.reply.number != 0 {
+        return b.reply;
     }
-    let d = settle(r.preds, &arities, &modes, r.clauses, &rules);
-    give(r.preds, r.clauses, &rules, &d.table.needs, out)
+    let d = settle(b.preds, &arities, &modes, b.clauses, &rules);
+    give(b.preds, b.clauses, &rules, &d.table.needs, out)
 }
 
 // The plan of a valid book with its final table: written from the output's start, or 7 where the query has no good order, or 9 where the output is
@@ -58,13 +55,9 @@ fn give<'a>(
     let own = own_clauses(clauses, rules);
     let reached = reach(rules, table, &own, clauses);
     let n = plan_length(preds, rules, &own, &reached);
-    if out.len() < n {
-        return Reply::refused(9, n as u64);
+    let r = Reply::in_room(n, 0, out.len());
+    if r.number == 0 {
+        put_plan(out, query, preds, rules, table, &own, &reached);
     }
-    put_plan(out, query, preds, rules, table, &own, &reached);
-    Reply {
-        number: 0,
-        value: n as u64,
-        rounds: 0,
-    }
+    r
 }

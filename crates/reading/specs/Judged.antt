@@ -4,9 +4,9 @@ use mathlib.Core.List.{List, []}
 use Prim.Native.Nat.{ℕ, _≤_}
 use lib.ListN.{length, take}
 use Rattle.masks.specs.declared.reply.Reply.{Reply}
-use Rattle.book.specs.Limits.{maxPredicates}
+use Rattle.book.specs.Limits.{maxPredicates, maxClauses}
 use Rattle.book.specs.Book.{Book}
-use Rattle.book.specs.Format.{number, turn, Judged, fault, book}
+use Rattle.book.specs.Format.{number, turn, Judged, fault, book, judge}
 use Rattle.book.specs.Held.{modeAt, bookIn}
 use Rattle.book.specs.declared.mark.Mark.the-variants.{Sg}
 use Rattle.book.specs.declared.mark.Phase.{Phase}
@@ -33,11 +33,18 @@ abbrev pub judgement : Found → Book → Judged
 judgement (Next at n) b = book b
 judgement (Bad f at) b = fault f at
 
--- where the arrays are those that were lent
-abbrev pub found : Reading → List ℕ → List ℕ → List ℕ → Judged
-found r arities modes rules = judgement (r .found) (bookIn (r .preds) arities modes (r .clauses) rules)
-
 -- "The check writes nothing and answers a valid book with 0 and the value 0"; a fault with its number and the offset of its record
 abbrev pub checked : Judged → Reply
 checked (fault f at) = record { number = number f; value = at; rounds = 0 }
 checked (book b) = record { number = 0; value = 0; rounds = 0 }
+
+-- what the check answers once reading came to g, whatever the book then is
+abbrev pub AnswerTo : Found → Reply → Type 0
+AnswerTo g r = (b : Book) → r ≡ checked (judgement g b)
+
+-- the bytes s are read into the arrays lent: the reply is the check's, and where it is 0 the arrays hold the book that the bytes are
+pub record BookRead (s : List ℕ) (r : Reading) (arities modes rules : List ℕ) : Type 0 where
+  pub replies : r .reply ≡ checked (judge s)
+  pub holds : r .reply .number ≡ 0 → judge s ≡ book (bookIn (r .preds) arities modes (r .clauses) rules)
+  pub listed : Listed (r .preds) arities
+  pub few : r .clauses ≤ maxClauses

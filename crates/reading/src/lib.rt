@@ -31,11 +31,11 @@ ghost use Rattle.book.specs.Limits.{maxPredicates, maxClauses, maxSubgoals};
 ghost use Rattle.book.specs.Format as format;
 ghost use Rattle.book.specs.Held.{callOf, clauseOf, clausesOf, modesOf, bookIn};
 ghost use Rattle.records.specs.Found.{Reads, Arities, counted};
-ghost use Rattle.reading.specs.Judged.{NoModes, Bodied, Listed, found, checked};
+ghost use Rattle.reading.specs.Judged.{NoModes, Bodied, Listed, checked, AnswerTo, BookRead};
 
-// What reading a book comes to: how many predicates and clauses it has, where none of its records has a fault.
+// What reading a book comes to: what the check answers, and how many predicates and clauses the book has where that is 0.
 pub struct Reading {
-    pub found: Found,
+    pub reply: Reply,
     pub preds: u8,
     pub clauses: u8,
 }
@@ -53,19 +53,10 @@ pub fn check(s: &[u8]) -> Reply
     let mut arities = [0u8; MAX_PREDICATES];
     let mut modes = [0u8; MODES_SIZE];
     let mut rules = [NO_CALL; RULES_SIZE];
-    let r = read_book(s, &mut arities, &mut modes, &mut rules);
-    let g = r.found;
-    match g {
-        Found::Bad(f, at) => Reply::refused(number(f), at as u64),
-        Found::Next(_, _) => Reply {
-            number: 0,
-            value: 0,
-            rounds: 0,
-        },
-    }
+    read_book(s, &mut arities, &mut modes, &mut rules).reply
 }
 
-// The book that the bytes are, or their first fault. The book is then in the arrays lent, whose modes must be none.
+// The book that the bytes are, or the reply with their first fault. The book is then in the arrays lent, whose modes must be none.
 pub fn read_book(
     s: &[u8],
     arities: &mut [u8; MAX_PREDICATES],
@@ -73,22 +64,35 @@ pub fn read_book(
     rules: &mut [u64; RULES_SIZE],
 ) -> Reading
     requires { ⌜ NoModes (now modes) ⌝ }
-    ensures { λ r. ⌜ found r (now (arities .exit)) (now (modes .exit)) (now (rules .exit)) ≡ format.judge (now (s .entry)) ⌝ }
-    ensures { λ r. ⌜ Listed (r .preds) (now (arities .exit)) × (r .clauses ≤ maxClauses) ⌝ }
+    ensures { λ r. ⌜ BookRead (now (s .entry)) r (now (arities .exit)) (now (modes .exit)) (now (rules .exit)) ⌝ }
 {
     let p = read_predicates(s, arities);
     let Found::Next(at, preds) = p else {
         return Reading {
-            found: p,
+            reply: answer(p),
             preds: 0,
             clauses: 0,
         };
     };
     let r = read_rules(s, arities, preds, at, modes, rules);
     Reading {
-        found: r,
+        reply: answer(r),
         preds,
         clauses: count(r),
+    }
+}
+
+// What the check answers: a fault with its number and its place, else 0.
+fn answer(g: Found) -> Reply
+    ensures { λ r. ⌜ AnswerTo g r ⌝ }
+{
+    match g {
+        Found::Bad(f, at) => Reply::refused(number(f), at as u64),
+        Found::Next(_, _) => Reply {
+            number: 0,
+            value: 0,
+            rounds: 0,
+        },
     }
 }
 

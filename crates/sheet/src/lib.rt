@@ -13,7 +13,7 @@ use writing::put::put_bytes;
 ghost use mathlib.Core.Path.{_≡_};
 ghost use Prim.Native.Nat.{_+_, _≤_};
 ghost use lib.ListN.{length};
-ghost use Rattle.masks.specs.Outcome.{Answers, done};
+ghost use Rattle.masks.specs.Outcome.{Answers};
 ghost use Rattle.book.specs.Format.{judge};
 ghost use Rattle.writing.specs.Wrote.{Room, Wrote};
 ghost use Rattle.printing.specs.Sheet.{line, field, judgedSheet, refusalLine, printing};
@@ -37,23 +37,11 @@ pub fn sheet(book: &[u8], out: &mut [u8]) -> Reply
     let n = least(book.len(), BOOK_SIZE);
     let mut text = [0u8; SHEET_SIZE];
     let k = put_sheet(&mut text, &book[..n]);
-    give(&text[..k], out)
-}
-
-// A text as the result of an operation: written from the output's start, or 9 where the output is too short.
-fn give(text: &[u8], out: &mut [u8]) -> Reply
-    ensures { λ r. ⌜ Answers (done 0 (now (text .entry))) (now (out .entry)) r (now (out .exit)) ⌝ }
-{
-    let n = text.len();
-    if out.len() < n {
-        return Reply::refused(9, n as u64);
+    let r = Reply::in_room(k, 0, out.len());
+    if r.number == 0 {
+        put_bytes(out, 0, &text[..k]);
     }
-    put_bytes(out, 0, text);
-    Reply {
-        number: 0,
-        value: n as u64,
-        rounds: 0,
-    }
+    r
 }
 
 // The `C` lines and the `R` line, and what follows them; or the one line of a fault.

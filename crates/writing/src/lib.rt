@@ -44,15 +44,11 @@ pub fn write_book<'a>(
     ensures { λ r. ⌜ Answers (done 0 (encode (bookIn preds (now (arities .entry)) (now (modes .entry)) clauses (now (rules .entry))))) (now (out .entry)) r (now (out .exit)) ⌝ }
 {
     let n = book_length(preds, arities, modes, clauses, rules);
-    if out.len() < n {
-        return Reply::refused(9, n as u64);
+    let r = Reply::in_room(n, 0, out.len());
+    if r.number == 0 {
+        put_book(preds, arities, modes, clauses, rules, out);
     }
-    put_book(preds, arities, modes, clauses, rules, out);
-    Reply {
-        number: 0,
-        value: n as u64,
-        rounds: 0,
-    }
+    r
 }
 
 // "all `PR`, then all `MO`, then clauses, then one `QU`".

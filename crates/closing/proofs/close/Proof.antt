@@ -1,6 +1,6 @@
 -- `closing::close` meets its contract. A fault is the book's; a book that lacks a chosen predicate has its lowest in the word that begins behind its
 -- predicates; else what is written is held as the closed book is. Assumes nothing.
-use mathlib.Core.Path.{_≡_, ap, _∙_}
+use mathlib.Core.Path.{_≡_}
 use mathlib.Core.List.{List}
 use mathlib.Core.Option.{some}
 use Prim.Native.Nat.{ℕ, _+_, _^_, _<_}
@@ -10,14 +10,13 @@ use lib.ListN.{length}
 use borrow.Author.Needs.{needs}
 use Rattle.masks.specs.Outcome.{refused}
 use Rattle.book.specs.Book.{Book}
-use Rattle.book.specs.Format.{book, judge}
+use Rattle.book.specs.Format.{book}
 use Rattle.book.specs.Encode.{WellFormed}
 use Rattle.book.specs.Held.{bookIn}
-use Rattle.closing.specs.Close.{lacked, close, closed}
+use Rattle.closing.specs.Close.{lacked, close, closed, closing}
 use Rattle.masks.proofs.Laws.Outcome.{answers-refused}
 use Rattle.book.proofs.Laws.Held.{modeAt-zeros}
-use Rattle.book.proofs.Laws.Answer.{on-fault, on-book}
-use Rattle.reading.proofs.Laws.Judged.{read-well, read-fault, read-book}
+use Rattle.reading.proofs.Laws.Judged.{read-refused, read-well, read-made}
 use Rattle.needs.proofs.Laws.Settling.{read-known}
 use Rattle.closing.proofs.Laws.Lacked.{lacked-lowest, lacked-none}
 use Rattle.closing.proofs.Laws.Outcome.{closed-lacks, closed-has}
@@ -28,25 +27,10 @@ use Rattle.closing.proofs.close.Tie as tie
 read-book-requires : tie.Need-read-book-requires
 read-book-requires c κs = modeAt-zeros 1408
 
-enum-known-f : tie.Need-enum-known-f
-enum-known-f c = search needs
-
-number-requires : tie.Need-number-requires
-number-requires c κs = search needs
-
-refused-requires : tie.Need-refused-requires
-refused-requires c κs = search needs
-
 returns : tie.Need-returns
 returns c =
-    let s = c .before .before .before .before .before .before .before .before .before .before .before .args in
-    let r = c .before .before .before .before .before .read-book in
-    let v = c .before .before .before .f .given in
-    let f = read-fault (s .book .now) (r .result .found) _ (r .ensures .0) (v .1) in
-    rw (← on-fault (closed (s .set)) (s .book .now) _ _ f) (answers-refused _ _ (s .out .now) (c .refused .ensures ∙ ap (λ (n : ℕ). record { number = n; value = v .0 .1 .0; rounds = 0 }) (c .before .number .ensures)))
-
-enum-told : tie.Need-enum-told
-enum-told c = search needs
+    let s = c .before .before .before .before .before .before .before .before .before .args in
+    read-refused (c .before .before .before .read-book .ensures) (closed (s .set)) (s .out .now) (c .before .if1 .taken)
 
 chosen-from-requires : tie.Need-chosen-from-requires
 chosen-from-requires c κs = search needs
@@ -68,15 +52,15 @@ module _ (k : tie.After-chosen-from) where
   abbrev B : Book
   B = bookIn (k .before .before .before .read-book .result .preds) arities modes (k .before .before .before .read-book .result .clauses) rules
 
-  told : book B ≡ judge (k .before .before .before .before .before .before .before .before .before .args .book .now)
-  told = read-book (k .before .before .before .before .before .before .before .before .before .args .book .now) (k .before .before .before .read-book .result .found) B (k .before .before .before .read-book .ensures .0) (k .before .enum-told .given .1)
-
   well : WellFormed B
-  well = read-well (k .before .before .before .before .before .before .before .before .before .args .book .now) B told
+  well = read-well (k .before .before .before .read-book .ensures) (k .before .if1 .left)
+
+  made : closed (k .before .before .before .before .before .before .before .before .before .args .set) B ≡ closing (k .before .before .before .before .before .before .before .before .before .args .set) (k .before .before .before .before .before .before .before .before .before .args .book .now)
+  made = read-made (k .before .before .before .read-book .ensures) (k .before .if1 .left) (closed (k .before .before .before .before .before .before .before .before .before .args .set))
 
   size : length (B .arities) ≡ k .before .before .before .read-book .result .preds
   unfolding bookIn
-  size = k .before .before .before .read-book .ensures .1 .0 .each
+  size = k .before .before .before .read-book .ensures .listed .each
 
   -- a set is a word
   small : k .before .before .before .before .before .before .before .before .before .args .set < 2 ^ 64
@@ -95,8 +79,8 @@ cast-refused-2 c = record { fits = count-small _ }
 add-refused : tie.Need-add-refused
 add-refused c = record { fits = sum-small _ _ (search needs) }
 
-refused-requires-2 : tie.Need-refused-requires-2
-refused-requires-2 c κs = search needs
+refused-requires : tie.Need-refused-requires
+refused-requires c κs = search needs
 
 returns-2 : tie.Need-returns-2
 returns-2 c =
@@ -105,12 +89,12 @@ returns-2 c =
     let r = k .before .before .before .read-book in
     let beyond = k .chosen-from .result in
     let h : lacked (s .set) (length (B k .arities)) ≡ some (r .result .preds + trailingZeros 64 beyond) =
-    rw (size k) (lacked-lowest (s .set) (r .result .preds) beyond (small k) (k .chosen-from .ensures) (search needs) (c .before .before .if1 .taken)) in
-    rw (← on-book (closed (s .set)) (s .book .now) (B k) (told k), closed-lacks (s .set) (B k) _ h)
-    (answers-refused 8 _ (s .out .now) (c .refused2 .ensures))
+    rw (size k) (lacked-lowest (s .set) (r .result .preds) beyond (small k) (k .chosen-from .ensures) (search needs) (c .before .before .if2 .taken)) in
+    rw (← made k, closed-lacks (s .set) (B k) _ h)
+    (answers-refused 8 _ (s .out .now) (c .refused .ensures))
 
 settle-requires : tie.Need-settle-requires
-settle-requires c κs = let k = c .before .before .before .before in let r = k .before .before .before .read-book in (r .ensures .1 .0 .each, r .ensures .1 .1, well k)
+settle-requires c κs = let k = c .before .before .before .before in let r = k .before .before .before .read-book in (r .ensures .listed .each, r .ensures .few, well k)
 
 close-modes-requires : tie.Need-close-modes-requires
 close-modes-requires c κs = search needs
@@ -119,7 +103,7 @@ keep-clauses-requires : tie.Need-keep-clauses-requires
 keep-clauses-requires c κs =
     let k = c .before .before .before .before .before .before .before .before .before .before in
     let r = k .before .before .before .read-book in
-    (r .ensures .1 .1, read-known (r .result .preds) (arities k) (modes k) (r .result .clauses) (rules k) (r .ensures .1 .0 .each) (r .ensures .1 .1) (well k))
+    (r .ensures .few, read-known (r .result .preds) (arities k) (modes k) (r .result .clauses) (rules k) (r .ensures .listed .each) (r .ensures .few) (well k))
 
 write-book-requires : tie.Need-write-book-requires
 write-book-requires c κs = search needs
@@ -134,27 +118,23 @@ returns-3 c =
     let k = settled .before .before .before .before .before in
     let s = k .before .before .before .before .before .before .before .before .before .args in
     let r = k .before .before .before .read-book in
-    let h = lacked-none (s .set) (r .result .preds) (k .chosen-from .result) (small k) (k .chosen-from .ensures) (settled .before .before .before .before .if1 .left) in
-    let e = close-held (r .result .preds) (arities k) (modes k) (r .result .clauses) (rules k) (r .ensures .1 .0 .each) (r .ensures .1 .1) (well k) (s .set)
+    let h = lacked-none (s .set) (r .result .preds) (k .chosen-from .result) (small k) (k .chosen-from .ensures) (settled .before .before .before .before .if2 .left) in
+    let e = close-held (r .result .preds) (arities k) (modes k) (r .result .clauses) (rules k) (r .ensures .listed .each) (r .ensures .few) (well k) (s .set)
     (settled .settle .result .table .needs) _ _ (kept .keep-clauses .result) (small k) h
     (settled .settle .ensures .0) (kept .before .before .close-modes .ensures) (kept .keep-clauses .ensures) in
-    rw (← on-book (closed (s .set)) (s .book .now) (B k) (told k), closed-has (s .set) (B k) (rw (size k) h), ← e) (c .before .before .write-book .ensures)
+    rw (← made k, closed-has (s .set) (B k) (rw (size k) h), ← e) (c .before .before .write-book .ensures)
 
 pub close-spec : {M : Type 1} → statement M
 close-spec =
     tie.close
     (tie.spec
     read-book-requires
-    enum-known-f
-    number-requires
-    refused-requires
     returns
-    enum-told
     chosen-from-requires
     cast-refused
     cast-refused-2
     add-refused
-    refused-requires-2
+    refused-requires
     returns-2
     settle-requires
     close-modes-requires

@@ -9,8 +9,8 @@ use native.Mathlib.Omega.{arith}
 use lib.Dec.{ltb}
 use lib.ListN.{length, take, drop, length-append, length-drop}
 use lib.Seq.{take-at, drop-at, length-take-le, sets, sets-eq}
-use borrow.Author.Tests.{lt-ltb, le-ltb, ltb-false}
-use Rattle.masks.specs.Outcome.{Outcome, refused, done, reply, left, Answers}
+use borrow.Author.Tests.{lt-ltb, le-ltb, ltb-true, ltb-false}
+use Rattle.masks.specs.Outcome.{Outcome, refused, done, inRoom, reply, left, Answers}
 use Rattle.masks.specs.declared.reply.Reply.{Reply}
 use Rattle.masks.proofs.Laws.Logic.{byBool, clash}
 
@@ -18,26 +18,46 @@ use Rattle.masks.proofs.Laws.Logic.{byBool, clash}
 
 pub answers-refused : (number value : ℕ) (out : List ℕ) {r : Reply} → r ≡ record { number = number; value = value; rounds = 0 }
     → Answers (refused number value) out r out
-unfolding reply left
+unfolding reply inRoom left
 answers-refused number value out e = record { replies = e; leaves = refl }
 
-module _ (rounds : ℕ) (bytes out : List ℕ) (n : ℕ) (size : n ≡ length bytes) {r : Reply} where
-  pub answers-short : length out < n → r ≡ record { number = 9; value = n; rounds = 0 } → Answers (done rounds bytes) out r out
-  unfolding reply left
-  answers-short h e =
-      let t = lt-ltb (length out) (length bytes) (omega arith) in
-      record { replies = e ∙ rw (t, size); leaves = rw t }
+-- the reply of a result of n bytes, in a room of so many
+module _ (n rounds room : ℕ) {r : Reply} (e : r ≡ inRoom n rounds room) where
+  -- 9: it has more
+  short : (r .number ≡ 0 → ⊥) → (room < n) × (r ≡ record { number = 9; value = n; rounds = 0 })
+  unfolding inRoom
+  short f =
+      byBool (ltb room n) (λ t. (ltb-true room n t, e ∙ rw t)) (λ t. absurd (f (ap (λ (x : Reply). x .number) e ∙ rw t)))
 
-  pub answers-done : {after : List ℕ} → n ≤ length out → r ≡ record { number = 0; value = n; rounds = rounds } → after ≡ sets out 0 bytes
-      → Answers (done rounds bytes) out r after
-  unfolding reply left
-  answers-done h e f =
-      let t = le-ltb (length out) (length bytes) (omega arith) in
-      let z : 0 + length bytes ≡ length bytes = omega arith in
-      record {
-        replies = e ∙ rw (t, size);
-        leaves = rw t (f ∙ sets-eq bytes out 0 (omega arith) ∙ ap (λ (k : ℕ). bytes ++ drop k out) z);
-      }
+  -- 0: it has not
+  enough : r .number ≡ 0 → (n ≤ room) × (r ≡ record { number = 0; value = n; rounds = rounds })
+  unfolding inRoom
+  enough z =
+      byBool (ltb room n) (λ t. let f : _≡_ {A = ℕ} 9 0 = sym (ap (λ (x : Reply). x .number) e ∙ rw t) ∙ z in absurd (omega arith))
+      (λ t. (ltb-false room n t, e ∙ rw t))
+
+  pub room-enough : r .number ≡ 0 → n ≤ room
+  room-enough z = enough z .0
+
+  -- where that room is the one lent, nothing is stored, or the bytes are
+  module _ (bytes : List ℕ) (size : n ≡ length bytes) {out : List ℕ} where
+    pub answers-short : length out ≤ room → (r .number ≡ 0 → ⊥) → Answers (done rounds bytes) out r out
+    unfolding reply inRoom left
+    answers-short l f =
+        let h = short f in
+        let t = lt-ltb (length out) (length bytes) (omega arith) in
+        record { replies = h .1 ∙ rw (t, size); leaves = rw t }
+
+    pub answers-done : {after : List ℕ} → room ≤ length out → r .number ≡ 0 → after ≡ sets out 0 bytes → Answers (done rounds bytes) out r after
+    unfolding reply inRoom left
+    answers-done l z w =
+        let h = enough z in
+        let t = le-ltb (length out) (length bytes) (omega arith) in
+        let k : 0 + length bytes ≡ length bytes = omega arith in
+        record {
+          replies = h .1 ∙ rw (t, size);
+          leaves = rw t (w ∙ sets-eq bytes out 0 (omega arith) ∙ ap (λ (i : ℕ). bytes ++ drop i out) k);
+        }
 
 -- ---- what holds of every answer
 
@@ -51,7 +71,7 @@ data Case (o : Outcome) (out : List ℕ) : Type 0 where
       → reply o (length out) .value ≡ length bytes → Case o out
 
 case : (o : Outcome) (out : List ℕ) → Case o out
-unfolding reply left
+unfolding reply inRoom left
 case (refused number value) out = nothing refl
 case (done rounds bytes) out =
     byBool (ltb (length out) (length bytes)) (λ t. nothing (rw t))
@@ -92,12 +112,12 @@ module _ {o : Outcome} {out : List ℕ} {r : Reply} {after : List ℕ} (a : Answ
 
 -- the number of a refusal, and the bytes that a success wrote, are those of the outcome
 pub answers-number : {number value : ℕ} {out : List ℕ} {r : Reply} {after : List ℕ} → Answers (refused number value) out r after → r .number ≡ number
-unfolding reply
+unfolding reply inRoom
 answers-number a = ap (λ (x : Reply). x .number) (a .replies)
 
 pub answers-bytes : {rounds : ℕ} {bytes out : List ℕ} {r : Reply} {after : List ℕ} → Answers (done rounds bytes) out r after → r .number ≡ 0
     → take (r .value) after ≡ bytes
-unfolding reply left
+unfolding reply inRoom left
 answers-bytes {rounds} {bytes} {out} {r} {after} a z =
     byBool (ltb (length out) (length bytes))
     (λ t. let n : 9 ≡ 0 = sym (ap (λ (x : Reply). x .number) (a .replies) ∙ rw t) ∙ z in absurd (omega arith))
@@ -107,14 +127,14 @@ answers-bytes {rounds} {bytes} {out} {r} {after} a z =
 
 pub answers-zero : {rounds : ℕ} {bytes out : List ℕ} {r : Reply} {after : List ℕ} → Answers (done rounds bytes) out r after → length bytes ≤ length out
     → r .number ≡ 0
-unfolding reply
+unfolding reply inRoom
 answers-zero {rounds} {bytes} {out} {r} {after} a h =
     let t = le-ltb (length out) (length bytes) h in ap (λ (x : Reply). x .number) (a .replies) ∙ rw t
 
 -- a result is answered by 0 or 9
 pub answers-number-done : {rounds : ℕ} {bytes out : List ℕ} {r : Reply} {after : List ℕ} → Answers (done rounds bytes) out r after
     → (r .number ≡ 0) ⊎ (r .number ≡ 9)
-unfolding reply
+unfolding reply inRoom
 answers-number-done {rounds} {bytes} {out} {r} {after} a =
     byBool (ltb (length out) (length bytes)) (λ t. inr (ap (λ (x : Reply). x .number) (a .replies) ∙ rw t))
     (λ t. inl (ap (λ (x : Reply). x .number) (a .replies) ∙ rw t))
@@ -136,12 +156,12 @@ pub record Told (m n : ℕ) (o : Outcome) (r : Reply) (after : List ℕ) : Type 
 
 module _ (m n : ℕ) {out : List ℕ} {r : Reply} {after : List ℕ} where
   pub refusal-told : (o : Outcome) → Sized m n o → Answers o out r after → length out ≡ n → (r .number ≡ 0 → ⊥) → o ≡ refused (r .number) (r .value)
-  unfolding reply
+  unfolding reply inRoom
   refusal-told (refused number value) f a size h = sym (ap (λ (x : Reply). refused (x .number) (x .value)) (a .replies))
   refusal-told (done rounds bytes) f a size h = absurd (h (answers-zero a (rw size (f .1))))
 
   pub result-told : (o : Outcome) → Sized m n o → Answers o out r after → length out ≡ n → r .number ≡ 0 → Told m n o r after
-  unfolding reply
+  unfolding reply inRoom
   result-told (refused number value) f a size h = absurd (f (sym (answers-number a) ∙ h))
   result-told (done rounds bytes) f a size h =
       let t = le-ltb (length out) (length bytes) (rw size (f .1)) in

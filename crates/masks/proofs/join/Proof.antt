@@ -1,11 +1,16 @@
 -- `masks::join` meets its contract. A fault makes the outcome a refusal; without one both lists are of masks, and the outcome is what they
--- combine to. Assumes nothing.
+-- combine to, which is written where there is room. Assumes nothing.
 use mathlib.Core.Path.{_≡_, sym, ap, _∙_}
+use mathlib.Core.List.{List}
+use Prim.Native.Nat.{ℕ}
+use native.Mathlib.Omega.{arith}
+use lib.ListN.{length}
+use lib.Seq.{sets}
 use borrow.Author.Needs.{needs}
-use Rattle.masks.specs.Joining.{combined}
 use Rattle.masks.specs.Held.{masksOf}
+use Rattle.masks.specs.Joining.{combined}
 use Rattle.masks.proofs.Laws.Joining.{joining-fault, joining-done, fault-free}
-use Rattle.masks.proofs.Laws.Outcome.{answers-refused}
+use Rattle.masks.proofs.Laws.Outcome.{answers-refused, room-enough, answers-short, answers-done}
 use Rattle.masks.proofs.Laws.Held.{masksOf-packed}
 use Rattle.masks.proofs.join.Statement.{statement}
 use Rattle.masks.proofs.join.Tie as tie
@@ -28,23 +33,47 @@ combine-requires c κs =
     let s = c .before .before .before .before .before .args in
     fault-free (s .arity) (s .first .now) (s .second .now) (sym (c .before .first-fault .ensures) ∙ c .if1 .left)
 
-give-requires : tie.Need-give-requires
-give-requires c κs = search needs
+count-requires : tie.Need-count-requires
+count-requires c κs = search needs
+
+in-room-requires : tie.Need-in-room-requires
+in-room-requires c κs = search needs
+
+-- what was combined is the result
+module _ (k : tie.After-count) where
+  abbrev bytes : List ℕ
+  bytes = let s = k .before .before .before .before .before .before .before .args in combined (s .way) (s .first .now) (s .second .now)
+
+  is : masksOf (k .before .combine .result) ≡ bytes
+  is = ap masksOf (k .before .combine .ensures) ∙ masksOf-packed bytes
+
+  size : k .count .result ≡ length bytes
+  size = k .count .ensures ∙ ap length is
+
+put-masks-requires : tie.Need-put-masks-requires
+put-masks-requires c κs =
+    let k = c .before .before .before .before in
+    let n : k .count .result ≡ length (masksOf (k .before .combine .result)) = k .count .ensures in
+    let h = room-enough _ _ _ (c .before .before .before .in-room .ensures) (omega arith) in
+    omega arith
 
 same-length : tie.Need-same-length
 same-length c = search needs
 
 returns-2 : tie.Need-returns-2
 returns-2 c =
-    let first-fault = c .before .before .before .before .before .before .first-fault in
-    let if1 = c .before .before .before .before .before .if1 in
-    let combine = c .before .before .before .before .combine in
-    let give = c .before .before .give in
-    let s = c .before .before .before .before .before .before .before .before .before .before .args in
-    let o = joining-done (s .arity) (s .first .now) (s .second .now) (s .way) (sym (first-fault .ensures) ∙ if1 .left) in
-    let t = combined (s .way) (s .first .now) (s .second .now) in
-    let m : masksOf (combine .result) ≡ t = ap masksOf (combine .ensures) ∙ masksOf-packed t in
-    rw (o, ← m) (give .ensures)
+    let k = c .before .before .before .before .before .before .before in
+    let s = k .before .before .before .before .before .before .before .args in
+    rw (joining-done (s .arity) (s .first .now) (s .second .now) (s .way) (sym (k .before .before .before .first-fault .ensures) ∙ k .before .before .if1 .left))
+    (answers-done _ _ _ (c .before .before .before .before .before .before .in-room .ensures) _ (size k) (omega arith) (c .before .before .before .before .if2 .taken)
+    (c .before .before .put-masks .ensures ∙ ap (sets (s .out .now) 0) (is k)))
+
+returns-3 : tie.Need-returns-3
+returns-3 c =
+    let k = c .before .before .before in
+    let s = k .before .before .before .before .before .before .before .args in
+    rw (joining-done (s .arity) (s .first .now) (s .second .now) (s .way) (sym (k .before .before .before .first-fault .ensures) ∙ k .before .before .if1 .left))
+    (answers-short _ _ _ (c .before .before .in-room .ensures) _ (size k) (omega arith) (c .if2 .left))
 
 pub join-spec : {M : Type 1} → statement M
 join-spec =
@@ -54,6 +83,9 @@ join-spec =
     refused-requires
     returns
     combine-requires
-    give-requires
+    count-requires
+    in-room-requires
+    put-masks-requires
     same-length
-    returns-2)
+    returns-2
+    returns-3)

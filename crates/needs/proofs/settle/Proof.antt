@@ -60,10 +60,9 @@ callers-requires c κs = (c .before .pre .1, known (c .before))
 
 first-table-requires : tie.Need-first-table-requires Inv-loop μ-loop
 first-table-requires c κs =
-    let s = c .before .before in (
-      read-few (s .args .preds) (arities s) (modes s) (s .args .clauses) (rules s) (s .pre .0) (s .pre .1) (s .pre .2),
-      read-modes (s .args .preds) (arities s) (modes s) (s .args .clauses) (rules s) (s .pre .0) (s .pre .1) (s .pre .2),
-    )
+    let s = c .before .before in
+    let few = read-few (s .args .preds) (arities s) (modes s) (s .args .clauses) (rules s) (s .pre .0) (s .pre .1) (s .pre .2) in
+    (omega arith, read-modes (s .args .preds) (arities s) (modes s) (s .args .clauses) (rules s) (s .pre .0) (s .pre .1) (s .pre .2))
 
 heads-requires : tie.Need-heads-requires Inv-loop μ-loop
 heads-requires c κs = (c .before .before .before .pre .1, known (c .before .before .before))

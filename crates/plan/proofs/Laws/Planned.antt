@@ -9,18 +9,20 @@ use Prim.Native.Nat.{ℕ, _+_, _*_, _≤_, _<_, min}
 use native.Mathlib.Omega.{arith}
 use lib.Count.{ones}
 use lib.Dec.{eqb, ltb}
-use lib.ListN.{length, getD, take, length-append, List·getD-eq-default}
+use lib.ListN.{length, getD, length-append, List·getD-eq-default}
 use lib.Seq.{sets}
 use borrow.Author.Tests.{eqb-true, leb-true, ltb-true, lt-ltb, le-ltb}
 use Rattle.masks.specs.Limits.{allPatterns}
 use Rattle.masks.specs.Lists.{joined}
-use Rattle.masks.specs.Outcome.{Answers, refused}
+use Rattle.masks.specs.Outcome.{Answers, refused, inRoom}
 use Rattle.masks.specs.Set.{bitAt}
 use Rattle.masks.specs.declared.reply.Reply.{Reply}
 use Rattle.book.specs.Limits.{maxPredicates, maxClauses}
 use Rattle.book.specs.Book.{Call, Clause, Book}
-use Rattle.book.specs.Encode.{WellFormed, run}
+use Rattle.book.specs.Encode.{run}
 use Rattle.book.specs.Held.{clauseAt, clausesOf, bookIn}
+use Rattle.reading.specs.Judged.{BookRead}
+use Rattle.reading.specs.declared.Reading.{Reading}
 use Rattle.ordering.specs.Adorn.{Table, Bound, nothing, headBound}
 use Rattle.ordering.specs.Good.{firstGood, isSome}
 use Rattle.ordering.specs.Held.{tableIn, callsBelow, orNone, orderOf, placesOf}
@@ -37,6 +39,7 @@ use Rattle.masks.proofs.Laws.Logic.{byBool, byRange, same, false-of, clash, and
 use Rattle.masks.proofs.Laws.Lists.{joined-cong, joined-cut}
 use Rattle.masks.proofs.Laws.Set.{bitAt-zero}
 use Rattle.masks.proofs.Laws.Outcome.{answers-short, answers-done}
+use Rattle.reading.proofs.Laws.Judged.{read-well}
 use Rattle.book.proofs.Laws.Encode.{run-joined}
 use Rattle.ordering.proofs.Laws.Held.{callsBelow-mono, first-cut}
 use Rattle.tables.proofs.Laws.Sums.{howMany, sum-cong, length-joined, howMany-each, ones-below}
@@ -287,19 +290,21 @@ module _ (B : Book) (preds clauses : ℕ) (rules table : List ℕ) (l : Lent B p
       given-room out h = let z = given-size in let b = ap length given-bytes in omega arith
 
       -- 9, or the plan with its length
-      pub given-short : (out : List ℕ) {r : Reply} → length out < n → r ≡ record { number = 9; value = n; rounds = 0 } → Answers (planned B) out r out
-      given-short out h g = rw (planned-good B given-some) (answers-short 0 (image B) out n given-size h g)
+      module _ (room : ℕ) {r : Reply} (g : r ≡ inRoom n 0 room) {out : List ℕ} where
+        pub given-short : length out ≤ room → (r .number ≡ 0 → ⊥) → Answers (planned B) out r out
+        given-short h z = rw (planned-good B given-some) (answers-short n 0 room g (image B) given-size h z)
 
-      pub given-done : (out : List ℕ) {after : List ℕ} {next : ℕ} {r : Reply} → n ≤ length out → r ≡ record { number = 0; value = n; rounds = 0 }
-          → Wrote out after 0 next (planBytes (placesOf q) preds rules table own words) → Answers (planned B) out r after
-      given-done out h g w = rw (planned-good B given-some) (answers-done 0 (image B) out n given-size h g (w .is ∙ ap (sets out 0) given-bytes))
+        pub given-done : {after : List ℕ} {next : ℕ} → room ≤ length out → r .number ≡ 0
+            → Wrote out after 0 next (planBytes (placesOf q) preds rules table own words) → Answers (planned B) out r after
+        given-done h z w = rw (planned-good B given-some) (answers-done n 0 room g (image B) given-size h z (w .is ∙ ap (sets out 0) given-bytes))
 
 -- ---- a book that was read
 
-pub lent-read : (preds : ℕ) (arities modes : List ℕ) (clauses : ℕ) (rules table : List ℕ) → length (take preds arities) ≡ preds → clauses ≤ maxClauses
-    → WellFormed (bookIn preds arities modes clauses rules) → tableIn table preds ≡ final (bookIn preds arities modes clauses rules)
-    → Lent (bookIn preds arities modes clauses rules) preds clauses rules table
+pub lent-read : {s : List ℕ} {r : Reading} {arities modes rules : List ℕ} (b : BookRead s r arities modes rules) (table : List ℕ) → r .reply .number ≡ 0
+    → tableIn table (r .preds) ≡ final (bookIn (r .preds) arities modes (r .clauses) rules)
+    → Lent (bookIn (r .preds) arities modes (r .clauses) rules) (r .preds) (r .clauses) rules table
 unfolding bookIn
-lent-read preds arities modes clauses rules table as-many few w t =
-    let e : min clauses maxClauses ≡ clauses = omega arith in
-    record { well = w; preds· = as-many; few = few; clauses· = ap (clausesOf rules) e; query· = refl; table· = t }
+lent-read {s} {r} {arities} {modes} {rules} b table z t =
+    let few = b .few in
+    let e : min (r .clauses) maxClauses ≡ r .clauses = omega arith in
+    record { well = read-well b z; preds· = b .listed .each; few = few; clauses· = ap (clausesOf rules) e; query· = refl; table· = t }

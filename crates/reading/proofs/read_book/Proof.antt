@@ -1,6 +1,7 @@
 -- `reading::read_book` meets its contract. The predicates have a fault, which is the book's, or what follows them decides. Assumes nothing.
 use native.Mathlib.Omega.{arith}
 use borrow.Author.Needs.{needs}
+use Rattle.reading.proofs.Laws.Judged.{book-read}
 use Rattle.reading.proofs.Laws.Whole.{whole-bad, whole-arities, whole-next}
 use Rattle.reading.proofs.Laws.Runs.{listed-none, listed-next}
 use Rattle.records.proofs.Laws.Reads.{next-inside}
@@ -16,10 +17,14 @@ enum-known-p c = search needs
 enum-told : tie.Need-enum-told
 enum-told c = search needs
 
+answer-requires : tie.Need-answer-requires
+answer-requires c κs = search needs
+
 returns : tie.Need-returns
 returns c =
-    let read-predicates = c .before .before .read-predicates in
-    (rw (c .enum-told .given .1) (whole-bad _ (read-predicates .ensures .0) (c .enum-told .given .1)), (listed-none, omega arith))
+    let read-predicates = c .before .before .before .read-predicates in
+    let e = c .before .enum-told .given .1 in
+    book-read _ (read-predicates .result) (c .answer .ensures) (rw e (whole-bad _ (read-predicates .ensures .0) e)) listed-none (omega arith)
 
 read-rules-requires : tie.Need-read-rules-requires
 read-rules-requires c κs =
@@ -27,16 +32,21 @@ read-rules-requires c κs =
     let p = c .before .before .before .before .p in
     (next-inside (read-predicates .ensures .0) (p .given .1), listed-next (p .given .1) (read-predicates .ensures .1) .few, whole-arities _ (read-predicates .ensures .0) (p .given .1), c .before .before .before .before .before .before .before .before .before .pre)
 
+answer-requires-2 : tie.Need-answer-requires-2
+answer-requires-2 c κs = search needs
+
 count-requires : tie.Need-count-requires
 count-requires c κs = search needs
 
 returns-2 : tie.Need-returns-2
 returns-2 c =
-    let read-predicates = c .before .before .before .before .before .before .before .before .read-predicates in
-    let p = c .before .before .before .before .before .before .p in
-    let k = c .before .read-rules .ensures .1 in
+    let read-predicates = c .before .before .before .before .before .before .before .before .before .read-predicates in
+    let p = c .before .before .before .before .before .before .before .p in
+    let rules = c .before .before .read-rules in
+    let few = rules .ensures .1 in
     let e = c .count .ensures in
-    (rw e (whole-next _ (read-predicates .ensures .0) (p .given .1) (c .before .read-rules .ensures .0)), (listed-next (p .given .1) (read-predicates .ensures .1), omega arith))
+    book-read _ (rules .result) (c .before .answer2 .ensures) (rw e (whole-next _ (read-predicates .ensures .0) (p .given .1) (rules .ensures .0)))
+    (listed-next (p .given .1) (read-predicates .ensures .1)) (omega arith)
 
 pub read-book-spec : {M : Type 1} → statement M
 read-book-spec =
@@ -45,7 +55,9 @@ read-book-spec =
     read-predicates-requires
     enum-known-p
     enum-told
+    answer-requires
     returns
     read-rules-requires
+    answer-requires-2
     count-requires
     returns-2)
