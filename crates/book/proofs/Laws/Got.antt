@@ -8,14 +8,21 @@ use native.Mathlib.Omega.{arith}
 use lib.ListN.{length}
 use Rattle.masks.specs.Lists.{all}
 use Rattle.masks.proofs.Laws.Logic.{and-intro, and-left, and-right}
-use Rattle.book.specs.Format.{Got, bad, got, andThen, byte, bytes, inRecord, onTurn, many, turn, markAt, allows}
+use Rattle.book.specs.Format.{Got, bad, got, andThen, byte, bytes, inRecord, onTurn, many, turn, markAt, allows, subgoal}
 use Rattle.book.specs.Encode.{run}
 use Rattle.book.specs.declared.fault.Fault.{Fault}
-use Rattle.book.specs.declared.fault.Fault.the-variants.{OutOfRange}
+use Rattle.book.specs.declared.fault.Fault.the-variants.{OutOfTurn, OutOfRange}
 use Rattle.book.specs.declared.mark.Phase.{Phase}
+use Rattle.book.specs.declared.mark.Phase.the-variants.{Query}
 use Rattle.book.specs.declared.mark.Turn.{Turn}
 use Rattle.book.specs.declared.mark.Turn.the-variants.{Mine, Over, No}
 use Rattle.book.specs.declared.range.Range.{Range}
+
+-- ---- computed: "in turn (3), not one too many (5)": PR behind a full query is out of turn
+
+pub turn-before-room : many Query (subgoal []) 0 [] (80 ∷ 82 ∷ []) ≡ bad OutOfTurn 2
+unfolding many markAt
+turn-before-room = refl
 
 -- ---- what was read in two steps
 

@@ -25,6 +25,18 @@ use Rattle.book.specs.declared.range.Range.the-variants.{Below, AtMost, 
 use Rattle.book.proofs.Laws.Marks.{mine-leads, mine-starts, clauses-over-starts, query-over-ends, clause-ends, clauses-end}
 use Rattle.book.proofs.Laws.Got.{then-inv, then-got, record-inv, record-got, test-inv, untest-inv, carry, byte-inv, byte-got, bytes-got, bytes-inv, Each, Follows, each-all, all-each, many-got, many-inv}
 
+-- ---- computed: "all PR, then all MO, then clauses, then one QU", of a book with one of each
+
+pub in-turn : encode
+    (record {
+      arities = 0 ∷ [];
+      modes = record { pred = 0; masks = [] } ∷ [];
+      clauses = record { head = record { pred = 0; args = [] }; body = [] } ∷ [];
+      query = [];
+    }) ≡ 80 ∷ 82 ∷ 0 ∷ 77 ∷ 79 ∷ 0 ∷ 0 ∷ 67 ∷ 76 ∷ 0 ∷ 81 ∷ 85 ∷ []
+unfolding encode
+in-turn = refl
+
 -- ---- a call
 
 module _ (r : Range) (ar : List ℕ) (c : Call) where
