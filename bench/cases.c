@@ -12,7 +12,7 @@
 #define MASKS 32
 #define FIELDS 7
 
-// Of a book that the sheet judges: one byte more than the longest has.
+// As many bytes of a book does the sheet judge: one more than the longest has.
 #define SHEET_BOOK 6963
 
 enum operation { ANALYSE, PLAN, CLOSE, SHEET, OPERATIONS };

@@ -24,7 +24,7 @@ use Rattle.book.specs.declared.mark.Mark.the-variants.{Pr, Mo, Cl, Sg, Qu}
 use Rattle.reading.specs.Judged.{checked}
 use Rattle.ordering.specs.Adorn.{Table, Bound, nothing, headBound}
 use Rattle.ordering.specs.Orders.{In, Rearranges, LexLt, Least, Sorted}
-use Rattle.ordering.specs.Good.{goodFrom, goodClause}
+use Rattle.ordering.specs.Good.{goodFrom}
 use Rattle.tables.specs.Table.{entry, modeOf, firstNeed, defined, table, rounds, final}
 use Rattle.tables.specs.Image as analysed
 use Rattle.choices.specs.Choice.{clause, IsChoice, Reaches, WellModed, Orderable}
