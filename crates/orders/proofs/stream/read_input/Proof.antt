@@ -1,10 +1,10 @@
 -- `orders::stream::read_input` meets its contract. The bytes read stand within the room; the calls that are left fall. Assumes nothing.
-use borrow.Author.Needs.{needs}
-use lib.Seq.{length-take-le}
-use native.Mathlib.Omega.{arith}
-use Prim.Native.Nat.{_≤_}
 use mathlib.Core.Path.{_≡_, sym}
+use Prim.Native.Nat.{_≤_}
+use native.Mathlib.Omega.{arith}
+use lib.Seq.{length-take-le}
 use lib.ListN.{length}
+use borrow.Author.Needs.{needs}
 use Rattle.orders.proofs.stream.read_input.Statement.{statement}
 use Rattle.orders.proofs.stream.read_input.Tie as tie
 

@@ -1,7 +1,7 @@
 -- `orders::stream::write_output` is safe and ends. What is written lies within the text; the calls that are left fall. Assumes nothing.
-use borrow.Author.Needs.{needs}
 use Prim.Native.Nat.{_≤_}
 use lib.ListN.{length}
+use borrow.Author.Needs.{needs}
 use Rattle.orders.proofs.stream.write_output.Statement.{statement}
 use Rattle.orders.proofs.stream.write_output.Tie as tie
 
