@@ -29,15 +29,13 @@ module _ (n rounds room : ℕ) {r : Reply} (e : r ≡ inRoom n rounds room) wher
   short f =
       byBool (ltb room n) (λ t. (ltb-true room n t, e ∙ rw t)) (λ t. absurd (f (ap (λ (x : Reply). x .number) e ∙ rw t)))
 
-  -- 0: it has not
-  enough : r .number ≡ 0 → (n ≤ room) × (r ≡ record { number = 0; value = n; rounds = rounds })
+  -- else it is 0
+  enough : (r .number ≡ 9 → ⊥) → (n ≤ room) × (r ≡ record { number = 0; value = n; rounds = rounds })
   unfolding inRoom
-  enough z =
-      byBool (ltb room n) (λ t. let f : _≡_ {A = ℕ} 9 0 = sym (ap (λ (x : Reply). x .number) e ∙ rw t) ∙ z in absurd (omega arith))
-      (λ t. (ltb-false room n t, e ∙ rw t))
+  enough f = byBool (ltb room n) (λ t. absurd (f (ap (λ (x : Reply). x .number) e ∙ rw t))) (λ t. (ltb-false room n t, e ∙ rw t))
 
-  pub room-enough : r .number ≡ 0 → n ≤ room
-  room-enough z = enough z .0
+  pub room-enough : (r .number ≡ 9 → ⊥) → n ≤ room
+  room-enough f = enough f .0
 
   -- where that room is the one lent, nothing is stored, or the bytes are
   module _ (bytes : List ℕ) (size : n ≡ length bytes) {out : List ℕ} where
@@ -48,10 +46,10 @@ module _ (n rounds room : ℕ) {r : Reply} (e : r ≡ inRoom n rounds room) wher
         let t = lt-ltb (length out) (length bytes) (omega arith) in
         record { replies = h .1 ∙ rw (t, size); leaves = rw t }
 
-    pub answers-done : {after : List ℕ} → room ≤ length out → r .number ≡ 0 → after ≡ sets out 0 bytes → Answers (done rounds bytes) out r after
+    pub answers-done : {after : List ℕ} → room ≤ length out → (r .number ≡ 9 → ⊥) → after ≡ sets out 0 bytes → Answers (done rounds bytes) out r after
     unfolding reply inRoom left
-    answers-done l z w =
-        let h = enough z in
+    answers-done l f w =
+        let h = enough f in
         let t = le-ltb (length out) (length bytes) (omega arith) in
         let k : 0 + length bytes ≡ length bytes = omega arith in
         record {

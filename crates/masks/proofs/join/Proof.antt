@@ -54,7 +54,7 @@ put-masks-requires : tie.Need-put-masks-requires
 put-masks-requires c κs =
     let k = c .before .before .before .before in
     let n : k .count .result ≡ length (masksOf (k .before .combine .result)) = k .count .ensures in
-    let h = room-enough _ _ _ (c .before .before .before .in-room .ensures) (omega arith) in
+    let h = room-enough _ _ _ (c .before .before .before .in-room .ensures) (λ z. omega arith) in
     omega arith
 
 same-length : tie.Need-same-length
@@ -65,7 +65,7 @@ returns-2 c =
     let k = c .before .before .before .before .before .before .before in
     let s = k .before .before .before .before .before .before .before .args in
     rw (joining-done (s .arity) (s .first .now) (s .second .now) (s .way) (sym (k .before .before .before .first-fault .ensures) ∙ k .before .before .if1 .left))
-    (answers-done _ _ _ (c .before .before .before .before .before .before .in-room .ensures) _ (size k) (omega arith) (c .before .before .before .before .if2 .taken)
+    (answers-done _ _ _ (c .before .before .before .before .before .before .in-room .ensures) _ (size k) (omega arith) (λ z. omega arith)
     (c .before .before .put-masks .ensures ∙ ap (sets (s .out .now) 0) (is k)))
 
 returns-3 : tie.Need-returns-3

@@ -49,7 +49,7 @@ put-image-requires : tie.Need-put-image-requires
 put-image-requires c κs =
     let k = c .before .before .before .before .before .before in
     let size = k .image-length .ensures in
-    let h = room-enough _ _ _ (c .before .before .before .before .before .in-room .ensures) (omega arith) in
+    let h = room-enough _ _ _ (c .before .before .before .before .before .in-room .ensures) (λ z. omega arith) in
     (k .before .before .before .before .before .before .before .before .before .read-book .ensures .listed .few, omega arith)
 
 same-length : tie.Need-same-length
@@ -58,7 +58,7 @@ same-length c = search needs
 returns-2 : tie.Need-returns-2
 returns-2 c =
     let k = c .before .before .before .before .before .before .before .before .before in
-    rw (← is k) (answers-done _ _ _ (c .before .before .before .before .before .before .before .before .in-room .ensures) _ (k .image-length .ensures) (omega arith) (c .before .before .before .before .before .before .if2 .taken) (c .before .before .put-image .ensures .is))
+    rw (← is k) (answers-done _ _ _ (c .before .before .before .before .before .before .before .before .in-room .ensures) _ (k .image-length .ensures) (omega arith) (λ z. omega arith) (c .before .before .put-image .ensures .is))
 
 returns-3 : tie.Need-returns-3
 returns-3 c =

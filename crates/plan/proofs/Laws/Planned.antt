@@ -294,9 +294,9 @@ module _ (B : Book) (preds clauses : ℕ) (rules table : List ℕ) (l : Lent B p
         pub given-short : length out ≤ room → (r .number ≡ 0 → ⊥) → Answers (planned B) out r out
         given-short h z = rw (planned-good B given-some) (answers-short n 0 room g (image B) given-size h z)
 
-        pub given-done : {after : List ℕ} {next : ℕ} → room ≤ length out → r .number ≡ 0
+        pub given-done : {after : List ℕ} {next : ℕ} → room ≤ length out → (r .number ≡ 9 → ⊥)
             → Wrote out after 0 next (planBytes (placesOf q) preds rules table own words) → Answers (planned B) out r after
-        given-done h z w = rw (planned-good B given-some) (answers-done n 0 room g (image B) given-size h z (w .is ∙ ap (sets out 0) given-bytes))
+        given-done h f w = rw (planned-good B given-some) (answers-done n 0 room g (image B) given-size h f (w .is ∙ ap (sets out 0) given-bytes))
 
 -- ---- a book that was read
 

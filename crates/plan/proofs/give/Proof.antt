@@ -60,7 +60,7 @@ put-plan-requires c κs =
     let own = k .before .before .before .before .before .before .own-clauses in
     let m = k .before .before .before .before .reach in
     let n = k .before .plan-length in
-    let z = room-enough _ _ _ (k .in-room .ensures) (omega arith) in (
+    let z = room-enough _ _ _ (k .in-room .ensures) (λ z. omega arith) in (
       few-preds (h .0) (s .preds) (s .clauses) (s .rules .now) (s .table .now) (h .1),
       each-callable (s .rules .now) (own .result) (s .clauses) (search needs) (lent-known (h .0) (s .preds) (s .clauses) (s .rules .now) (s .table .now) (h .1)) (own .ensures),
       given-room (h .0) (s .preds) (s .clauses) (s .rules .now) (s .table .now) (h .1) (q .result) (q .ensures .0) (not-false (q .result .found) (k .before .before .before .before .before .before .before .if1 .left)) (own .result) (m .result) (own .ensures) (m .ensures) (n .result) (n .ensures) (s .out .now) (omega arith),
@@ -79,7 +79,7 @@ returns-2 c =
     let own = k .before .before .before .before .before .before .own-clauses in
     let m = k .before .before .before .before .reach in
     let n = k .before .plan-length in
-    given-done B (s .preds) (s .clauses) (s .rules .now) (s .table .now) l (q .result) (q .ensures .0) (not-false (q .result .found) (k .before .before .before .before .before .before .before .if1 .left)) (own .result) (m .result) (own .ensures) (m .ensures) (n .result) (n .ensures) _ (k .in-room .ensures) (omega arith) (c .before .before .before .before .before .before .if2 .taken) (c .before .before .put-plan .ensures)
+    given-done B (s .preds) (s .clauses) (s .rules .now) (s .table .now) l (q .result) (q .ensures .0) (not-false (q .result .found) (k .before .before .before .before .before .before .before .if1 .left)) (own .result) (m .result) (own .ensures) (m .ensures) (n .result) (n .ensures) _ (k .in-room .ensures) (omega arith) (λ z. omega (arith, c .before .before .before .before .before .before .if2 .taken)) (c .before .before .put-plan .ensures)
 
 returns-3 : tie.Need-returns-3
 unfolding nothing
@@ -91,7 +91,7 @@ returns-3 c =
     let own = k .before .before .before .before .before .before .own-clauses in
     let m = k .before .before .before .before .reach in
     let n = k .before .plan-length in
-    given-short B (s .preds) (s .clauses) (s .rules .now) (s .table .now) l (q .result) (q .ensures .0) (not-false (q .result .found) (k .before .before .before .before .before .before .before .if1 .left)) (own .result) (m .result) (own .ensures) (m .ensures) (n .result) (n .ensures) _ (k .in-room .ensures) (omega arith) (c .if2 .left)
+    given-short B (s .preds) (s .clauses) (s .rules .now) (s .table .now) l (q .result) (q .ensures .0) (not-false (q .result .found) (k .before .before .before .before .before .before .before .if1 .left)) (own .result) (m .result) (own .ensures) (m .ensures) (n .result) (n .ensures) _ (k .in-room .ensures) (omega arith) (λ z. c .if2 .left (omega arith))
 
 pub give-spec : {M : Type 1} → statement M
 give-spec =

@@ -54,7 +54,7 @@ put-bytes-requires : tie.Need-put-bytes-requires
 put-bytes-requires c κs =
     let k = c .before .before .before .before .before in
     let n = length-take-le (k .put-sheet .result) (k .put-sheet .last .0) (there k .0) in
-    let h = room-enough _ _ _ (c .before .before .before .before .in-room .ensures) (omega arith) in
+    let h = room-enough _ _ _ (c .before .before .before .before .in-room .ensures) (λ z. omega arith) in
     omega arith
 
 same-length : tie.Need-same-length
@@ -64,7 +64,7 @@ returns : tie.Need-returns
 returns c =
     let k = c .before .before .before .before .before .before .before .before in
     let s = k .before .before .before .before .before .before .args in
-    answers-done _ _ _ (c .before .before .before .before .before .before .before .in-room .ensures) _ (size k) (omega arith) (c .before .before .before .before .before .if1 .taken) (c .before .before .put-bytes .ensures .is ∙ ap (sets (s .out .now) 0) (there k .1))
+    answers-done _ _ _ (c .before .before .before .before .before .before .before .in-room .ensures) _ (size k) (omega arith) (λ z. omega arith) (c .before .before .put-bytes .ensures .is ∙ ap (sets (s .out .now) 0) (there k .1))
 
 returns-2 : tie.Need-returns-2
 returns-2 c = answers-short _ _ _ (c .before .before .in-room .ensures) _ (size (c .before .before .before)) (omega arith) (c .if1 .left)

@@ -15,7 +15,7 @@ put-book-requires : tie.Need-put-book-requires
 put-book-requires c κs =
     let n = c .before .before .before .before .book-length in
     let size = n .ensures in
-    let h = room-enough _ _ _ (c .before .before .before .in-room .ensures) (omega arith) in
+    let h = room-enough _ _ _ (c .before .before .before .in-room .ensures) (λ z. omega arith) in
     omega arith
 
 same-length : tie.Need-same-length
@@ -24,7 +24,7 @@ same-length c = search needs
 returns : tie.Need-returns
 returns c =
     let k = c .before .before .before .before .before .before in
-    answers-done _ _ _ (k .in-room .ensures) _ (k .before .book-length .ensures) (omega arith) (c .before .before .before .before .if1 .taken) (c .before .before .put-book .ensures .is)
+    answers-done _ _ _ (k .in-room .ensures) _ (k .before .book-length .ensures) (omega arith) (λ z. omega arith) (c .before .before .put-book .ensures .is)
 
 returns-2 : tie.Need-returns-2
 returns-2 c = let k = c .before .before in answers-short _ _ _ (k .in-room .ensures) _ (k .before .book-length .ensures) (omega arith) (c .if1 .left)
