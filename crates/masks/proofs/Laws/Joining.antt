@@ -8,7 +8,7 @@ use native.Mathlib.Numerals.{add-one}
 use native.Mathlib.Nat.{pow-le-pow-right}
 use lib.Bits.{bitOr}
 use lib.Dec.{ltb}
-use lib.ListN.{length, getD, take}
+use lib.ListN.{length, getD, take, replicate}
 use lib.Seq.{take-suc, take-length}
 use borrow.Author.Tests.{le-ltb, lt-ltb, ltb-false}
 use Rattle.masks.specs.Limits.{maxArity, maxMasks, allPatterns}
@@ -26,6 +26,12 @@ use Rattle.masks.proofs.Laws.Lists.{all-suc, has-append}
 use Rattle.masks.proofs.Laws.Constraint.{inRange-at, inRange-mono, choice-isWritten-at, joint-isWritten-at, admits-choice, admits-joint}
 use Rattle.masks.proofs.Laws.Outcome.{answers-bytes, answers-number}
 use Rattle.masks.proofs.Laws.Set.{minimise-packed, bitAt-zero}
+
+-- ---- computed: a list of 21 masks is 5, also where they are out of range
+
+pub long-first : listFault 2 (replicate 21 2) ≡ 5
+unfolding listFault inRange
+long-first = refl
 
 -- ---- the joint: the unions of the first i masks of x with those of y are in
 

@@ -3,7 +3,7 @@
 use mathlib.Core.Path.{_≡_, refl, sym, ap, ap₂, _∙_}
 use mathlib.Core.Bool.{Bool, true, false}
 use mathlib.Core.Logic.{_⊎_, inl, inr}
-use mathlib.Core.List.{List, [], _++_}
+use mathlib.Core.List.{List, [], _∷_, _++_}
 use Prim.Native.Nat.{ℕ, _+_, _≤_, _<_}
 use native.Mathlib.Omega.{arith}
 use lib.Dec.{ltb}
@@ -13,6 +13,16 @@ use borrow.Author.Tests.{lt-ltb, le-ltb, ltb-true, ltb-false}
 use Rattle.masks.specs.Outcome.{Outcome, refused, done, inRoom, reply, left, Answers}
 use Rattle.masks.specs.declared.reply.Reply.{Reply}
 use Rattle.masks.proofs.Laws.Logic.{byBool, clash}
+
+-- ---- computed: two bytes in a room of one, and of three
+
+pub too-short : left (done 0 (1 ∷ 2 ∷ [])) (7 ∷ []) ≡ 7 ∷ []
+unfolding left
+too-short = refl
+
+pub long-enough : left (done 0 (1 ∷ 2 ∷ [])) (7 ∷ 8 ∷ 9 ∷ []) ≡ 1 ∷ 2 ∷ 9 ∷ []
+unfolding left
+long-enough = refl
 
 -- ---- how an operation comes to answer: by a refusal, for want of room, or with the bytes stored
 
