@@ -78,7 +78,7 @@ pub fn arguments(c: Call) -> usize
 }
 
 // A number that is held as a word, at most as many as there is room for.
-fn held(n: u64, room: usize) -> usize
+pub fn held(n: u64, room: usize) -> usize
     ensures { λ r. ⌜ r ≡ min n room ⌝ }
 {
     let k = n as usize;

@@ -1,5 +1,6 @@
 // The modes of predicates, in the array that holds those of a book. It is read and written through a slice, whose length the proof
 // knows.
+use crate::clause::held;
 use crate::limits::MODE_SIZE;
 use crate::limits::MODES_SIZE;
 use masks::constraint::Constraint;
@@ -19,7 +20,19 @@ pub fn has_mode(modes: &[u8; MODES_SIZE], p: u8) -> bool
     modes[at] != 0
 }
 
-// The masks of predicate p, as given; where it has no `MO`, they say nothing.
+// The masks of predicate p where they stand, as given; where it has no `MO`, they say nothing.
+pub fn masks_at(modes: &[u8; MODES_SIZE], p: u8) -> &[u8]
+    requires { ⌜ p < maxPredicates ⌝ }
+    ensures { λ r. ⌜ now r ≡ masksIn (modeBytes (now (modes .entry)) p) ⌝ }
+{
+    let bytes: &[u8] = modes;
+    let at = p as usize * MODE_SIZE;
+    let start = at + 2;
+    let end = start + held(bytes[at + 1] as u64, MAX_MASKS);
+    &bytes[start..end]
+}
+
+// The same masks by value.
 pub fn mode_at(modes: &[u8; MODES_SIZE], p: u8) -> Constraint
     requires { ⌜ p < maxPredicates ⌝ }
     ensures { λ r. ⌜ masksOf r ≡ masksIn (modeBytes (now (modes .entry)) p) ⌝ }

@@ -21,18 +21,15 @@ pub struct Constraint {
     pub masks: [u8; MAX_MASKS],
 }
 
-// "A pattern .. fits a constraint when it fits at least one alternative."
-pub fn fits(c: Constraint, pattern: u8) -> bool
-    ensures { λ r. ⌜ r ≡ admits (masksOf c) pattern ⌝ }
+// "A pattern .. fits a constraint when it fits at least one alternative." Its masks are lent where they stand.
+pub fn fits(masks: &[u8], pattern: u8) -> bool
+    ensures { λ r. ⌜ r ≡ admits (now (masks .entry)) pattern ⌝ }
 {
-    let n = count(c);
-    let mut i: usize = 0;
-    while i < n {
-        let m = c.masks[i];
+    for i in 0..masks.len() {
+        let m = masks[i];
         if m & pattern == m {
             return true;
         }
-        i += 1;
     }
     false
 }

@@ -9,7 +9,7 @@ use book::limits::MAX_SUBGOALS;
 use book::limits::MODES_SIZE;
 use book::limits::RULES_SIZE;
 use book::limits::VARIABLES;
-use book::mode::mode_at;
+use book::mode::masks_at;
 use masks::constraint::fits;
 ghost use mathlib.Core.Path.{_≡_};
 ghost use mathlib.Core.Bool.{true};
@@ -107,9 +107,9 @@ fn first_ready<'a>(
     while p < n {
         if !used[p] {
             let s = subgoal_at(rules, k, p);
-            let c = mode_at(table, s.pred);
+            let masks = masks_at(table, s.pred);
             let a = pattern(bound, s);
-            if fits(c, a) {
+            if fits(masks, a) {
                 return Pick {
                     place: p,
                     pattern: a,

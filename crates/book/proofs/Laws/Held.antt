@@ -3,16 +3,16 @@
 use mathlib.Core.Path.{_≡_, refl, sym, ap, ap₂, _∙_}
 use mathlib.Core.Bool.{Bool, true, false, cond, _&&_, or-false}
 use mathlib.Core.List.{List, [], _∷_, _++_, map, map-append}
-use Prim.Native.Nat.{ℕ, zero, suc, _+_, _*_, min, _≤_, _<_}
+use Prim.Native.Nat.{ℕ, zero, suc, _+_, _-_, _*_, min, _≤_, _<_}
 use native.Mathlib.Numerals.{add-one}
 use native.Mathlib.Omega.{arith}
 use lib.Dec.{eqb}
-use lib.ListN.{length, getD, take, set, replicate, length-set, length-map}
-use lib.Seq.{take-suc, take-all, take-suc-set, getD-set-same, getD-set-other}
+use lib.ListN.{length, getD, take, drop, set, replicate, length-take, length-drop, length-set, length-map}
+use lib.Seq.{take-suc, take-all, take-take, take-suc-set, getD-set-same, getD-set-other}
 use borrow.Author.Tests.{eqb-true, eq-eqb}
 use Rattle.masks.specs.Lists.{any, values, joined}
 use Rattle.masks.proofs.Laws.Logic.{same, and-intro, and-left, and-right}
-use Rattle.masks.proofs.Laws.Lists.{length-values, values-cong, take-values, getD-values, joined-cong, joined-cut, any-joined, joined-any}
+use Rattle.masks.proofs.Laws.Lists.{take-front, length-values, values-cong, take-values, getD-values, joined-cong, joined-cut, any-joined, joined-any}
 use Rattle.book.specs.Limits.{maxClauses, maxSubgoals}
 use Rattle.book.specs.Book.{Call, Mode, Clause}
 use Rattle.book.specs.Format.{hasMode}
@@ -202,6 +202,17 @@ module _ {rules after : List ℕ} {k : ℕ} {c : Clause} (s : StoredClause rules
 -- a number of bytes and the bytes, behind the first of a window
 pub masksIn-window : (l : List ℕ) (at n : ℕ) (s : List ℕ) → s ≡ window (at + 2) n l → take (getD l (at + 1) 0) s ≡ masksIn (window at (2 + n) l)
 masksIn-window l at n s e = ap₂ (λ (k : ℕ) (r : List ℕ). take k r) (sym (getD-window at (2 + n) 1 l (omega arith))) (e ∙ sym (drop-window at 2 n l))
+
+-- the same bytes lent where they stand, at most n of them
+pub masksIn-part : (l : List ℕ) (at n k : ℕ) → at + 2 + n ≤ length l → k ≡ min (getD l (at + 1) 0) n
+    → take (at + 2 + k - (at + 2)) (drop (at + 2) l) ≡ masksIn (window at (2 + n) l)
+masksIn-part l at n k h e =
+    let s = window (at + 2) n l in
+    let m = getD l (at + 1) 0 in
+    let d = length-drop (at + 2) l in
+    let p : at + 2 + k - (at + 2) ≡ k = omega arith in
+    let q : k ≡ length (take m s) = omega (arith, length-take m s, length-take n (drop (at + 2) l)) in
+    rw p (sym (take-take k n (drop (at + 2) l) (omega arith)) ∙ ap (λ (i : ℕ). take i s) q ∙ take-front m s ∙ masksIn-window l at n s refl)
 
 pub stored-mode : {modes after : List ℕ} {p n : ℕ} {masks : List ℕ} → Stored modes after (p * modeSize) modeSize (1 ∷ n ∷ masks)
     → StoredMode modes after p (take n masks)

@@ -39,8 +39,8 @@ array-read-if1 c =
 subgoal-at-requires : tie.Need-subgoal-at-requires Inv-loop μ-loop
 subgoal-at-requires c κs = let n = c .before .before .before .subgoals-at .ensures in (c .before .before .before .before .pre .0, omega arith)
 
-mode-at-requires : tie.Need-mode-at-requires Inv-loop μ-loop
-mode-at-requires c κs =
+masks-at-requires : tie.Need-masks-at-requires Inv-loop μ-loop
+masks-at-requires c κs =
     let b = c .before .before .before .before .before in
     let s = b .args in
     let n = c .before .before .before .before .subgoals-at .ensures in
@@ -60,7 +60,7 @@ returns c =
     let l = c .before .before .before .before .before .before .before .loop in
     let r =
     ready-read (clauseAt (s .rules .now) (s .k) .body) (l .p) (c .before .before .before .before .subgoal-at .ensures) (s .table .now) (s .bound)
-    (b .pre .1) (omega arith) (c .before .before .before .mode-at .ensures) (c .before .before .pattern .ensures) in (
+    (b .pre .1) (omega arith) (c .before .before .before .masks-at .ensures) (c .before .before .pattern .ensures) in (
       scan-here (l .inv) (omega arith) (not-true _ (c .before .before .before .before .before .if1 .taken)) (r ∙ sym (c .before .fits2 .ensures) ∙ c .if2 .taken),
       pattern-read (clauseAt (s .rules .now) (s .k) .body) (l .p) (c .before .before .before .before .subgoal-at .ensures) (s .bound) (c .before .before .pattern .ensures),
     )
@@ -99,7 +99,7 @@ first-ready-spec =
     loop-holds
     array-read-if1
     subgoal-at-requires
-    mode-at-requires
+    masks-at-requires
     pattern-requires
     fits-requires
     returns
