@@ -289,6 +289,18 @@ static void pair(char **field)
     show_answer(&a, 2);
 }
 
+static void fits(char **field)
+{
+    unsigned pattern = (unsigned)number_of(field[2], 255);
+    input masks = bytes_of(field[3], MASKS);
+    int any = 0;
+
+    for (size_t i = 0; i < masks.length; i++)
+        if ((masks.bytes[i] & ~pattern) == 0)
+            any = 1;
+    printf(" %d", any);
+}
+
 static void again(char **field)
 {
     static answer a;
@@ -370,7 +382,7 @@ static void parts(char **field)
 static const struct {
     const char *kind;
     void (*results)(char **field);
-} kinds[] = {{"book", book}, {"short", shorter}, {"room", room}, {"pair", pair}, {"again", again}, {"parts", parts}};
+} kinds[] = {{"book", book}, {"short", shorter}, {"room", room}, {"pair", pair}, {"fits", fits}, {"again", again}, {"parts", parts}};
 
 static void results(char **field)
 {

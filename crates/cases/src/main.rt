@@ -12,12 +12,14 @@
 //                                     each `N V`, or `- -` where it wrote nothing
 //     room NAME OP BOOK SET ROOM      `N V ROUNDS OUT` of OP, which is analyse, plan, close or sheet, in a room of ROOM bytes
 //     pair NAME OP ARITY XS YS ROOM   `N V OUT` of OP, which is choice or joint, of two lists of masks
+//     fits NAME PATTERN MASKS         `1` where the pattern fits the masks, else `0`
 //     again NAME BOOK ROOM            `N V OUT` of the book read and written again; of a book that the check refuses its `N V -`
 //     parts NAME BOOK SET             `N V` of the closing, and where N is 0 six comparisons, each a word and `same` or `differs` (see `parts`)
 //
 // N and V are the number and the value of a reply. A line of another kind, or another OP, prints `?`. A reply that altered a byte it had to leave adds
 // the word `spoiled`. Of the input the first 1,048,576 bytes are read, of a book 8,192, of a list of masks 32; a room has at most 164,393.
 mod again;
+mod fits;
 mod operations;
 mod pair;
 mod parts;
@@ -72,14 +74,18 @@ fn answer(line: &[u8]) {
 
 // What a line asks for, by its kind: a kind more is a word here and an arm with its place among the words.
 fn results(line: &[u8]) {
-    let kind = words::place(lines::field(line, 0), b"book short room pair again parts");
+    let kind = words::place(
+        lines::field(line, 0),
+        b"book short room pair fits again parts",
+    );
     match kind {
         0 => operations::book(line),
         1 => operations::short(line),
         2 => operations::room(line),
         3 => pair::results(line),
-        4 => again::results(line),
-        5 => parts::results(line),
+        4 => fits::results(line),
+        5 => again::results(line),
+        6 => parts::results(line),
         _ => show::unknown(),
     }
 }
