@@ -51,7 +51,7 @@
 extern "C" {
 #endif
 
-#define SHODH_VERSION "1.0.0"
+#define SHODH_VERSION "1.0.1"
 
 /* Rooms that are always enough, in bytes. */
 #define SHODH_TABLE_SIZE 1536
