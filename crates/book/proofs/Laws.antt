@@ -10,3 +10,5 @@ pub mod Examples
 pub mod Windows
 pub mod Words
 pub mod Held
+pub mod Table
+pub mod Sets

@@ -1,5 +1,5 @@
 -- Document 01: "A book holds predicates, mode alternatives, clauses and one query." Assumes nothing.
-use mathlib.Core.List.{List}
+use mathlib.Core.List.{List, []}
 use Prim.Native.Nat.{ℕ}
 
 -- A subgoal, or the head of a clause: "predicate, one argument per position". "0 to 15 is a variable of that clause or query, 255 a literal,
@@ -7,6 +7,10 @@ use Prim.Native.Nat.{ℕ}
 pub record Call : Type 0 where
   pub pred : ℕ
   pub args : List ℕ
+
+-- the call that says nothing, for places where there is none
+abbrev pub noCall : Call
+noCall = record { pred = 0; args = [] }
 
 -- "MO: predicate, n, n masks; n alternatives", in the order given
 pub record Mode : Type 0 where
@@ -17,6 +21,10 @@ pub record Mode : Type 0 where
 pub record Clause : Type 0 where
   pub head : Call
   pub body : List Call
+
+-- the clause that says nothing
+abbrev pub noClause : Clause
+noClause = record { head = noCall; body = [] }
 
 -- the arity of each predicate, "numbered from 0"; modes, clauses and the subgoals of the query in the order given
 pub record Book : Type 0 where

@@ -12,7 +12,7 @@ use Rattle.book.specs.Book.{Call, Mode, Clause, Book}
 use Rattle.book.specs.Format.{spelling, allows, hasMode}
 use Rattle.book.specs.declared.mark.Mark.the-variants.{Pr, Mo, Cl, Sg, Qu}
 use Rattle.book.specs.declared.range.Range.{Range}
-use Rattle.book.specs.declared.range.Range.the-variants.{Below, AtMost, Argument, HeadArgument}
+use Rattle.book.specs.declared.range.Range.the-variants.{Below, AtMost, Argument, NoWildcard}
 
 -- ---- "A book is a run of records"
 
@@ -67,7 +67,7 @@ rises b (m ∷ ms) = leb b (m .pred) && rises (suc (m .pred)) ms
 -- a head for a predicate that has no MO, and at most 8 subgoals
 abbrev pub clauseFits : List ℕ → List Mode → Clause → Bool
 clauseFits ar ms c =
-    callFits HeadArgument ar (c .head)
+    callFits NoWildcard ar (c .head)
     && (not (hasMode ms (c .head .pred)) && (leb (length (c .body)) maxSubgoals && all (callFits Argument ar) (c .body)))
 
 pub record WellFormed (b : Book) : Type 0 where

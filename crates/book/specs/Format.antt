@@ -19,7 +19,7 @@ use Rattle.book.specs.declared.mark.Phase.the-variants.{Predicates, Mode
 use Rattle.book.specs.declared.mark.Turn.{Turn}
 use Rattle.book.specs.declared.mark.Turn.the-variants.{Mine, Over, No}
 use Rattle.book.specs.declared.range.Range.{Range}
-use Rattle.book.specs.declared.range.Range.the-variants.{Below, AtMost, Argument, HeadArgument}
+use Rattle.book.specs.declared.range.Range.the-variants.{Below, AtMost, Argument, NoWildcard}
 
 -- ---- "Replies": the number of a fault, and its place
 
@@ -32,9 +32,10 @@ number OutOfRange = 4
 number TooMany = 5
 number Clash = 6
 
--- "offset of the record": the place of a fault, of how many bytes are left from its record on and from the byte at fault on
+-- "offset of the record": the place of a fault, of two: where its record begins, and the byte at fault. Here a place is how many bytes are left from
+-- it on, in the code how many are before it.
 abbrev pub placed : Fault → ℕ → ℕ → ℕ
-placed f fromRecord fromByte = fromRecord
+placed f record· byte = record·
 
 -- ---- "each led by a two-byte mark in ASCII"
 
@@ -101,7 +102,7 @@ unfoldable pub allows : Range → ℕ → Bool
 allows (Below n) x = ltb x n
 allows (AtMost n) x = leb x n
 allows Argument x = leb x 15 || (eqb x 254 || eqb x 255)
-allows HeadArgument x = leb x 15 || eqb x 255
+allows NoWildcard x = leb x 15 || eqb x 255
 
 -- ---- reading
 
@@ -131,10 +132,10 @@ inRecord s (bad f k) = bad f (placed f (length s) k)
 inRecord s (got a t) = got a t
 
 -- a record of the run, its end, or a fault
-abbrev pub onTurn : {A : Type 0} → Turn → Got (List A) → List A → List ℕ → Got (List A)
-onTurn Mine more acc s = more
-onTurn Over more acc s = got acc s
-onTurn (No f) more acc s = bad f (placed f (length s) (length s))
+abbrev pub onTurn : {A : Type 0} → Turn → Got A → A → List ℕ → Got A
+onTurn Mine more a s = more
+onTurn Over more a s = got a s
+onTurn (No f) more a s = bad f (placed f (length s) (length s))
 
 -- "in turn (3), not one too many (5)": a run of records, at most `room` of them, after those of acc
 unfoldable pub many : {A : Type 0} → Phase → (List A → List ℕ → Got A) → ℕ → List A → List ℕ → Got (List A)
@@ -188,7 +189,7 @@ hasMode ms p = any (λ (m : Mode). eqb (m .pred) p) ms
 -- "6: CL for a predicate that has MO", tried last
 unfoldable pub headFields : List ℕ → List Mode → List ℕ → Got Call
 headFields ar ms s =
-    andThen (call HeadArgument ar s) (λ h t.
+    andThen (call NoWildcard ar s) (λ h t.
     cond (hasMode ms (h .pred)) (bad Clash (length s)) (got h t))
 
 -- "CL: a clause head", and the subgoals of the clause
@@ -198,15 +199,19 @@ clause ar ms acc s =
     andThen (many Body (subgoal ar) maxSubgoals [] t) (λ body u.
     got (record { head = h; body = body }) u))
 
+-- "QU", and the subgoals of the query
+unfoldable pub query : List ℕ → List ℕ → Got (List Call)
+query ar s = many Query (subgoal ar) maxSubgoals [] (drop 2 s)
+
 -- ---- the book
 
 -- What follows the predicates. MO records rise, so there are never more than predicates: the one that could be too many is refused for another
--- fault. The clauses end at QU, whose two bytes are dropped.
+-- fault. The clauses end at QU.
 unfoldable pub rules : List ℕ → List ℕ → Got Book
 rules ar s =
     andThen (many Modes (mode ar) (suc maxPredicates) [] s) (λ ms t.
     andThen (many Clauses (clause ar ms) maxClauses [] t) (λ cs u.
-    andThen (many Query (subgoal ar) maxSubgoals [] (drop 2 u)) (λ q v.
+    andThen (query ar u) (λ q v.
     got (record { arities = ar; modes = ms; clauses = cs; query = q }) v)))
 
 unfoldable pub readBook : List ℕ → Got Book

@@ -14,9 +14,13 @@ use Rattle.book.specs.declared.clause.Clause as clause
 
 -- ---- by value
 
--- the arguments of a call: the first n of its array
+-- the number of a call's arguments, in the byte that holds it: at most six, so the three lowest bits. The five above them say nothing.
+abbrev pub countIn : ℕ → ℕ
+countIn byte = byte % 8
+
+-- the arguments of a call: so many of its array
 abbrev pub callOf : call.Call → Call
-callOf c = record { pred = c .pred; args = take (c .n) (c .args) }
+callOf c = record { pred = c .pred; args = take (countIn (c .n)) (c .args) }
 
 -- the subgoals of a clause: the first n of its array
 abbrev pub clauseOf : clause.Clause → Clause
@@ -30,7 +34,7 @@ byteOf w i = w / 2 ^ (8 * i) % 256
 
 -- a call in a word, a byte each from the lowest on: its predicate, the number of its arguments, and six arguments
 abbrev pub callIn : ℕ → Call
-callIn w = record { pred = byteOf w 0; args = take (byteOf w 1) (values (λ i. byteOf w (2 + i)) maxArity) }
+callIn w = record { pred = byteOf w 0; args = take (countIn (byteOf w 1)) (values (λ i. byteOf w (2 + i)) maxArity) }
 
 -- the words of a clause: the number of its subgoals, its head, and eight subgoals
 abbrev pub clauseSize : ℕ
@@ -63,6 +67,10 @@ window at k l = take k (drop at l)
 -- the bytes of a predicate's modes: whether it has MO (0 is no), the number of its masks, and 20 masks. Having none is not having MO with n = 0.
 abbrev pub modeSize : ℕ
 modeSize = 22
+
+-- the array of 64 predicates' modes
+abbrev pub modesSize : ℕ
+modesSize = 1408
 
 abbrev pub hasIn : List ℕ → Bool
 hasIn b = not (eqb (getD b 0 0) 0)

@@ -1,18 +1,22 @@
 // Clauses: by value, and in the array of words that holds those of a book. A call is one word there: its predicate in the lowest byte, above it the
 // number of its arguments, above that six arguments, one byte each. Stores go through a slice, whose length the proof knows.
 use crate::limits::CLAUSE_SIZE;
-use crate::limits::MAX_ARGUMENTS;
+use crate::limits::MAX_PREDICATES;
 use crate::limits::MAX_SUBGOALS;
 use crate::limits::RULES_SIZE;
+use masks::constraint::with_member;
+use masks::limits::MAX_ARGUMENTS;
 ghost use mathlib.Core.Path.{_≡_};
-ghost use mathlib.Core.List.{[]};
 ghost use Prim.Native.Nat.{_+_, _*_, _^_, _<_, _≤_, min};
 ghost use lib.ListN.{length, getD};
 ghost use Rattle.masks.specs.Limits.{maxArity};
 ghost use Rattle.book.specs.Limits.{maxClauses};
+ghost use Rattle.book.specs.Book.{noCall};
 ghost use Rattle.book.specs.Held.{callOf, clauseOf, callIn, clauseAt, StoredClause};
+ghost use Rattle.book.specs.Sets.{Known, Owns};
 
-// A subgoal, or the head of a clause: a predicate and its arguments, the first n of the array.
+// A subgoal, or the head of a clause: a predicate and its arguments, the first n of the array. Of n the three lowest bits count, here and in the word of
+// a call; the five above them say nothing.
 pub struct Call {
     pub pred: u8,
     pub n: u8,
@@ -64,17 +68,17 @@ pub fn subgoals_at(rules: &[u64; RULES_SIZE], k: usize) -> usize
 // Subgoal j of clause k of an array.
 pub fn subgoal_at(rules: &[u64; RULES_SIZE], k: usize, j: usize) -> Call
     requires { ⌜ (k ≤ maxClauses) × (j < length (clauseAt (now rules) k .body)) ⌝ }
-    ensures { λ r. ⌜ callOf r ≡ getD (clauseAt (now (rules .entry)) k .body) j (record { pred = 0; args = [] }) ⌝ }
+    ensures { λ r. ⌜ callOf r ≡ getD (clauseAt (now (rules .entry)) k .body) j noCall ⌝ }
 {
     call_of(rules[k * CLAUSE_SIZE + 2 + j])
 }
 
-// How many arguments a call has. A count above the array's length means all of it.
+// How many arguments a call has. A number above the array's length means all of it.
 pub fn arguments(c: Call) -> usize
     ensures { λ r. ⌜ r ≡ length (callOf c .args) ⌝ }
     ensures { λ r. ⌜ r ≤ maxArity ⌝ }
 {
-    held(c.n as u64, MAX_ARGUMENTS)
+    held((c.n % 8) as u64, MAX_ARGUMENTS)
 }
 
 // A number that is held as a word, at most as many as there is room for.
@@ -103,9 +107,36 @@ pub fn put_clause(rules: &mut [u64; RULES_SIZE], k: usize, c: Clause)
     }
 }
 
+// Copies clause `from` of an array over clause `to`.
+pub fn move_clause(rules: &mut [u64; RULES_SIZE], from: usize, to: usize)
+    requires { ⌜ (from ≤ maxClauses) × (to ≤ maxClauses) ⌝ }
+    ensures { λ _. ⌜ StoredClause (now (rules .entry)) (now (rules .exit)) to (clauseAt (now (rules .entry)) from) ⌝ }
+{
+    if from != to {
+        let c = clause_at(rules, from);
+        put_clause(rules, to, c);
+    }
+}
+
+// The clauses of each predicate, as a set in a word: clause k is in it where bit k is set.
+pub fn own_clauses(clauses: u8, rules: &[u64; RULES_SIZE]) -> [u64; MAX_PREDICATES]
+    requires { ⌜ (clauses ≤ maxClauses) × Known (now rules) clauses ⌝ }
+    ensures { λ r. ⌜ Owns (now (rules .entry)) clauses r ⌝ }
+{
+    let mut own = [0u64; MAX_PREDICATES];
+    let mut k: u8 = 0;
+    while k < clauses {
+        let h = head_at(rules, k as usize);
+        let p = h.pred as usize;
+        own[p] = with_member(own[p], k);
+        k += 1;
+    }
+    own
+}
+
 // A call that says nothing.
 pub fn no_call() -> Call
-    ensures { λ r. ⌜ callOf r ≡ record { pred = 0; args = [] } ⌝ }
+    ensures { λ r. ⌜ callOf r ≡ noCall ⌝ }
 {
     Call {
         pred: 0,

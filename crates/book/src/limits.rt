@@ -10,9 +10,6 @@ pub const MAX_CLAUSES: usize = 64;
 // In a body or query.
 pub const MAX_SUBGOALS: usize = 8;
 
-// Of a call: as many as the greatest arity.
-pub const MAX_ARGUMENTS: usize = 6;
-
 // Arguments: variables are 0 to 15.
 pub const LAST_VARIABLE: u8 = 15;
 
@@ -33,6 +30,15 @@ pub const CLAUSE_SIZE: usize = 10;
 
 // The room of 64 clauses and of the query, which stands after them.
 pub const RULES_SIZE: usize = 650;
+
+// The longest book, image of a table, plan and printed sheet.
+pub const LONGEST: usize = 6962;
+
+pub const LONGEST_TABLE: usize = 1536;
+
+pub const LONGEST_PLAN: usize = 53259;
+
+pub const LONGEST_SHEET: usize = 164392;
 
 // The word of a call of predicate 0 with no arguments, wildcards in their places: not one byte repeated, so that clearing is by wide stores.
 pub const NO_CALL: u64 = 0xFEFE_FEFE_FEFE_0000;

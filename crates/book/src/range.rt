@@ -3,5 +3,5 @@ pub enum Range {
     Below(u8),
     AtMost(u8),
     Argument,
-    HeadArgument,
+    NoWildcard,
 }

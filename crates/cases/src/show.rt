@@ -1,6 +1,9 @@
 // What a call is lent, and what is printed of its reply. Every print begins with a space.
 ghost use mathlib.Core.Path.{_≡_};
+ghost use Prim.Native.Nat.{suc};
 ghost use lib.ListN.{length};
+ghost use Rattle.book.specs.Limits.{longestSheet};
+use book::limits::LONGEST_SHEET;
 use libc::STDOUT_FILENO;
 use masks::reply::Reply;
 
@@ -10,14 +13,14 @@ pub const BOOK: usize = 8192;
 pub const MASKS: usize = 32;
 
 // More than any table, plan, closed book or sheet takes.
-pub const ROOM: usize = 164393;
+pub const ROOM: usize = LONGEST_SHEET + 1;
 
 // What a room holds before a call.
 pub const OLD: u8 = 238;
 
 // A room before a call.
 pub fn fresh() -> [u8; ROOM]
-    ensures { λ r. ⌜ 164393 ≡ length r ⌝ }
+    ensures { λ r. ⌜ suc longestSheet ≡ length r ⌝ }
 {
     [OLD; ROOM]
 }

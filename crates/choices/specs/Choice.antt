@@ -1,12 +1,12 @@
 -- Choices of orders. Document 01, "The plan": what a choice is, what it reaches, and when it makes the book well-moded. Assumes nothing.
 use mathlib.Core.Path.{_≡_}
 use mathlib.Core.Bool.{true, false}
-use mathlib.Core.List.{List, []}
+use mathlib.Core.List.{List}
 use mathlib.Core.Option.{Option, none, some}
 use Prim.Native.Nat.{ℕ, _<_}
 use lib.ListN.{length, getD}
 use Rattle.masks.specs.Constraint.{trivial, admits}
-use Rattle.book.specs.Book.{Clause, Book}
+use Rattle.book.specs.Book.{Clause, noClause, Book}
 use Rattle.ordering.specs.Adorn.{nothing, headBound}
 use Rattle.ordering.specs.Orders.{Rearranges}
 use Rattle.ordering.specs.Asks.{Asked, asks, called}
@@ -14,7 +14,7 @@ use Rattle.tables.specs.Table.{modeOf, defined}
 
 -- "clauses are numbered from 0" (past the last: a clause that says nothing)
 unfoldable pub clause : Book → ℕ → Clause
-clause B k = getD (B .clauses) k (record { head = record { pred = 0; args = [] }; body = [] })
+clause B k = getD (B .clauses) k noClause
 
 -- ---- "A choice gives the query an order, and each clause one under each head pattern."
 
@@ -51,8 +51,8 @@ abbrev pub asked : Option (List ℕ) → List ℕ
 asked none = trivial
 asked (some masks) = masks
 
-unfoldable pub WellModed : Book → Choice → Type 0
-WellModed B χ = (p a : ℕ) → Reaches B χ p a → defined (B .clauses) p ≡ false → admits (asked (modeOf (B .modes) p)) a ≡ true
+pub record WellModed (B : Book) (χ : Choice) : Type 0 where
+  pub outside : (p a : ℕ) → Reaches B χ p a → defined (B .clauses) p ≡ false → admits (asked (modeOf (B .modes) p)) a ≡ true
 
 -- some choice does
 abbrev pub Orderable : Book → Type 0

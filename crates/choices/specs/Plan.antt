@@ -11,7 +11,8 @@ use Rattle.masks.specs.Outcome.{Outcome, refused, done}
 use Rattle.book.specs.Book.{Book}
 use Rattle.book.specs.Answer.{onBook}
 use Rattle.book.specs.Encode.{run}
-use Rattle.ordering.specs.Adorn.{Table, nothing, headBound}
+use Rattle.book.specs.Table.{Table}
+use Rattle.ordering.specs.Adorn.{nothing, headBound}
 use Rattle.ordering.specs.Orders.{count}
 use Rattle.ordering.specs.Good.{firstGood, isSome}
 use Rattle.tables.specs.Table.{final}

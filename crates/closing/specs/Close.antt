@@ -12,8 +12,8 @@ use Rattle.book.specs.Limits.{maxPredicates}
 use Rattle.book.specs.Book.{Mode, Clause, Book}
 use Rattle.book.specs.Encode.{encode}
 use Rattle.book.specs.Answer.{onBook}
-use Rattle.ordering.specs.Adorn.{Table}
-use Rattle.tables.specs.Table.{entry, modeOf, final}
+use Rattle.book.specs.Table.{Table, entry}
+use Rattle.tables.specs.Table.{modeOf, final}
 
 -- ---- "The result keeps all PR, drops the chosen predicates' clauses with their subgoals"
 

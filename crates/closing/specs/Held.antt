@@ -6,7 +6,7 @@ use Prim.Native.Nat.{ℕ, _≤_, _<_}
 use Rattle.book.specs.Limits.{maxPredicates, maxClauses}
 use Rattle.book.specs.Book.{Mode}
 use Rattle.book.specs.Held.{modeAt, clauseAt, clausesOf}
-use Rattle.ordering.specs.Held.{entryIn}
+use Rattle.book.specs.Table.{entryIn}
 use Rattle.closing.specs.Close.{keptClauses}
 
 -- each chosen predicate has now MO with its constraint in the table, and the others are as they were

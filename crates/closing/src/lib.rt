@@ -1,8 +1,7 @@
 // Closed books: chosen predicates lose their clauses and are given what they need instead. A set of predicates is held in a word: predicate p is in
 // it where bit p is set.
-use book::clause::clause_at;
 use book::clause::head_at;
-use book::clause::put_clause;
+use book::clause::move_clause;
 use book::limits::MAX_PREDICATES;
 use book::limits::MODES_SIZE;
 use book::limits::NO_CALL;
@@ -19,8 +18,7 @@ ghost use Prim.Native.Nat.{_+_, _≤_};
 ghost use Rattle.masks.specs.Outcome.{Answers};
 ghost use Rattle.masks.specs.Set.{bitAt, Holds};
 ghost use Rattle.book.specs.Limits.{maxClauses};
-ghost use Rattle.book.specs.Held.{clauseAt, StoredClause};
-ghost use Rattle.needs.specs.Sets.{Known};
+ghost use Rattle.book.specs.Sets.{Known};
 ghost use Rattle.closing.specs.Close.{closing};
 ghost use Rattle.closing.specs.Held.{ModesClosed, ClausesKept};
 
@@ -82,15 +80,4 @@ fn keep_clauses(rules: &mut [u64; RULES_SIZE], clauses: u8, set: u64) -> u8
         k += 1;
     }
     n
-}
-
-// Copies clause `from` of an array over clause `to`.
-fn move_clause(rules: &mut [u64; RULES_SIZE], from: usize, to: usize)
-    requires { ⌜ (from ≤ maxClauses) × (to ≤ maxClauses) ⌝ }
-    ensures { λ _. ⌜ StoredClause (now (rules .entry)) (now (rules .exit)) to (clauseAt (now (rules .entry)) from) ⌝ }
-{
-    if from != to {
-        let c = clause_at(rules, from);
-        put_clause(rules, to, c);
-    }
 }

@@ -14,18 +14,19 @@ use Rattle.masks.specs.Outcome.{Outcome, refused, done, Answers}
 use Rattle.masks.specs.Joining.{joining}
 use Rattle.masks.specs.declared.Way.the-variants.{Choice, Joint}
 use Rattle.masks.specs.declared.reply.Reply.{Reply}
-use Rattle.book.specs.Limits.{longest, shortest}
+use Rattle.book.specs.Limits.{longest, longestTable, longestPlan, shortest}
 use Rattle.book.specs.Book.{Call, Clause, Book}
 use Rattle.book.specs.Format.{spelling, number, fault, book, judge}
 use Rattle.book.specs.Encode.{run, encode, WellFormed}
 use Rattle.book.specs.Held.{bookIn}
+use Rattle.book.specs.Table.{Table, entry}
 use Rattle.book.specs.declared.fault.Fault.{Fault}
 use Rattle.book.specs.declared.mark.Mark.the-variants.{Pr, Mo, Cl, Sg, Qu}
 use Rattle.reading.specs.Judged.{checked}
-use Rattle.ordering.specs.Adorn.{Table, Bound, nothing, headBound}
+use Rattle.ordering.specs.Adorn.{Bound, nothing, headBound}
 use Rattle.ordering.specs.Orders.{In, Rearranges, LexLt, Least, Sorted}
 use Rattle.ordering.specs.Good.{goodFrom}
-use Rattle.tables.specs.Table.{entry, modeOf, firstNeed, defined, table, rounds, final}
+use Rattle.tables.specs.Table.{modeOf, firstNeed, defined, table, rounds, final}
 use Rattle.tables.specs.Image as analysed
 use Rattle.choices.specs.Choice.{clause, IsChoice, Reaches, WellModed, Orderable}
 use Rattle.choices.specs.Plan.{Row, rowKey, chosen, planRows, image, planning}
@@ -124,12 +125,12 @@ pub record Demand2 (s : List ℕ) (B : Book) : Type 0 where
   pub settled : table B (suc (rounds B)) ≡ table B (rounds B)
   pub least : (k : ℕ) → table B (suc k) ≡ table B k → rounds B ≤ k
   -- a buffer of 1,536 bytes always suffices for it
-  pub tableRoom : length (analysed.image B) ≤ 1536
+  pub tableRoom : length (analysed.image B) ≤ longestTable
   -- reply 7 is given exactly when no choice of orders makes the book well-moded; else there is a plan
   pub seven : (planning s ≡ refused 7 0) ↔ (Orderable B → ⊥)
   pub planned : (planning s ≡ done 0 (image B)) ↔ Orderable B
   -- "The longest plan is 53,259 bytes."
-  pub planRoom : length (image B) ≤ 53259
+  pub planRoom : length (image B) ≤ longestPlan
   -- its orders are a choice that makes the book well-moded: every reached pattern of an outside predicate fits what the book declares
   pub choice· : Orderable B → IsChoice B (chosen B)
   pub wellModed : Orderable B → WellModed B (chosen B)

@@ -5,11 +5,12 @@ use mathlib.Core.List.{List, [], _∷_}
 use Prim.Native.Nat.{ℕ, zero, suc}
 use lib.ListN.{length}
 use Rattle.masks.specs.Set.{bitAt}
+use Rattle.masks.specs.Patterns.{EachLane}
 use Rattle.book.specs.Book.{Call}
-use Rattle.ordering.specs.Adorn.{Table}
+use Rattle.book.specs.Table.{Table}
 use Rattle.ordering.specs.Orders.{count}
 use Rattle.ordering.specs.Good.{readyAt, afterAt, goodFrom}
-use Rattle.lanes.specs.Lanes.{EachLane, lane}
+use Rattle.lanes.specs.Lanes.{lane}
 use Rattle.lanes.specs.declared.Pass.{Pass}
 
 -- `ready b p`: the place p can be taken at the state b; `after b p` is the state then

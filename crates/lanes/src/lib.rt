@@ -6,41 +6,27 @@ use book::clause::subgoal_at;
 use book::clause::subgoals_at;
 use book::limits::LAST_VARIABLE;
 use book::limits::LITERAL;
-use book::limits::MAX_ARGUMENTS;
 use book::limits::MODES_SIZE;
 use book::limits::RULES_SIZE;
 use book::limits::VARIABLES;
-use book::mode::mode_at;
-use masks::constraint::Constraint;
-use masks::constraint::count;
+use book::mode::masks_at;
+use masks::limits::MAX_ARGUMENTS;
+use masks::patterns::ALL;
+use masks::patterns::COLUMNS;
+use masks::patterns::fit_lanes;
 ghost use mathlib.Core.Path.{_≡_};
 ghost use mathlib.Core.Bool.{true};
-ghost use Prim.Native.Nat.{ℕ, _<_, _≤_};
-ghost use Rattle.masks.specs.Limits.{allPatterns};
-ghost use Rattle.masks.specs.Mask.{within};
-ghost use Rattle.masks.specs.Constraint.{admits, inRange};
-ghost use Rattle.masks.specs.Held.{masksOf};
+ghost use Prim.Native.Nat.{_<_, _≤_};
 ghost use Rattle.masks.specs.Set.{bitAt};
+ghost use Rattle.masks.specs.Patterns.{EachLane, Agrees};
 ghost use Rattle.book.specs.Limits.{maxPredicates, maxClauses};
 ghost use Rattle.book.specs.Held.{callOf, clauseAt};
-ghost use Rattle.ordering.specs.Adorn.{isBound, patternOf, headBound};
-ghost use Rattle.ordering.specs.Good.{goodClause};
-ghost use Rattle.ordering.specs.Held.{tableIn, Low, callsBelow};
-ghost use Rattle.lanes.specs.Lanes.{EachLane, lane, Agrees, Binds};
+ghost use Rattle.book.specs.Table.{tableIn, Low};
+ghost use Rattle.book.specs.Sets.{callsBelow};
+ghost use Rattle.ordering.specs.Adorn.{isBound, patternOf, headBound, ready};
+ghost use Rattle.ordering.specs.Good.{firstGood, isSome, goodClause};
+ghost use Rattle.lanes.specs.Lanes.{lane, Binds};
 ghost use Rattle.lanes.specs.Passes.{Passed};
-
-// All lanes.
-const ALL: u64 = 0xFFFF_FFFF_FFFF_FFFF;
-
-// Word i: the lanes whose pattern has bit i.
-const COLUMNS: [u64; MAX_ARGUMENTS] = [
-    0xAAAA_AAAA_AAAA_AAAA,
-    0xCCCC_CCCC_CCCC_CCCC,
-    0xF0F0_F0F0_F0F0_F0F0,
-    0xFF00_FF00_FF00_FF00,
-    0xFFFF_0000_FFFF_0000,
-    0xFFFF_FFFF_0000_0000,
-];
 
 // What a pass over the subgoals comes to: the lanes in which each was ready in its turn, and whether any variable became bound.
 pub struct Pass {
@@ -48,22 +34,33 @@ pub struct Pass {
     pub moved: bool,
 }
 
-// The head patterns under which clause k is good, bit a for pattern a. Passes go over the subgoals as they stand, each of which is placed in the
-// lanes in which it is ready; a pass that binds nothing is the last, and so is the one that has as many before it as there are other subgoals.
+// The head patterns under which clause k is good, bit a for pattern a.
 pub fn good_lanes<'a>(rules: &'a [u64; RULES_SIZE], k: usize, table: &'a [u8; MODES_SIZE]) -> u64
     requires { ⌜ (k ≤ maxClauses) × (callsBelow maxPredicates (clauseAt (now rules) k .body) ≡ true) × Low (now table) ⌝ }
     ensures { λ r. ⌜ EachLane (λ a. bitAt r a ≡ goodClause (tableIn (now (table .entry)) maxPredicates) (clauseAt (now (rules .entry)) k) a) ⌝ }
 {
-    let n = subgoals_at(rules, k);
     let head = head_at(rules, k);
     let mut vars = head_lanes(head);
+    body_lanes(rules, k, table, &mut vars)
+}
+
+// The lanes in which the subgoals of clause k have a good order, with these variables bound at the start. Passes go over the subgoals as they stand,
+// each of which is placed in the lanes in which it is ready; a pass that binds nothing is the last, and so is the one that has as many before it as
+// there are other subgoals.
+fn body_lanes<'a>(
+    rules: &'a [u64; RULES_SIZE],
+    k: usize,
+    table: &'a [u8; MODES_SIZE],
+    vars: &mut [u64; VARIABLES],
+) -> u64
+    requires { ⌜ (k ≤ maxClauses) × (callsBelow maxPredicates (clauseAt (now rules) k .body) ≡ true) × Low (now table) ⌝ }
+    ensures { λ r. ⌜ EachLane (λ a. bitAt r a ≡ isSome (firstGood (tableIn (now (table .entry)) maxPredicates) (clauseAt (now (rules .entry)) k .body) (lane a (now (vars .entry))))) ⌝ }
+{
+    let n = subgoals_at(rules, k);
     let mut passes: usize = 1;
     loop {
-        let p = one_pass(rules, k, table, &mut vars);
-        if !p.moved {
-            return p.good;
-        }
-        if n <= passes {
+        let p = one_pass(rules, k, table, vars);
+        if !p.moved || n <= passes {
             return p.good;
         }
         passes += 1;
@@ -86,8 +83,7 @@ fn one_pass<'a>(
     let mut j: usize = 0;
     while j < n {
         let s = subgoal_at(rules, k, j);
-        let c = mode_at(table, s.pred);
-        let r = ready_lanes(s, c, vars);
+        let r = ready_lanes(s, table, vars);
         good = good & r;
         if bind_lanes(s, r, vars) {
             moved = true;
@@ -116,20 +112,12 @@ fn head_lanes(head: Call) -> [u64; VARIABLES]
 }
 
 // The lanes in which the call can be made.
-fn ready_lanes(s: Call, c: Constraint, vars: &[u64; VARIABLES]) -> u64
-    requires { ⌜ inRange allPatterns (masksOf c) ≡ true ⌝ }
-    ensures { λ r. ⌜ EachLane (λ a. bitAt r a ≡ admits (masksOf c) (patternOf (lane a (now (vars .entry))) (callOf s .args))) ⌝ }
+fn ready_lanes(s: Call, table: &[u8; MODES_SIZE], vars: &[u64; VARIABLES]) -> u64
+    requires { ⌜ (callOf s .pred < maxPredicates) × Low (now table) ⌝ }
+    ensures { λ r. ⌜ EachLane (λ a. bitAt r a ≡ ready (tableIn (now (table .entry)) maxPredicates) (lane a (now (vars .entry))) (callOf s)) ⌝ }
 {
     let words = pattern_lanes(s, vars);
-    let n = count(c);
-    let mut r: u64 = 0;
-    let mut i: usize = 0;
-    while i < n {
-        let m = c.masks[i];
-        r = r | mask_lanes(m, &words);
-        i += 1;
-    }
-    r
+    fit_lanes(masks_at(table, s.pred), &words)
 }
 
 // Word i: the lanes whose pattern has bit i.
@@ -161,24 +149,9 @@ fn arg_lanes(v: u8, vars: &[u64; VARIABLES]) -> u64
     0
 }
 
-// The lanes whose pattern has all the bits of the mask. Each turn takes the lowest bit that is left.
-fn mask_lanes(mask: u8, words: &[u64; MAX_ARGUMENTS]) -> u64
-    requires { ⌜ mask < allPatterns ⌝ }
-    ensures { λ r. ⌜ EachLane (λ a. (p : ℕ) → Agrees (now (words .entry)) a p → bitAt r a ≡ within mask p) ⌝ }
-{
-    let mut w = ALL;
-    let mut m = mask;
-    while m != 0 {
-        let i = u8::trailing_zeros(m) as usize;
-        w = w & words[i];
-        m = m & (m - 1);
-    }
-    w
-}
-
 // The variables of the subgoal are bound in the lanes of r. Says whether that bound any.
 fn bind_lanes(s: Call, r: u64, vars: &mut [u64; VARIABLES]) -> bool
-    ensures { λ m. ⌜ Binds (callOf s .args) r (now (vars .entry)) (now (vars .exit)) m ⌝ }
+    ensures { λ m. ⌜ Binds (callOf s) r (now (vars .entry)) (now (vars .exit)) m ⌝ }
 {
     let n = arguments(s);
     let mut moved = false;

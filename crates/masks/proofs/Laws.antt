@@ -14,3 +14,4 @@ pub mod Joining
 pub mod Examples
 pub mod Members
 pub mod Words
+pub mod Patterns

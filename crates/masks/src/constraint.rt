@@ -11,7 +11,7 @@ ghost use lib.ListN.{length};
 ghost use lib.Seq.{sets};
 ghost use Rattle.masks.specs.Limits.{maxArity, allPatterns};
 ghost use Rattle.masks.specs.Lists.{has};
-ghost use Rattle.masks.specs.Constraint.{admits, inRange, written, minimise, sameMasks};
+ghost use Rattle.masks.specs.Constraint.{admits, inRange, written, minimise};
 ghost use Rattle.masks.specs.Held.{masksOf, packed};
 ghost use Rattle.masks.specs.Set.{bitAt, Holds};
 
@@ -40,24 +40,6 @@ pub fn count(c: Constraint) -> usize
 {
     let n = c.n as usize;
     if n < MAX_MASKS { n } else { MAX_MASKS }
-}
-
-// Two constraints have the same masks.
-pub fn same(c: Constraint, d: Constraint) -> bool
-    ensures { λ r. ⌜ r ≡ sameMasks (masksOf c) (masksOf d) ⌝ }
-{
-    let n = count(c);
-    if n != count(d) {
-        return false;
-    }
-    let mut i: usize = 0;
-    while i < n {
-        if c.masks[i] != d.masks[i] {
-            return false;
-        }
-        i += 1;
-    }
-    true
 }
 
 // The written form of a list of masks in any order, with repeats.

@@ -1,7 +1,9 @@
 // Patterns and constraints. Here are the two public operations, the choice and the joint of two constraints, and what they call; constraints by
-// value and their written form are in `constraint`, the answer that every operation gives in `reply`, the numbers in `limits`.
+// value and their written form are in `constraint`, all patterns tried at once in `patterns`, the answer that every operation gives in `reply`, the
+// numbers in `limits`.
 pub mod constraint;
 pub mod limits;
+pub mod patterns;
 pub mod reply;
 
 use crate::constraint::Constraint;

@@ -2,23 +2,19 @@
 use mathlib.Core.Path.{_≡_}
 use mathlib.Core.Bool.{Bool, true, false, not}
 use mathlib.Core.List.{List}
-use Prim.Native.Nat.{ℕ, _<_}
+use Prim.Native.Nat.{ℕ, _^_, _<_}
 use lib.ListN.{length, getD}
 use Rattle.masks.specs.Set.{bitAt}
-use Rattle.masks.specs.Constraint.{sameMasks}
+use Rattle.masks.specs.Constraint.{isWritten, sameMasks}
 use Rattle.book.specs.Limits.{maxPredicates, maxClauses}
 use Rattle.book.specs.Book.{Book}
 use Rattle.book.specs.Encode.{WellFormed}
 use Rattle.book.specs.Held.{clauseAt, clausesOf}
-use Rattle.ordering.specs.Adorn.{Table}
+use Rattle.book.specs.Table.{Table, entry, entryIn, tableIn, Low}
+use Rattle.book.specs.Sets.{Owns}
 use Rattle.ordering.specs.Good.{goodClause}
-use Rattle.ordering.specs.Held.{entryIn, tableIn, Low, callsBelow}
-use Rattle.tables.specs.Table.{entry, defined, step}
-use Rattle.needs.specs.Sets.{eachIn, Owns}
-
--- every clause of a set can be tried: it calls predicates that there can be
-abbrev pub Callable : List ℕ → ℕ → Type 0
-Callable rules own = (k : ℕ) → k < maxClauses → bitAt own k ≡ true → callsBelow maxPredicates (clauseAt rules k .body) ≡ true
+use Rattle.tables.specs.Table.{defined, step}
+use Rattle.needs.specs.Sets.{eachIn}
 
 -- the clauses of a set are all good under a head pattern
 abbrev pub allGood : List ℕ → ℕ → List ℕ → ℕ → Bool
@@ -31,14 +27,15 @@ pub record Given (B : Book) (arities rules own : List ℕ) : Type 0 where
   pub clauses· : clausesOf rules (length (B .clauses)) ≡ B .clauses
   pub owns : Owns rules (length (B .clauses)) own
 
--- the predicates due have clauses, and a round gives the others what they have
+-- the predicates due have clauses and a constraint in written form, and a round gives the others what they have
 pub record Due (B : Book) (T : Table) (due : ℕ) : Type 0 where
   pub defined· : (p : ℕ) → bitAt due p ≡ true → defined (B .clauses) p ≡ true
-  pub others : (p : ℕ) → p < length (B .arities) → bitAt due p ≡ false → entry (step (B .arities) (B .clauses) T) p ≡ entry T p
+  pub written· : (p : ℕ) → p < length (B .arities) → bitAt due p ≡ true → isWritten (2 ^ getD (B .arities) p 0) (entry T p) ≡ true
+  pub others : (p : ℕ) → p < length (B .arities) → bitAt due p ≡ false → entry (step B T) p ≡ entry T p
 
 -- the table after a round, and the predicates whose constraint is another one
 pub record Stepped (B : Book) (old new : List ℕ) (changed : ℕ) : Type 0 where
-  pub table : tableIn new (length (B .arities)) ≡ step (B .arities) (B .clauses) (tableIn old (length (B .arities)))
+  pub table : tableIn new (length (B .arities)) ≡ step B (tableIn old (length (B .arities)))
   pub low : Low new
   pub changed· : (p : ℕ) → p < maxPredicates → bitAt changed p ≡ not (sameMasks (entryIn new p) (entryIn old p))
   pub within : (p : ℕ) → bitAt changed p ≡ true → p < length (B .arities)

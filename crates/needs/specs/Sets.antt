@@ -1,14 +1,12 @@
 -- Sets of predicates and of clauses, held in words: a number is in the set where its bit is set. Every definition computes. Assumes nothing.
-use mathlib.Core.Path.{_≡_}
 use mathlib.Core.Bool.{Bool, true, false, cond, _&&_, _||_}
 use mathlib.Core.List.{List}
 use Prim.Native.Nat.{ℕ, zero, suc, _<_}
-use lib.Dec.{eqb, ltb}
+use lib.Dec.{eqb}
 use lib.ListN.{getD}
 use Rattle.masks.specs.Set.{bitAt, Holds}
 use Rattle.book.specs.Limits.{maxPredicates}
 use Rattle.book.specs.Held.{clauseAt, clausesOf}
-use Rattle.ordering.specs.Held.{callsBelow}
 use Rattle.tables.specs.Calls.{calls, touched}
 
 -- f holds of every member below n
@@ -21,18 +19,9 @@ abbrev pub someIn : ℕ → (ℕ → Bool) → ℕ → Bool
 someIn set f zero = false
 someIn set f (suc n) = someIn set f n || cond (bitAt set n) (f n) false
 
--- a set of clauses for each predicate: of the first n clauses those that are its own
-abbrev pub Owns : List ℕ → ℕ → List ℕ → Type 0
-Owns rules n own = (p : ℕ) → p < maxPredicates → Holds (getD own p 0) (λ k. ltb k n && eqb (clauseAt rules k .head .pred) p)
-
 -- a set of predicates for each predicate: of the first n clauses' those that call it
 abbrev pub Calling : List ℕ → ℕ → List ℕ → Type 0
 Calling rules n callers = (q : ℕ) → q < maxPredicates → Holds (getD callers q 0) (touched (eqb q) (clausesOf rules n))
-
--- the heads and the subgoals of the first n clauses are of predicates that there can be
-pub record Known (rules : List ℕ) (n : ℕ) : Type 0 where
-  pub heads : (k : ℕ) → k < n → clauseAt rules k .head .pred < maxPredicates
-  pub bodies : (k : ℕ) → k < n → callsBelow maxPredicates (clauseAt rules k .body) ≡ true
 
 -- one clause more: its head's predicate calls those of its subgoals
 abbrev pub Added : List ℕ → ℕ → List ℕ → List ℕ → Type 0

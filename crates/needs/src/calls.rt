@@ -12,25 +12,9 @@ ghost use lib.ListN.{getD};
 ghost use Rattle.masks.specs.Set.{bitAt, Holds};
 ghost use Rattle.book.specs.Limits.{maxPredicates, maxClauses};
 ghost use Rattle.book.specs.Held.{clauseAt, clausesOf};
-ghost use Rattle.ordering.specs.Held.{callsBelow};
+ghost use Rattle.book.specs.Sets.{callsBelow, Known};
 ghost use Rattle.tables.specs.Table.{defined};
-ghost use Rattle.needs.specs.Sets.{someIn, Owns, Calling, Known, Added};
-
-// The clauses of each predicate.
-pub fn own_clauses(clauses: u8, rules: &[u64; RULES_SIZE]) -> [u64; MAX_PREDICATES]
-    requires { ⌜ (clauses ≤ maxClauses) × Known (now rules) clauses ⌝ }
-    ensures { λ r. ⌜ Owns (now (rules .entry)) clauses r ⌝ }
-{
-    let mut own = [0u64; MAX_PREDICATES];
-    let mut k: u8 = 0;
-    while k < clauses {
-        let h = head_at(rules, k as usize);
-        let p = h.pred as usize;
-        own[p] = with_member(own[p], k);
-        k += 1;
-    }
-    own
-}
+ghost use Rattle.needs.specs.Sets.{someIn, Calling, Added};
 
 // The predicates that have clauses.
 pub fn heads(clauses: u8, rules: &[u64; RULES_SIZE]) -> u64

@@ -2,36 +2,22 @@
 use book::limits::MAX_PREDICATES;
 use book::limits::MODES_SIZE;
 use book::limits::RULES_SIZE;
-use book::mode::mode_at;
+use book::mode::masks_at;
 use book::mode::put_mode;
+use book::table::Table;
 use lanes::good_lanes;
-use masks::constraint::Constraint;
-use masks::constraint::same;
 use masks::constraint::with_member;
 use masks::constraint::written;
-use tables::Table;
-ghost use mathlib.Core.Path.{_≡_};
+use masks::patterns::admitted;
+use masks::patterns::of_arity;
 ghost use mathlib.Core.Bool.{_&&_};
 ghost use Prim.Native.Nat.{_^_, _≤_};
 ghost use lib.Dec.{ltb};
 ghost use Rattle.masks.specs.Limits.{maxArity};
-ghost use Rattle.masks.specs.Constraint.{written};
-ghost use Rattle.masks.specs.Held.{packed};
-ghost use Rattle.masks.specs.Set.{bitAt};
-ghost use Rattle.ordering.specs.Held.{Low};
-ghost use Rattle.lanes.specs.Lanes.{EachLane};
-ghost use Rattle.needs.specs.Round.{Callable, allGood, Ready, Rounds};
-
-// All patterns of an arity, as a set.
-const PATTERNS: [u64; 7] = [
-    0x1,
-    0x3,
-    0xF,
-    0xFF,
-    0xFFFF,
-    0xFFFF_FFFF,
-    0xFFFF_FFFF_FFFF_FFFF,
-];
+ghost use Rattle.masks.specs.Set.{Holds};
+ghost use Rattle.book.specs.Table.{Low};
+ghost use Rattle.book.specs.Sets.{Callable};
+ghost use Rattle.needs.specs.Round.{allGood, Ready, Rounds};
 
 // A table after a round, and the predicates whose constraint is another one than before.
 pub struct After {
@@ -40,7 +26,8 @@ pub struct After {
 }
 
 // "A round reads only the table before it": it takes the table by value, builds a new one and compares both, and the old one stays intact. Only
-// the predicates due are looked at; the others have in the old table what they get.
+// the predicates due are looked at; the others have in the old table what they get. Both are compared by the patterns that they admit: where these are
+// the same, so are the masks.
 pub fn round<'a>(
     arities: &'a [u8; MAX_PREDICATES],
     rules: &'a [u64; RULES_SIZE],
@@ -58,9 +45,10 @@ pub fn round<'a>(
         let p = u64::trailing_zeros(rest) as u8;
         rest = rest & (rest - 1);
         let q = p as usize;
-        let c = next_need(arities[q], rules, own[q], &old.needs);
-        let d = mode_at(&old.needs, p);
-        if !same(c, d) {
+        let good = good_patterns(arities[q], rules, own[q], &old.needs);
+        let had = admitted(masks_at(&old.needs, p), arities[q]);
+        if good != had {
+            let c = written(good);
             put_mode(&mut new.needs, p, c);
             changed = with_member(changed, p);
         }
@@ -71,19 +59,6 @@ pub fn round<'a>(
     }
 }
 
-// The constraint of a predicate of so many positions that has these clauses: the joint over them.
-fn next_need<'a>(
-    arity: u8,
-    rules: &'a [u64; RULES_SIZE],
-    own: u64,
-    table: &'a [u8; MODES_SIZE],
-) -> Constraint
-    requires { ⌜ (arity ≤ maxArity) × Callable (now rules) own × Low (now table) ⌝ }
-    ensures { λ r. ⌜ r ≡ packed (written (allGood (now (rules .entry)) own (now (table .entry))) (2 ^ arity)) ⌝ }
-{
-    written(good_patterns(arity, rules, own, table))
-}
-
 // "A predicate's pattern is good when all its clauses are good under it": those patterns, as a set.
 fn good_patterns<'a>(
     arity: u8,
@@ -92,9 +67,9 @@ fn good_patterns<'a>(
     table: &'a [u8; MODES_SIZE],
 ) -> u64
     requires { ⌜ (arity ≤ maxArity) × Callable (now rules) own × Low (now table) ⌝ }
-    ensures { λ r. ⌜ EachLane (λ a. bitAt r a ≡ (ltb a (2 ^ arity) && allGood (now (rules .entry)) own (now (table .entry)) a)) ⌝ }
+    ensures { λ r. ⌜ Holds r (λ a. ltb a (2 ^ arity) && allGood (now (rules .entry)) own (now (table .entry)) a) ⌝ }
 {
-    let mut set = PATTERNS[arity as usize];
+    let mut set = of_arity(arity);
     let mut rest = own;
     while rest != 0 {
         let k = u64::trailing_zeros(rest) as usize;

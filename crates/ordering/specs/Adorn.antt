@@ -8,10 +8,7 @@ use lib.Dec.{eqb, ltb}
 use lib.ListN.{getD, set, replicate}
 use Rattle.masks.specs.Constraint.{admits}
 use Rattle.book.specs.Book.{Call}
-
--- the constraint of each predicate, as its masks
-abbrev pub Table : Type 0
-Table = List (List ℕ)
+use Rattle.book.specs.Table.{Table, entry}
 
 -- "0 to 15 is a variable of that clause or query": which of the 16 are bound
 abbrev pub variables : ℕ
@@ -65,7 +62,7 @@ headBound head a = bindHead nothing head a
 
 -- its pattern fits the constraint of its predicate
 unfoldable pub ready : Table → Bound → Call → Bool
-ready T b s = admits (getD T (s .pred) []) (patternOf b (s .args))
+ready T b s = admits (entry T (s .pred)) (patternOf b (s .args))
 
 -- "After the whole subgoal all its variables become bound"
 unfoldable pub after : Bound → Call → Bound

@@ -1,17 +1,18 @@
 -- Good orders and good clauses. Document 01: "A clause is good under a head pattern when some order makes every subgoal's pattern fit the
 -- constraint of its predicate." Every definition computes. Assumes nothing.
 use mathlib.Core.Bool.{Bool, true, false}
-use mathlib.Core.List.{List, []}
+use mathlib.Core.List.{List}
 use mathlib.Core.Option.{Option, none, some}
 use Prim.Native.Nat.{ℕ}
 use lib.ListN.{length, getD}
-use Rattle.book.specs.Book.{Call, Clause}
-use Rattle.ordering.specs.Adorn.{Table, Bound, headBound, ready, after}
+use Rattle.book.specs.Book.{Call, noCall, Clause}
+use Rattle.book.specs.Table.{Table}
+use Rattle.ordering.specs.Adorn.{Bound, headBound, ready, after}
 use Rattle.ordering.specs.Turns as turns
 
 -- the subgoal at a place (past the end: a call that says nothing, at a place that no order has)
 unfoldable pub at : List Call → ℕ → Call
-at body p = getD body p (record { pred = 0; args = [] })
+at body p = getD body p noCall
 
 abbrev pub readyAt : Table → List Call → Bound → ℕ → Bool
 readyAt T body b p = ready T b (at body p)

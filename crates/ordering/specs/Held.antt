@@ -1,37 +1,15 @@
--- How the code holds a table and an order. Assumes nothing.
+-- How the code holds an order. Assumes nothing.
 use mathlib.Core.Path.{_≡_}
-use mathlib.Core.Bool.{Bool, true, false, not, cond, _&&_}
+use mathlib.Core.Bool.{Bool, false, not, cond, _&&_}
 use mathlib.Core.List.{List, []}
 use mathlib.Core.Option.{Option, none, some}
 use Prim.Native.Nat.{ℕ, _<_}
-use lib.Dec.{ltb}
 use lib.ListN.{length, getD, take}
-use Rattle.masks.specs.Limits.{allPatterns}
-use Rattle.masks.specs.Lists.{all, values}
-use Rattle.masks.specs.Constraint.{inRange}
-use Rattle.book.specs.Limits.{maxPredicates}
 use Rattle.book.specs.Book.{Call}
-use Rattle.book.specs.Held.{masksIn, modeBytes}
-use Rattle.ordering.specs.Adorn.{Table, Bound, patternOf}
+use Rattle.ordering.specs.Adorn.{Bound, patternOf}
 use Rattle.ordering.specs.Orders.{find, count}
 use Rattle.ordering.specs.Good.{at}
 use Rattle.ordering.specs.declared.Order.{Order}
-
--- a table is held as modes are: here each predicate has its masks
-abbrev pub entryIn : List ℕ → ℕ → List ℕ
-entryIn table p = masksIn (modeBytes table p)
-
--- the constraints of the first n predicates
-unfoldable pub tableIn : List ℕ → ℕ → Table
-tableIn table n = values (entryIn table) n
-
--- every mask is one of six positions
-abbrev pub Low : List ℕ → Type 0
-Low table = (p : ℕ) → p < maxPredicates → inRange allPatterns (entryIn table p) ≡ true
-
--- the subgoals call predicates below n
-unfoldable pub callsBelow : ℕ → List Call → Bool
-callsBelow n body = all (λ c. ltb (c .pred) n) body
 
 -- an order, if one was found: the first n of its places
 abbrev pub orderOf : Order → Option (List ℕ)

@@ -18,10 +18,12 @@ ghost use Prim.Native.Nat.{_≤_};
 ghost use lib.ListN.{length};
 ghost use Rattle.book.specs.Limits.{maxPredicates, maxClauses, maxSubgoals};
 ghost use Rattle.book.specs.Held.{callOf, clauseAt};
+ghost use Rattle.book.specs.Table.{tableIn};
+ghost use Rattle.book.specs.Sets.{callsBelow};
 ghost use Rattle.ordering.specs.Adorn.{isBound, bit, patternOf, bindVar, bindAll, headBound};
 ghost use Rattle.ordering.specs.Good.{readyAt, firstGood};
 ghost use Rattle.ordering.specs.Asks.{patternsIn};
-ghost use Rattle.ordering.specs.Held.{tableIn, callsBelow, orderOf, placesOf, patternsOf, picked, PatternAt};
+ghost use Rattle.ordering.specs.Held.{orderOf, placesOf, patternsOf, picked, PatternAt};
 
 // An order of the subgoals of a body, if one was found: the first n places of the array, and beside each the pattern that its subgoal has in its turn.
 pub struct Order {

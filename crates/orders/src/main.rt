@@ -4,8 +4,8 @@ mod stream;
 
 use crate::stream::read_input;
 use crate::stream::write_output;
+use book::limits::LONGEST_SHEET;
 use sheet::BOOK_SIZE;
-use sheet::SHEET_SIZE;
 use sheet::sheet;
 
 // "Above 6,962 bytes it judges the first 6,963": no more is read.
@@ -17,7 +17,7 @@ fn main() {
         return;
     }
     let n = input.n;
-    let mut text = [0u8; SHEET_SIZE];
+    let mut text = [0u8; LONGEST_SHEET];
     let r = sheet(&book[..n], &mut text);
     let k = r.value as usize;
     if !write_output(&text[..k]) {

@@ -14,11 +14,12 @@ use Rattle.book.specs.Limits.{maxPredicates, maxClauses}
 use Rattle.book.specs.Book.{Book}
 use Rattle.book.specs.Encode.{WellFormed}
 use Rattle.book.specs.Held.{clauseAt, clausesOf}
+use Rattle.book.specs.Table.{tableIn}
+use Rattle.book.specs.Sets.{Callable}
 use Rattle.ordering.specs.Adorn.{headBound}
 use Rattle.ordering.specs.Good.{firstGood}
-use Rattle.ordering.specs.Held.{tableIn, orNone}
+use Rattle.ordering.specs.Held.{orNone}
 use Rattle.tables.specs.Table.{sumBelow, final}
-use Rattle.needs.specs.Round.{Callable}
 use Rattle.choices.specs.Plan.{Row, encQuery, encRow, planned}
 
 -- ---- what is lent

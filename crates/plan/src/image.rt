@@ -21,9 +21,9 @@ ghost use lib.ListN.{length};
 ghost use Rattle.masks.specs.Limits.{allPatterns};
 ghost use Rattle.book.specs.Limits.{maxPredicates, maxClauses, maxSubgoals};
 ghost use Rattle.book.specs.Held.{clauseAt};
-ghost use Rattle.ordering.specs.Held.{placesOf, callsBelow};
+ghost use Rattle.book.specs.Sets.{callsBelow, Callable};
+ghost use Rattle.ordering.specs.Held.{placesOf};
 ghost use Rattle.writing.specs.Wrote.{Room, Wrote};
-ghost use Rattle.needs.specs.Round.{Callable};
 ghost use Rattle.choices.specs.Plan.{encQuery, encRow};
 ghost use Rattle.plan.specs.Lent.{EachCallable, rowBy, clauseRows, patternRows, planBytes, rowsLength, planLength};
 

@@ -3,6 +3,7 @@ pub mod image;
 
 use crate::image::plan_length;
 use crate::image::put_plan;
+use book::clause::own_clauses;
 use book::limits::MAX_CLAUSES;
 use book::limits::MAX_PREDICATES;
 use book::limits::MODES_SIZE;
@@ -10,7 +11,6 @@ use book::limits::NO_CALL;
 use book::limits::RULES_SIZE;
 use book::limits::VARIABLES;
 use masks::reply::Reply;
-use needs::calls::own_clauses;
 use needs::settle;
 use ordering::first_order;
 use reach::reach;

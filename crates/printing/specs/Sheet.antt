@@ -10,9 +10,10 @@ use Rattle.book.specs.Limits.{longest}
 use Rattle.book.specs.Book.{Book}
 use Rattle.book.specs.Format.{number, Judged, fault, book, judge}
 use Rattle.book.specs.Encode.{run}
+use Rattle.book.specs.Table.{entry}
 use Rattle.ordering.specs.Adorn.{nothing}
 use Rattle.ordering.specs.Good.{firstGood, isSome}
-use Rattle.tables.specs.Table.{entry, rounds, final}
+use Rattle.tables.specs.Table.{rounds, final}
 use Rattle.choices.specs.Plan.{Row, chosen, planRows}
 
 -- ---- lines

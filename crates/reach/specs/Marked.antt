@@ -12,10 +12,11 @@ use Rattle.masks.specs.Set.{bitAt}
 use Rattle.book.specs.Limits.{maxPredicates, maxClauses}
 use Rattle.book.specs.Book.{Call, Book}
 use Rattle.book.specs.Held.{clauseAt, clausesOf}
-use Rattle.ordering.specs.Adorn.{Table, Bound, nothing, headBound}
+use Rattle.book.specs.Table.{Table, tableIn}
+use Rattle.ordering.specs.Adorn.{Bound, nothing, headBound}
 use Rattle.ordering.specs.Good.{firstGood}
 use Rattle.ordering.specs.Asks.{Asked, asks, called}
-use Rattle.ordering.specs.Held.{tableIn, orNone}
+use Rattle.ordering.specs.Held.{orNone}
 use Rattle.choices.specs.Choice.{clause, Choice, Reaches}
 
 -- pattern a of predicate p is marked

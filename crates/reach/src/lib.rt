@@ -17,9 +17,8 @@ ghost use Prim.Native.Nat.{_<_, _≤_};
 ghost use lib.ListN.{getD};
 ghost use Rattle.book.specs.Limits.{maxPredicates, maxClauses};
 ghost use Rattle.book.specs.Held.{clauseAt};
-ghost use Rattle.ordering.specs.Held.{tableIn, callsBelow};
-ghost use Rattle.needs.specs.Sets.{Owns, Known};
-ghost use Rattle.needs.specs.Round.{Callable};
+ghost use Rattle.book.specs.Table.{tableIn};
+ghost use Rattle.book.specs.Sets.{callsBelow, Owns, Known, Callable};
 ghost use Rattle.reach.specs.Marked.{Marked, callsBy, clausesBy, patternsBy, ReachedIn};
 
 // "Patterns reached: those of the query's subgoals, and those of the subgoals of every clause of a reached predicate under a reached pattern", in the

@@ -8,6 +8,7 @@ use Rattle.book.specs.Limits.{maxPredicates, maxClauses}
 use Rattle.book.specs.Book.{Book}
 use Rattle.book.specs.Format.{number, turn, Judged, fault, book, judge}
 use Rattle.book.specs.Held.{modeAt, bookIn}
+use Rattle.book.specs.declared.mark.Mark.{Mark}
 use Rattle.book.specs.declared.mark.Mark.the-variants.{Sg}
 use Rattle.book.specs.declared.mark.Phase.{Phase}
 use Rattle.book.specs.declared.mark.Turn.the-variants.{Mine}
@@ -15,9 +16,10 @@ use Rattle.records.specs.declared.field.Found.{Found}
 use Rattle.records.specs.declared.field.Found.the-variants.{Next, Bad}
 use Rattle.reading.specs.declared.Reading.{Reading}
 
--- a run of subgoals
-abbrev pub Bodied : Phase → Type 0
-Bodied p = turn p Sg ≡ Mine
+-- a run of subgoals: SG begins its records, and no other mark does
+pub record Bodied (p : Phase) : Type 0 where
+  pub own : turn p Sg ≡ Mine
+  pub sole : (m : Mark) → turn p m ≡ Mine → m ≡ Sg
 
 -- no predicate has MO
 abbrev pub NoModes : List ℕ → Type 0

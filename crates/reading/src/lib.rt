@@ -29,8 +29,8 @@ ghost use Prim.Native.Nat.{suc, _+_, _≤_};
 ghost use lib.ListN.{length, take, drop};
 ghost use Rattle.book.specs.Limits.{maxPredicates, maxClauses, maxSubgoals};
 ghost use Rattle.book.specs.Format as format;
-ghost use Rattle.book.specs.Held.{callOf, clauseOf, clausesOf, modesOf, bookIn};
-ghost use Rattle.records.specs.Found.{Reads, Arities, counted};
+ghost use Rattle.book.specs.Held.{callOf, clauseOf, clauseAt, clausesOf, StoredClause, modesOf, bookIn};
+ghost use Rattle.records.specs.Found.{Reads, Arities};
 ghost use Rattle.reading.specs.Judged.{NoModes, Bodied, Listed, checked, AnswerTo, BookRead};
 
 // What reading a book comes to: what the check answers, and how many predicates and clauses the book has where that is 0.
@@ -38,6 +38,12 @@ pub struct Reading {
     pub reply: Reply,
     pub preds: u8,
     pub clauses: u8,
+}
+
+// A run of records, where one was found: how many there are.
+pub struct FoundRun {
+    pub found: Found,
+    pub n: usize,
 }
 
 // A clause, where one was found.
@@ -67,18 +73,22 @@ pub fn read_book(
     ensures { λ r. ⌜ BookRead (now (s .entry)) r (now (arities .exit)) (now (modes .exit)) (now (rules .exit)) ⌝ }
 {
     let p = read_predicates(s, arities);
-    let Found::Next(at, preds) = p else {
+    let preds = p.n as u8;
+    let g = p.found;
+    let Found::Next(at, _) = g else {
         return Reading {
-            reply: answer(p),
-            preds: 0,
+            reply: answer(g),
+            preds,
             clauses: 0,
         };
     };
     let r = read_rules(s, arities, preds, at, modes, rules);
+    let clauses = r.n as u8;
+    let found = r.found;
     Reading {
-        reply: answer(r),
+        reply: answer(found),
         preds,
-        clauses: count(r),
+        clauses,
     }
 }
 
@@ -96,16 +106,6 @@ fn answer(g: Found) -> Reply
     }
 }
 
-// The number that was answered; 0 with a fault.
-fn count(g: Found) -> u8
-    ensures { λ r. ⌜ r ≡ counted g ⌝ }
-{
-    match g {
-        Found::Bad(_, _) => 0,
-        Found::Next(_, n) => n,
-    }
-}
-
 // What follows the predicates: the modes, the clauses and the query; how many clauses there are.
 fn read_rules<'a>(
     s: &'a [u8],
@@ -114,47 +114,45 @@ fn read_rules<'a>(
     from: usize,
     modes: &mut [u8; MODES_SIZE],
     rules: &mut [u64; RULES_SIZE],
-) -> Found
+) -> FoundRun
     requires { ⌜ (from ≤ length (now s)) × (preds ≤ maxPredicates) × Arities (take preds (now arities)) × NoModes (now modes) ⌝ }
-    ensures { λ r. ⌜ Reads (now (s .entry)) r (λ n. bookIn preds (now (arities .entry)) (now (modes .exit)) n (now (rules .exit))) (format.rules (take preds (now (arities .entry))) (drop from (now (s .entry)))) ⌝ }
-    ensures { λ r. ⌜ counted r ≤ maxClauses ⌝ }
+    ensures { λ r. ⌜ Reads (now (s .entry)) (r .found) (λ _. bookIn preds (now (arities .entry)) (now (modes .exit)) (r .n) (now (rules .exit))) (format.rules (take preds (now (arities .entry))) (drop from (now (s .entry)))) ⌝ }
+    ensures { λ r. ⌜ r .n ≤ maxClauses ⌝ }
 {
     let bytes: &[u8] = arities;
     let n = preds as usize;
     let ar = &bytes[..n];
     let m = read_modes(s, ar, from, modes);
     let Found::Next(at, _) = m else {
-        return m;
+        return FoundRun { found: m, n: 0 };
     };
     let c = read_clauses(s, ar, modes, at, rules);
-    let Found::Next(end, clauses) = c else {
+    let g = c.found;
+    let Found::Next(end, _) = g else {
         return c;
     };
-    let q = read_body(s, ar, end + 2, Phase::Query, no_call());
-    let query = q.clause;
-    put_clause(rules, MAX_CLAUSES, query);
-    let g = q.found;
-    match g {
-        Found::Bad(_, _) => g,
-        Found::Next(last, _) => Found::Next(last, clauses),
-    }
+    let found = read_query(s, ar, end, rules);
+    FoundRun { found, n: c.n }
 }
 
 // "all `PR`": how many there are, and their arities.
-fn read_predicates(s: &[u8], arities: &mut [u8; MAX_PREDICATES]) -> Found
-    ensures { λ r. ⌜ Reads (now (s .entry)) r (λ n. take n (now (arities .exit))) (format.many Phase.Predicates format.predicate maxPredicates [] (now (s .entry))) × Listed (counted r) (now (arities .exit)) ⌝ }
+fn read_predicates(s: &[u8], arities: &mut [u8; MAX_PREDICATES]) -> FoundRun
+    ensures { λ r. ⌜ Reads (now (s .entry)) (r .found) (λ _. take (r .n) (now (arities .exit))) (format.many Phase.Predicates format.predicate maxPredicates [] (now (s .entry))) × Listed (r .n) (now (arities .exit)) ⌝ }
 {
     let bytes: &mut [u8] = arities;
     let mut at: usize = 0;
     let mut n: usize = 0;
     while is_mark(s, at, b"PR") {
         if MAX_PREDICATES <= n {
-            return Found::Bad(Fault::TooMany, at);
+            return FoundRun {
+                found: Found::Bad(Fault::TooMany, at),
+                n,
+            };
         }
         let g = read_predicate(s, at);
         match g {
             Found::Bad(_, _) => {
-                return g;
+                return FoundRun { found: g, n };
             }
             Found::Next(next, arity) => {
                 bytes[n] = arity;
@@ -163,7 +161,10 @@ fn read_predicates(s: &[u8], arities: &mut [u8; MAX_PREDICATES]) -> Found
             }
         }
     }
-    run_end(s, at, Phase::Predicates, n as u8)
+    FoundRun {
+        found: run_end(s, at, Phase::Predicates),
+        n,
+    }
 }
 
 // "then all `MO`", into modes that are none yet.
@@ -188,7 +189,7 @@ fn read_modes(s: &[u8], ar: &[u8], from: usize, modes: &mut [u8; MODES_SIZE]) ->
             }
         }
     }
-    run_end(s, at, Phase::Modes, 0)
+    run_end(s, at, Phase::Modes)
 }
 
 // "then clauses": how many there are, stored from the start of the rules.
@@ -198,22 +199,25 @@ fn read_clauses(
     modes: &[u8; MODES_SIZE],
     from: usize,
     rules: &mut [u64; RULES_SIZE],
-) -> Found
+) -> FoundRun
     requires { ⌜ (from ≤ length (now s)) × Arities (now ar) ⌝ }
-    ensures { λ r. ⌜ Reads (now (s .entry)) r (λ n. clausesOf (now (rules .exit)) n) (format.many Phase.Clauses (format.clause (now (ar .entry)) (modesOf (now (modes .entry)) maxPredicates)) maxClauses [] (drop from (now (s .entry)))) × (counted r ≤ maxClauses) ⌝ }
+    ensures { λ r. ⌜ Reads (now (s .entry)) (r .found) (λ _. clausesOf (now (rules .exit)) (r .n)) (format.many Phase.Clauses (format.clause (now (ar .entry)) (modesOf (now (modes .entry)) maxPredicates)) maxClauses [] (drop from (now (s .entry)))) × (r .n ≤ maxClauses) ⌝ }
 {
     let mut at = from;
     let mut n: usize = 0;
     while is_mark(s, at, b"CL") {
         if MAX_CLAUSES <= n {
-            return Found::Bad(Fault::TooMany, at);
+            return FoundRun {
+                found: Found::Bad(Fault::TooMany, at),
+                n,
+            };
         }
         let r = read_clause(s, ar, modes, at);
         let g = r.found;
         let clause = r.clause;
         match g {
             Found::Bad(_, _) => {
-                return g;
+                return FoundRun { found: g, n };
             }
             Found::Next(next, _) => {
                 put_clause(rules, n, clause);
@@ -222,7 +226,10 @@ fn read_clauses(
             }
         }
     }
-    run_end(s, at, Phase::Clauses, n as u8)
+    FoundRun {
+        found: run_end(s, at, Phase::Clauses),
+        n,
+    }
 }
 
 // The clause whose record is at a place, with its subgoals.
@@ -237,6 +244,18 @@ fn read_clause(s: &[u8], ar: &[u8], modes: &[u8; MODES_SIZE], at: usize) -> Foun
         Found::Bad(_, _) => no_clause(g, head),
         Found::Next(next, _) => read_body(s, ar, next, Phase::Body, head),
     }
+}
+
+// The query whose record is at a place, stored behind the room of the clauses as a clause whose head says nothing.
+fn read_query<'a>(s: &'a [u8], ar: &'a [u8], at: usize, rules: &mut [u64; RULES_SIZE]) -> Found
+    requires { ⌜ (at + 2 ≤ length (now s)) × Arities (now ar) ⌝ }
+    ensures { λ r. ⌜ Reads (now (s .entry)) r (λ _. clauseAt (now (rules .exit)) maxClauses .body) (format.query (now (ar .entry)) (drop at (now (s .entry)))) ⌝ }
+    ensures { λ r. ⌜ StoredClause (now (rules .entry)) (now (rules .exit)) maxClauses (clauseAt (now (rules .exit)) maxClauses) ⌝ }
+{
+    let q = read_body(s, ar, at + 2, Phase::Query, no_call());
+    let query = q.clause;
+    put_clause(rules, MAX_CLAUSES, query);
+    q.found
 }
 
 // The subgoals of a clause or of the query, from a place on, as a clause with this head.
@@ -268,7 +287,7 @@ fn read_body(s: &[u8], ar: &[u8], from: usize, phase: Phase, head: Call) -> Foun
     }
     let count = n as u8;
     FoundClause {
-        found: run_end(s, at, phase, count),
+        found: run_end(s, at, phase),
         clause: Clause {
             n: count,
             head,

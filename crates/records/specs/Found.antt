@@ -7,10 +7,8 @@ use lib.ListN.{length, drop}
 use Rattle.masks.specs.Limits.{maxArity}
 use Rattle.masks.specs.Lists.{all}
 use Rattle.book.specs.Limits.{maxPredicates}
-use Rattle.book.specs.Format.{placed, allows, Got, bad, got, turn, markAt}
+use Rattle.book.specs.Format.{placed, allows, Got, bad, got, onTurn, turn, markAt}
 use Rattle.book.specs.declared.mark.Phase.{Phase}
-use Rattle.book.specs.declared.mark.Turn.{Turn}
-use Rattle.book.specs.declared.mark.Turn.the-variants.{Mine, Over, No}
 use Rattle.book.specs.declared.range.Range.the-variants.{AtMost}
 use Rattle.records.specs.declared.field.Found.{Found}
 use Rattle.records.specs.declared.field.Found.the-variants.{Next, Bad}
@@ -20,12 +18,7 @@ abbrev pub placeOf : Found → ℕ
 placeOf (Next at n) = at
 placeOf (Bad f at) = at
 
--- the number answered
-abbrev pub counted : Found → ℕ
-counted (Next at n) = n
-counted (Bad f at) = 0
-
--- an answer about the bytes s, where the value is what f makes of the number answered
+-- an answer about the bytes s, where the value is what f makes of the byte answered
 abbrev pub means : {A : Type 0} → List ℕ → Found → (ℕ → A) → Got A
 means s (Next at n) f = got (f n) (drop at s)
 means s (Bad w at) f = bad w (length s - at)
@@ -35,18 +28,13 @@ pub record Reads {A : Type 0} (s : List ℕ) (r : Found) (f : ℕ → A) (g : Go
   pub is : means s r f ≡ g
 
 -- a run that no further record of its own follows: its end, with the value a, or a fault
-abbrev pub onStop : {A : Type 0} → Turn → A → List ℕ → Got A
-onStop Mine a s = got a s
-onStop Over a s = got a s
-onStop (No f) a s = bad f (placed f (length s) (length s))
-
 abbrev pub stops : {A : Type 0} → Phase → A → List ℕ → Got A
-stops p a s = onStop (turn p (markAt s)) a s
+stops p a s = onTurn (turn p (markAt s)) (got a s) a s
 
 -- what was found in the fields of the record at a place: a fault of theirs stands where `placed` says
 abbrev pub recorded : ℕ → Found → Found
 recorded place (Next at n) = Next at n
-recorded place (Bad f at) = Bad f place
+recorded place (Bad f at) = Bad f (placed f place at)
 
 -- the arities of a book
 pub record Arities (ar : List ℕ) : Type 0 where

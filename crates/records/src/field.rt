@@ -3,13 +3,13 @@ use book::clause::Call;
 use book::fault::Fault;
 use book::limits::LAST_VARIABLE;
 use book::limits::LITERAL;
-use book::limits::MAX_ARGUMENTS;
 use book::limits::MODES_SIZE;
 use book::limits::WILDCARD;
 use book::mode::has_mode;
 use book::range::Range;
 use masks::constraint::Constraint;
 use masks::constraint::patterns;
+use masks::limits::MAX_ARGUMENTS;
 use masks::limits::MAX_ARITY;
 use masks::limits::MAX_MASKS;
 ghost use mathlib.Core.Path.{_≡_};
@@ -24,7 +24,8 @@ ghost use Rattle.book.specs.Format.{allows, byte, bytes, inRecord, predicate, c
 ghost use Rattle.book.specs.Held.{callOf, modesOf};
 ghost use Rattle.records.specs.Found.{Reads, recorded, Arities};
 
-// What reading comes to: the place after what was read and a small number, or a fault and its place.
+// What reading comes to: the place after what was read and, where that is a byte, the byte, or a fault and its place. Whatever is counted or larger
+// stands beside it.
 pub enum Found {
     Next(usize, u8),
     Bad(Fault, usize),
@@ -158,7 +159,7 @@ fn read_owner(s: &[u8], ar: &[u8], modes: &[u8; MODES_SIZE], at: usize) -> Found
     requires { ⌜ (at ≤ length (now s)) × Arities (now ar) ⌝ }
     ensures { λ r. ⌜ Reads (now (s .entry)) (r .found) (λ _. callOf (r .call)) (headFields (now (ar .entry)) (modesOf (now (modes .entry)) maxPredicates) (drop at (now (s .entry)))) ⌝ }
 {
-    let r = read_call(s, ar, at, Range::HeadArgument);
+    let r = read_call(s, ar, at, Range::NoWildcard);
     let g = r.found;
     let call = r.call;
     match g {
@@ -260,7 +261,7 @@ fn in_range(range: Range, x: u8) -> bool
         Range::Below(n) => x < n,
         Range::AtMost(n) => x <= n,
         Range::Argument => is_argument(x, WILDCARD),
-        Range::HeadArgument => is_argument(x, LITERAL),
+        Range::NoWildcard => is_argument(x, LITERAL),
     }
 }
 

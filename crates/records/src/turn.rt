@@ -24,17 +24,17 @@ pub fn is_mark(s: &[u8], at: usize, m: &[u8; 2]) -> bool
     s[at + 1] == m[1]
 }
 
-// What comes of a run of n records where none of its records follows: its end, or a fault.
-pub fn run_end(s: &[u8], at: usize, p: Phase, n: u8) -> Found
+// What comes of a run where none of its records follows: its end, or a fault.
+pub fn run_end(s: &[u8], at: usize, p: Phase) -> Found
     requires { ⌜ at ≤ length (now s) ⌝ }
-    ensures { λ r. ⌜ Reads (now (s .entry)) r (λ k. k) (stops p n (drop at (now (s .entry)))) ⌝ }
+    ensures { λ r. ⌜ Reads (now (s .entry)) r (λ k. k) (stops p 0 (drop at (now (s .entry)))) ⌝ }
 {
     let m = mark_at(s, at);
     let t = turn(p, m);
     match t {
         Turn::No(f) => Found::Bad(f, at),
-        Turn::Over => Found::Next(at, n),
-        Turn::Mine => Found::Next(at, n),
+        Turn::Over => Found::Next(at, 0),
+        Turn::Mine => Found::Next(at, 0),
     }
 }
 

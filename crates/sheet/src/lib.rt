@@ -4,6 +4,10 @@ pub mod line;
 use crate::line::put_field;
 use crate::line::put_fields;
 use crate::line::put_listing;
+use book::limits::LONGEST;
+use book::limits::LONGEST_PLAN;
+use book::limits::LONGEST_SHEET;
+use book::limits::LONGEST_TABLE;
 use masks::reply::Reply;
 use needs::analyse;
 use plan::plan;
@@ -20,22 +24,14 @@ ghost use Rattle.printing.specs.Sheet.{line, field, judgedSheet, refusalLine, p
 ghost use Rattle.sheet.specs.Records.{listedIn, lineIn, linesIn, judgedOrders};
 
 // "it judges the first 6,963": as many bytes of a book are looked at, one more than the longest has.
-pub const BOOK_SIZE: usize = 6963;
-
-// The longest image of a table, and the longest plan.
-const TABLE_SIZE: usize = 1536;
-
-const PLAN_SIZE: usize = 53259;
-
-// No sheet is longer: a line has at most three times as many bytes as the record it comes from, and the rounds take at most seven.
-pub const SHEET_SIZE: usize = 164392;
+pub const BOOK_SIZE: usize = LONGEST + 1;
 
 // The sheet of a book, written into the output. Every string of bytes has one; a book with a fault has one line, its number and place.
 pub fn sheet(book: &[u8], out: &mut [u8]) -> Reply
     ensures { λ r. ⌜ Answers (printing (now (book .entry))) (now (out .entry)) r (now (out .exit)) ⌝ }
 {
     let n = least(book.len(), BOOK_SIZE);
-    let mut text = [0u8; SHEET_SIZE];
+    let mut text = [0u8; LONGEST_SHEET];
     let k = put_sheet(&mut text, &book[..n]);
     let r = Reply::in_room(k, 0, out.len());
     if r.number == 0 {
@@ -45,10 +41,10 @@ pub fn sheet(book: &[u8], out: &mut [u8]) -> Reply
 }
 
 // The `C` lines and the `R` line, and what follows them; or the one line of a fault.
-fn put_sheet(text: &mut [u8; SHEET_SIZE], book: &[u8]) -> usize
+fn put_sheet(text: &mut [u8; LONGEST_SHEET], book: &[u8]) -> usize
     ensures { λ r. ⌜ Wrote (now (text .entry)) (now (text .exit)) 0 r (judgedSheet (judge (now (book .entry)))) ⌝ }
 {
-    let mut table = [0u8; TABLE_SIZE];
+    let mut table = [0u8; LONGEST_TABLE];
     let r = analyse(book, &mut table);
     if r.number != 0 {
         return put_refusal(text, 0, r.number, r.value);
@@ -64,7 +60,7 @@ fn put_orders(text: &mut [u8], at: usize, book: &[u8]) -> usize
     requires { ⌜ Room (now text) at (judgedOrders (judge (now book))) ⌝ }
     ensures { λ r. ⌜ Wrote (now (text .entry)) (now (text .exit)) at r (judgedOrders (judge (now (book .entry)))) ⌝ }
 {
-    let mut image = [0u8; PLAN_SIZE];
+    let mut image = [0u8; LONGEST_PLAN];
     let r = plan(book, &mut image);
     if r.number != 0 {
         return put_refusal(text, at, r.number, r.value);

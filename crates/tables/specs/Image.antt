@@ -5,8 +5,8 @@ use lib.ListN.{length}
 use Rattle.masks.specs.Outcome.{Outcome, done}
 use Rattle.book.specs.Book.{Book}
 use Rattle.book.specs.Answer.{onBook}
-use Rattle.ordering.specs.Adorn.{Table}
-use Rattle.tables.specs.Table.{entry, rounds, final}
+use Rattle.book.specs.Table.{Table, entry}
+use Rattle.tables.specs.Table.{rounds, final}
 
 -- "CN, predicate, n, n masks"
 abbrev pub row : ℕ → List ℕ → List ℕ

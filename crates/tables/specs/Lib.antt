@@ -2,4 +2,3 @@
 pub mod Table
 pub mod Calls
 pub mod Image
-pub mod Held

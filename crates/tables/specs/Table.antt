@@ -8,12 +8,8 @@ use lib.ListN.{length, getD}
 use Rattle.masks.specs.Lists.{any, all, values}
 use Rattle.masks.specs.Constraint.{trivial, written, minimise, sameMasks}
 use Rattle.book.specs.Book.{Mode, Clause, Book}
-use Rattle.ordering.specs.Adorn.{Table}
+use Rattle.book.specs.Table.{Table, entry}
 use Rattle.ordering.specs.Good.{goodClause}
-
--- the constraint of a predicate
-abbrev pub entry : Table → ℕ → List ℕ
-entry T p = getD T p []
 
 -- ---- "Table 0: each MO as given and minimised, all others trivial."
 
@@ -48,17 +44,17 @@ defined cs p = any (λ c. eqb (c .head .pred) p) cs
 unfoldable pub good : Table → List Clause → ℕ → ℕ → Bool
 good T cs p a = all (λ c. goodClause T c a) (own cs p)
 
--- the constraint of p, which has k positions, in the table after T
-unfoldable pub next : Table → List Clause → ℕ → ℕ → List ℕ
-next T cs k p = cond (defined cs p) (written (good T cs p) (2 ^ k)) (entry T p)
+-- the constraint of p in the table after T
+unfoldable pub next : Book → Table → ℕ → List ℕ
+next B T p = cond (defined (B .clauses) p) (written (good T (B .clauses) p) (2 ^ getD (B .arities) p 0)) (entry T p)
 
 -- "A round reads only the table before it."
-unfoldable pub step : List ℕ → List Clause → Table → Table
-step arities cs T = values (λ p. next T cs (getD arities p 0) p) (length arities)
+unfoldable pub step : Book → Table → Table
+step B T = values (next B T) (length (B .arities))
 
 unfoldable pub table : Book → ℕ → Table
 table B zero = start B
-table B (suc k) = step (B .arities) (B .clauses) (table B k)
+table B (suc k) = step B (table B k)
 
 -- ---- "The rounds reported are the least k at which table k+1 equals table k, and table k is the answer."
 

@@ -4,6 +4,7 @@ use book::limits::MODES_SIZE;
 use book::mode::has_mode;
 use book::mode::mode_at;
 use book::mode::put_mode;
+use book::table::Table;
 use masks::constraint::Constraint;
 use masks::constraint::count;
 use masks::constraint::minimised;
@@ -19,16 +20,10 @@ ghost use Rattle.masks.specs.Constraint.{inRange};
 ghost use Rattle.masks.specs.Held.{masksOf};
 ghost use Rattle.book.specs.Limits.{maxPredicates};
 ghost use Rattle.book.specs.Held.{modesOf};
-ghost use Rattle.ordering.specs.Held.{tableIn, Low};
+ghost use Rattle.book.specs.Table.{tableIn, Low, LowModes};
 ghost use Rattle.writing.specs.Wrote.{Room, Wrote};
 ghost use Rattle.tables.specs.Table.{modeOf, firstNeed, firstNeeds};
 ghost use Rattle.tables.specs.Image.{row, rows};
-ghost use Rattle.tables.specs.Held.{LowModes};
-
-// The constraints of the predicates, held as modes are: here each predicate has its masks.
-pub struct Table {
-    pub needs: [u8; MODES_SIZE],
-}
 
 // "Table 0: each `MO` as given and minimised, all others trivial."
 pub fn first_table(preds: u8, modes: &[u8; MODES_SIZE]) -> Table

@@ -14,9 +14,10 @@ use book::mode::has_mode;
 use book::mode::mode_at;
 use masks::constraint::count;
 ghost use mathlib.Core.Path.{_≡_};
-ghost use Prim.Native.Nat.{min, _≤_};
+ghost use Prim.Native.Nat.{_+_, _*_, min, _≤_};
 ghost use lib.ListN.{length};
-ghost use Rattle.book.specs.Limits.{maxClauses, maxPredicates};
+ghost use Rattle.masks.specs.Limits.{maxArity, maxMasks};
+ghost use Rattle.book.specs.Limits.{maxPredicates, maxClauses, maxSubgoals};
 ghost use Rattle.book.specs.Encode.{run, encMode, encSubgoal, encClause, encode};
 ghost use Rattle.book.specs.Held.{clauseOf, modesOf, clausesOf, bookIn};
 
@@ -39,7 +40,7 @@ pub fn book_length<'a>(
 // Of each `MO`: its mark, its predicate, the number of its masks, and the masks.
 fn modes_length(modes: &[u8; MODES_SIZE]) -> usize
     ensures { λ r. ⌜ r ≡ length (run encMode (modesOf (now (modes .entry)) maxPredicates)) ⌝ }
-    ensures { λ r. ⌜ r ≤ 1536 ⌝ }
+    ensures { λ r. ⌜ r ≤ maxPredicates * (4 + maxMasks) ⌝ }
 {
     let mut total: usize = 0;
     let mut p: u8 = 0;
@@ -56,7 +57,7 @@ fn modes_length(modes: &[u8; MODES_SIZE]) -> usize
 // Of each clause: its mark, its predicate, its arguments, and its subgoals.
 fn clauses_length(clauses: u8, rules: &[u64; RULES_SIZE]) -> usize
     ensures { λ r. ⌜ r ≡ length (run encClause (clausesOf (now (rules .entry)) (min clauses maxClauses))) ⌝ }
-    ensures { λ r. ⌜ r ≤ 5184 ⌝ }
+    ensures { λ r. ⌜ r ≤ maxClauses * (3 + maxArity + maxSubgoals * (3 + maxArity)) ⌝ }
 {
     let n = least(clauses as usize, MAX_CLAUSES);
     let mut total: usize = 0;
@@ -73,7 +74,7 @@ fn clauses_length(clauses: u8, rules: &[u64; RULES_SIZE]) -> usize
 // Of each subgoal: its mark, its predicate, and its arguments.
 fn body_length(c: Clause) -> usize
     ensures { λ r. ⌜ r ≡ length (run encSubgoal (clauseOf c .body)) ⌝ }
-    ensures { λ r. ⌜ r ≤ 72 ⌝ }
+    ensures { λ r. ⌜ r ≤ maxSubgoals * (3 + maxArity) ⌝ }
 {
     let n = least(c.n as usize, MAX_SUBGOALS);
     let mut total: usize = 0;

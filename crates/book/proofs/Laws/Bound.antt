@@ -18,7 +18,7 @@ use Rattle.book.specs.Book.{Call, Mode, Clause, Book}
 use Rattle.book.specs.Format.{allows, hasMode, Judged, fault, book, judge}
 use Rattle.book.specs.Encode.{run, encPredicate, encMode, encSubgoal, encClause, encode, callFits, modeFits, rises, clauseFits, WellFormed}
 use Rattle.book.specs.declared.fault.Fault.{Fault}
-use Rattle.book.specs.declared.range.Range.the-variants.{AtMost, Argument, HeadArgument}
+use Rattle.book.specs.declared.range.Range.the-variants.{AtMost, Argument, NoWildcard}
 use Rattle.book.proofs.Laws.Trip.{call-known, call-size, mode-known, mode-few, clause-head, clause-free, clause-few, clause-goals, rising, judge-inv}
 
 -- ---- the length of records
@@ -46,7 +46,7 @@ module _ (ar : List ℕ) (arity : (i : ℕ) → getD ar i 0 ≤ maxArity) where
 
   clause-length : (ms : List Mode) (c : Clause) → clauseFits ar ms c ≡ true → length (encClause c) ≤ 81
   clause-length ms c t =
-      let a = call-size HeadArgument ar (c .head) (clause-head ar ms c t) in
+      let a = call-size NoWildcard ar (c .head) (clause-head ar ms c t) in
       let b = arity (c .head .pred) in
       let d = run-length (callFits Argument ar) encSubgoal 9 subgoal-length (c .body) (clause-goals ar ms c t) in
       let e = clause-few ar ms c t in
@@ -90,7 +90,7 @@ unfolding allows
 modes-clauses ar ms [] h g t u v = let r = rising ar 0 ms (omega arith) t u in omega arith
 modes-clauses ar ms (c ∷ cs) h g t u v =
     let fits = and-left (clauseFits ar ms c) (all (clauseFits ar ms) cs) v in
-    let known : c .head .pred < length ar = ltb-true _ _ (call-known HeadArgument ar (c .head) (clause-head ar ms c fits)) in
+    let known : c .head .pred < length ar = ltb-true _ _ (call-known NoWildcard ar (c .head) (clause-head ar ms c fits)) in
     let r = missing ar 0 ms (c .head .pred) (omega arith) known (clause-free ar ms c fits) t u in
     omega arith
 

@@ -34,6 +34,10 @@ length-of-map f l n e = sym (length-map l f) ∙ e
 
 -- ---- a clause
 
+-- a call by value that says nothing
+abbrev pub blank : call.Call
+blank = record { pred = 0; n = 0; args = [] }
+
 -- subgoal j of clause k
 abbrev callAt : List ℕ → ℕ → ℕ → Call
 callAt rules k j = callIn (getD rules (k * clauseSize + 2 + j) 0)

@@ -1,10 +1,11 @@
--- Marks, and whose turn it is: the bytes at one of the five marks are its two, and each run has a mark of its own. Assumes nothing.
-use mathlib.Core.Path.{_≡_, refl, sym, ap, _∙_, subst}
+-- Marks, and whose turn it is: the bytes at one of the five marks are its two, and a run has those for its own that the table of turns
+-- tells so. Assumes nothing.
+use mathlib.Core.Path.{_≡_, refl, ap, _∙_, subst}
 use mathlib.Core.Bool.{Bool, true, false, cond, false≢true}
 use mathlib.Core.List.{List, [], _∷_, _++_}
-use Prim.Native.Nat.{ℕ}
+use Prim.Native.Nat.{ℕ, suc}
 use lib.Dec.{eqb}
-use lib.ListN.{drop}
+use lib.ListN.{length, drop}
 use borrow.Author.Tests.{eqb-true}
 use Rattle.masks.proofs.Laws.Logic.{clash, and-left, and-right}
 use Rattle.book.specs.Format.{spelling, leads, unmarked, markAt, column, turn}
@@ -97,20 +98,26 @@ not-mine t n e = clash (ap mine e) n
 not-over : {P : Type 0} (t : Turn) → over t ≡ false → t ≡ Over → P
 not-over t n e = clash (ap over e) n
 
--- the mark of a run
-abbrev pub mineOf : Phase → Mark
-mineOf Predicates = Pr
-mineOf Modes = Mo
-mineOf Clauses = Cl
-mineOf Body = Sg
-mineOf Query = Sg
+-- ---- the marks of a run: those that the table of turns tells as its own
 
-pub mine-mark : (p : Phase) (m : Mark) → turn p m ≡ Mine → m ≡ mineOf p
-mine-mark Predicates m e = byColumn (λ (k : Mark). k ≡ Pr) m e (λ q. refl) (not-mine _ refl) (not-mine _ refl) (not-mine _ refl) (not-mine _ refl) (not-mine _ refl) (not-mine _ refl) (not-mine _ refl)
-mine-mark Modes m e = byColumn (λ (k : Mark). k ≡ Mo) m e (not-mine _ refl) (λ q. refl) (not-mine _ refl) (not-mine _ refl) (not-mine _ refl) (not-mine _ refl) (not-mine _ refl) (not-mine _ refl)
-mine-mark Clauses m e = byColumn (λ (k : Mark). k ≡ Cl) m e (not-mine _ refl) (not-mine _ refl) (λ q. refl) (not-mine _ refl) (not-mine _ refl) (not-mine _ refl) (not-mine _ refl) (not-mine _ refl)
-mine-mark Body m e = byColumn (λ (k : Mark). k ≡ Sg) m e (not-mine _ refl) (not-mine _ refl) (not-mine _ refl) (λ q. refl) (not-mine _ refl) (not-mine _ refl) (not-mine _ refl) (not-mine _ refl)
-mine-mark Query m e = byColumn (λ (k : Mark). k ≡ Sg) m e (not-mine _ refl) (not-mine _ refl) (not-mine _ refl) (λ q. refl) (not-mine _ refl) (not-mine _ refl) (not-mine _ refl) (not-mine _ refl)
+-- m alone is
+abbrev pub Sole : Phase → Mark → Type 0
+Sole p m = (k : Mark) → turn p k ≡ Mine → k ≡ m
+
+pub sole-predicates : Sole Predicates Pr
+sole-predicates k e = byColumn (λ (j : Mark). j ≡ Pr) k e (λ q. refl) (not-mine _ refl) (not-mine _ refl) (not-mine _ refl) (not-mine _ refl) (not-mine _ refl) (not-mine _ refl) (not-mine _ refl)
+
+pub sole-modes : Sole Modes Mo
+sole-modes k e = byColumn (λ (j : Mark). j ≡ Mo) k e (not-mine _ refl) (λ q. refl) (not-mine _ refl) (not-mine _ refl) (not-mine _ refl) (not-mine _ refl) (not-mine _ refl) (not-mine _ refl)
+
+pub sole-clauses : Sole Clauses Cl
+sole-clauses k e = byColumn (λ (j : Mark). j ≡ Cl) k e (not-mine _ refl) (not-mine _ refl) (λ q. refl) (not-mine _ refl) (not-mine _ refl) (not-mine _ refl) (not-mine _ refl) (not-mine _ refl)
+
+pub sole-body : Sole Body Sg
+sole-body k e = byColumn (λ (j : Mark). j ≡ Sg) k e (not-mine _ refl) (not-mine _ refl) (not-mine _ refl) (λ q. refl) (not-mine _ refl) (not-mine _ refl) (not-mine _ refl) (not-mine _ refl)
+
+pub sole-query : Sole Query Sg
+sole-query k e = byColumn (λ (j : Mark). j ≡ Sg) k e (not-mine _ refl) (not-mine _ refl) (not-mine _ refl) (λ q. refl) (not-mine _ refl) (not-mine _ refl) (not-mine _ refl) (not-mine _ refl)
 
 -- the clauses end at QU, and the query at the end of the bytes
 clauses-over : (m : Mark) → turn Clauses m ≡ Over → m ≡ Qu
@@ -121,7 +128,7 @@ query-over m e = byColumn (λ (k : Mark). k ≡ End) m e (not-over _ refl) (not-
 
 -- what may follow a clause ends its body
 pub clause-ends : (m : Mark) → turn Clauses m ≡ Mine → turn Body m ≡ Over
-clause-ends m e = ap (turn Body) (mine-mark Clauses m e)
+clause-ends m e = ap (turn Body) (sole-clauses m e)
 
 pub clauses-end : (m : Mark) → turn Clauses m ≡ Over → turn Body m ≡ Over
 clauses-end m e = ap (turn Body) (clauses-over m e)
@@ -131,45 +138,82 @@ clauses-end m e = ap (turn Body) (clauses-over m e)
 spelt-at : (s : List ℕ) {m : Mark} → markAt s ≡ m → Spelt s m
 spelt-at s e = subst (Spelt s) e (spelt s)
 
-pub mine-starts : (p : Phase) (s : List ℕ) → turn p (markAt s) ≡ Mine → s ≡ spelling (mineOf p) ++ drop 2 s
-mine-starts Predicates s e = spelt-at s (mine-mark Predicates (markAt s) e)
-mine-starts Modes s e = spelt-at s (mine-mark Modes (markAt s) e)
-mine-starts Clauses s e = spelt-at s (mine-mark Clauses (markAt s) e)
-mine-starts Body s e = spelt-at s (mine-mark Body (markAt s) e)
-mine-starts Query s e = spelt-at s (mine-mark Query (markAt s) e)
-
 pub clauses-over-starts : (s : List ℕ) → turn Clauses (markAt s) ≡ Over → s ≡ spelling Qu ++ drop 2 s
 clauses-over-starts s e = spelt-at s (clauses-over (markAt s) e)
 
 pub query-over-ends : (s : List ℕ) → turn Query (markAt s) ≡ Over → s ≡ []
 query-over-ends s e = spelt-at s (query-over (markAt s) e)
 
--- ---- bytes that begin with the mark of a run, and bytes that do not
+-- ---- the two bytes of a mark, whichever of the five it is
 
-pub mine-leads : (p : Phase) (s : List ℕ) → turn p (markAt (spelling (mineOf p) ++ s)) ≡ Mine
-unfolding markAt
-mine-leads Predicates s = refl
-mine-leads Modes s = refl
-mine-leads Clauses s = refl
-mine-leads Body s = refl
-mine-leads Query s = refl
+abbrev known : Mark → Bool
+known Pr = true
+known Mo = true
+known Cl = true
+known Sg = true
+known Qu = true
+known Other = false
+known Half = false
+known End = false
 
-leads-self : (p : Phase) (s : List ℕ) → leads (spelling (mineOf p)) (spelling (mineOf p) ++ s) ≡ true
-leads-self Predicates s = refl
-leads-self Modes s = refl
-leads-self Clauses s = refl
-leads-self Body s = refl
-leads-self Query s = refl
+-- by cases on the five
+byKnown : (P : Mark → Type 0) → P Pr → P Mo → P Cl → P Sg → P Qu → (m : Mark) → known m ≡ true → P m
+byKnown P a b c d e Pr t = a
+byKnown P a b c d e Mo t = b
+byKnown P a b c d e Cl t = c
+byKnown P a b c d e Sg t = d
+byKnown P a b c d e Qu t = e
+byKnown P a b c d e Other t = absurd (false≢true t)
+byKnown P a b c d e Half t = absurd (false≢true t)
+byKnown P a b c d e End t = absurd (false≢true t)
 
-pub unled : (p : Phase) (s : List ℕ) → leads (spelling (mineOf p)) s ≡ false → turn p (markAt s) ≡ Mine → ⊥
-unled p s t e = clash (ap (leads (spelling (mineOf p))) (mine-starts p s e) ∙ leads-self p (drop 2 s)) t
+-- a mark of a run is one of them
+own-known : (p : Phase) (m : Mark) → turn p m ≡ Mine → known m ≡ true
+own-known Predicates m e = ap known (sole-predicates m e)
+own-known Modes m e = ap known (sole-modes m e)
+own-known Clauses m e = ap known (sole-clauses m e)
+own-known Body m e = ap known (sole-body m e)
+own-known Query m e = ap known (sole-query m e)
 
-pub leads-mine : (p : Phase) (s : List ℕ) → leads (spelling (mineOf p)) s ≡ true → turn p (markAt s) ≡ Mine
-leads-mine p s t = subst (λ (l : List ℕ). turn p (markAt l) ≡ Mine) (sym (starts p t)) (mine-leads p (drop 2 s))
-  where
-    starts : (q : Phase) → leads (spelling (mineOf q)) s ≡ true → s ≡ spelling (mineOf q) ++ drop 2 s
-    starts Predicates u = leads-two 80 82 s u
-    starts Modes u = leads-two 77 79 s u
-    starts Clauses u = leads-two 67 76 s u
-    starts Body u = leads-two 83 71 s u
-    starts Query u = leads-two 83 71 s u
+module _ (s : List ℕ) where
+  mark-starts : (m : Mark) → known m ≡ true → Spelt s m → s ≡ spelling m ++ drop 2 s
+  mark-starts = byKnown (λ (m : Mark). Spelt s m → s ≡ spelling m ++ drop 2 s) (λ t. t) (λ t. t) (λ t. t) (λ t. t) (λ t. t)
+
+  mark-led : (m : Mark) → known m ≡ true → leads (spelling m) s ≡ true → s ≡ spelling m ++ drop 2 s
+  mark-led =
+      byKnown (λ (m : Mark). leads (spelling m) s ≡ true → s ≡ spelling m ++ drop 2 s) (leads-two 80 82 s) (leads-two 77 79 s) (leads-two 67 76 s)
+      (leads-two 83 71 s) (leads-two 81 85 s)
+
+  mark-leads : (m : Mark) → known m ≡ true → leads (spelling m) (spelling m ++ s) ≡ true
+  mark-leads = byKnown (λ (m : Mark). leads (spelling m) (spelling m ++ s) ≡ true) refl refl refl refl refl
+
+  mark-read : (m : Mark) → known m ≡ true → markAt (spelling m ++ s) ≡ m
+  unfolding markAt
+  mark-read = byKnown (λ (m : Mark). markAt (spelling m ++ s) ≡ m) refl refl refl refl refl
+
+  mark-two : (m : Mark) → known m ≡ true → length (spelling m ++ s) ≡ suc (suc (length s))
+  mark-two = byKnown (λ (m : Mark). length (spelling m ++ s) ≡ suc (suc (length s))) refl refl refl refl refl
+
+-- ---- bytes that begin with a mark of a run, and bytes that do not
+
+module _ (p : Phase) (s : List ℕ) where
+  own-starts : turn p (markAt s) ≡ Mine → s ≡ spelling (markAt s) ++ drop 2 s
+  own-starts e = mark-starts s (markAt s) (own-known p (markAt s) e) (spelt s)
+
+  -- so its two bytes are there
+  pub own-two : turn p (markAt s) ≡ Mine → length s ≡ suc (suc (length (drop 2 s)))
+  own-two e = ap length (own-starts e) ∙ mark-two (drop 2 s) (markAt s) (own-known p (markAt s) e)
+
+  pub sole-starts : {m : Mark} → Sole p m → turn p (markAt s) ≡ Mine → s ≡ spelling m ++ drop 2 s
+  sole-starts f e = own-starts e ∙ ap (λ (k : Mark). spelling k ++ drop 2 s) (f (markAt s) e)
+
+  pub own-leads : (m : Mark) → turn p m ≡ Mine → turn p (markAt (spelling m ++ s)) ≡ Mine
+  own-leads m e = ap (turn p) (mark-read s m (own-known p m e)) ∙ e
+
+  pub unled : ((m : Mark) → turn p m ≡ Mine → leads (spelling m) s ≡ false) → turn p (markAt s) ≡ Mine → ⊥
+  unled f e =
+      let m = markAt s in
+      clash (ap (leads (spelling m)) (own-starts e) ∙ mark-leads (drop 2 s) m (own-known p m e)) (f m e)
+
+pub leads-own : (p : Phase) (m : Mark) → turn p m ≡ Mine → (s : List ℕ) → leads (spelling m) s ≡ true → turn p (markAt s) ≡ Mine
+leads-own p m e s t = ap (λ (l : List ℕ). turn p (markAt l)) (mark-led s m (own-known p m e) t) ∙ own-leads p (drop 2 s) m e

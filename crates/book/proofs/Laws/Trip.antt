@@ -13,16 +13,16 @@ use Rattle.masks.specs.Limits.{maxArity, maxMasks}
 use Rattle.masks.specs.Lists.{all}
 use Rattle.masks.proofs.Laws.Logic.{byBool, and-intro, and-left, and-right, not-elim}
 use Rattle.book.specs.Limits.{maxPredicates, maxClauses, maxSubgoals}
-use Rattle.book.specs.Book.{Call, Mode, Clause, Book}
-use Rattle.book.specs.Format.{Got, bad, got, andThen, inRecord, byte, bytes, many, turn, markAt, allows, lowFrom, low, hasMode, spelling, call, predicate, masks, modeFields, mode, subgoal, headFields, clause, rules, readBook, book, judged, judge}
+use Rattle.book.specs.Book.{Call, noClause, Mode, Clause, Book}
+use Rattle.book.specs.Format.{Got, bad, got, andThen, inRecord, byte, bytes, many, turn, markAt, allows, lowFrom, low, hasMode, spelling, call, predicate, masks, modeFields, mode, subgoal, headFields, clause, query, rules, readBook, book, judged, judge}
 use Rattle.book.specs.Encode.{run, encPredicate, encMode, encCall, encSubgoal, encClause, encode, callFits, modeFits, rises, clauseFits, WellFormed}
 use Rattle.book.specs.declared.fault.Fault.the-variants.{Clash}
 use Rattle.book.specs.declared.mark.Mark.the-variants.{Pr, Mo, Cl, Sg, Qu}
 use Rattle.book.specs.declared.mark.Phase.the-variants.{Predicates, Modes, Clauses, Body, Query}
 use Rattle.book.specs.declared.mark.Turn.the-variants.{Mine, Over}
 use Rattle.book.specs.declared.range.Range.{Range}
-use Rattle.book.specs.declared.range.Range.the-variants.{Below, AtMost, Argument, HeadArgument}
-use Rattle.book.proofs.Laws.Marks.{mine-leads, mine-starts, clauses-over-starts, query-over-ends, clause-ends, clauses-end}
+use Rattle.book.specs.declared.range.Range.the-variants.{Below, AtMost, Argument, NoWildcard}
+use Rattle.book.proofs.Laws.Marks.{sole-predicates, sole-modes, sole-clauses, sole-body, sole-query, own-leads, sole-starts, clauses-over-starts, query-over-ends, clause-ends, clauses-end}
 use Rattle.book.proofs.Laws.Got.{then-inv, then-got, record-inv, record-got, test-inv, untest-inv, carry, byte-inv, byte-got, bytes-got, bytes-inv, Each, Follows, each-all, all-each, many-got, many-inv}
 
 -- ---- computed: "all PR, then all MO, then clauses, then one QU", of a book with one of each
@@ -31,7 +31,7 @@ pub in-turn : encode
     (record {
       arities = 0 ∷ [];
       modes = record { pred = 0; masks = [] } ∷ [];
-      clauses = record { head = record { pred = 0; args = [] }; body = [] } ∷ [];
+      clauses = noClause ∷ [];
       query = [];
     }) ≡ 80 ∷ 82 ∷ 0 ∷ 77 ∷ 79 ∷ 0 ∷ 0 ∷ 67 ∷ 76 ∷ 0 ∷ 81 ∷ 85 ∷ []
 unfolding encode
@@ -83,7 +83,7 @@ pub predicate-inv : (acc s : List ℕ) (a : ℕ) (r : List ℕ) → turn Predica
 unfolding predicate
 predicate-inv acc s a r t e =
     let b = byte-inv (AtMost maxArity) (drop 2 s) (record-inv s (byte (AtMost maxArity) (drop 2 s)) e) in
-    (mine-starts Predicates s t ∙ ap (λ (l : List ℕ). spelling Pr ++ l) (b .0), b .1)
+    (sole-starts Predicates s sole-predicates t ∙ ap (λ (l : List ℕ). spelling Pr ++ l) (b .0), b .1)
 
 -- ---- a subgoal
 
@@ -101,10 +101,10 @@ subgoal-from ar acc s c r t e =
     (t ∙ ap (λ (l : List ℕ). spelling Sg ++ l) (b .0), b .1)
 
 pub body-inv : (ar : List ℕ) (acc : List Call) (s : List ℕ) (c : Call) (r : List ℕ) → turn Body (markAt s) ≡ Mine → subgoal ar acc s ≡ got c r → (s ≡ encSubgoal c ++ r) × SubgoalFits ar acc c
-body-inv ar acc s c r t e = subgoal-from ar acc s c r (mine-starts Body s t) e
+body-inv ar acc s c r t e = subgoal-from ar acc s c r (sole-starts Body s sole-body t) e
 
 pub query-inv : (ar : List ℕ) (acc : List Call) (s : List ℕ) (c : Call) (r : List ℕ) → turn Query (markAt s) ≡ Mine → subgoal ar acc s ≡ got c r → (s ≡ encSubgoal c ++ r) × SubgoalFits ar acc c
-query-inv ar acc s c r t e = subgoal-from ar acc s c r (mine-starts Query s t) e
+query-inv ar acc s c r t e = subgoal-from ar acc s c r (sole-starts Query s sole-query t) e
 
 -- ---- a mode
 
@@ -161,7 +161,7 @@ mode-inv ar acc s m r t e =
     let y = masks-inv (2 ^ getD ar p 0) (w .1) (v .0) (v .1) (v .2) in
     let g = test-inv (leb (low acc) p) (record { pred = p; masks = v .0 }) (v .1) Clash (length d) (v .3) in
     carry (λ (k : Mode) (l : List ℕ). (s ≡ encMode k ++ l) × ModeFits ar acc k) (g .1) (
-      mine-starts Modes s t ∙ ap (λ (l : List ℕ). spelling Mo ++ l) (x .0 ∙ ap (λ (l : List ℕ). p ∷ l) (y .0)),
+      sole-starts Modes s sole-modes t ∙ ap (λ (l : List ℕ). spelling Mo ++ l) (x .0 ∙ ap (λ (l : List ℕ). p ∷ l) (y .0)),
       (and-intro (x .1) (and-intro (y .1) (y .2)), g .0),
     )
 
@@ -175,10 +175,10 @@ module _ (ar : List ℕ) (ms : List Mode) (c : Clause) (t : clauseFits ar ms c �
   goals = leb (length (c .body)) maxSubgoals && all (callFits Argument ar) (c .body)
 
   rest : (not (hasMode ms (c .head .pred)) && goals) ≡ true
-  rest = and-right (callFits HeadArgument ar (c .head)) (not (hasMode ms (c .head .pred)) && goals) t
+  rest = and-right (callFits NoWildcard ar (c .head)) (not (hasMode ms (c .head .pred)) && goals) t
 
-  pub clause-head : callFits HeadArgument ar (c .head) ≡ true
-  clause-head = and-left (callFits HeadArgument ar (c .head)) (not (hasMode ms (c .head .pred)) && goals) t
+  pub clause-head : callFits NoWildcard ar (c .head) ≡ true
+  clause-head = and-left (callFits NoWildcard ar (c .head)) (not (hasMode ms (c .head .pred)) && goals) t
 
   pub clause-free : hasMode ms (c .head .pred) ≡ false
   clause-free =
@@ -195,24 +195,24 @@ unfolding clause headFields
 clause-got ar ms acc c r h o =
     let rest· = run encSubgoal (c .body) ++ r in
     let head· : headFields ar ms (encCall (c .head) ++ rest·) ≡ got (c .head) rest· =
-    rw (call-got HeadArgument ar (c .head) rest· (clause-head ar ms c h), clause-free ar ms c h) in
+    rw (call-got NoWildcard ar (c .head) rest· (clause-head ar ms c h), clause-free ar ms c h) in
     let bytes· : headFields ar ms ((encCall (c .head) ++ run encSubgoal (c .body)) ++ r) ≡ got (c .head) rest· =
     ap (headFields ar ms) (append-assoc (encCall (c .head)) (run encSubgoal (c .body)) r) ∙ head· in
     then-got _ (record-got (encClause c ++ r) bytes·)
-    ∙ then-got _ (many-got Body (subgoal ar) (SubgoalFits ar) encSubgoal (λ s q. mine-leads Body (encCall s ++ q)) (λ b s q k f. subgoal-got ar b s q k) maxSubgoals [] (c .body) r
+    ∙ then-got _ (many-got Body (subgoal ar) (SubgoalFits ar) encSubgoal (λ s q. own-leads Body (encCall s ++ q) Sg refl) (λ b s q k f. subgoal-got ar b s q k) maxSubgoals [] (c .body) r
     (clause-few ar ms c h) (all-each (callFits Argument ar) [] (c .body) (clause-goals ar ms c h)) o)
 
 clause-reads : (ar : List ℕ) (ms : List Mode) (acc : List Clause) (c : Clause) (r : List ℕ) → ClauseFits ar ms acc c → Follows Clauses r → clause ar ms acc (encClause c ++ r) ≡ got c r
 clause-reads ar ms acc c r h f = clause-got ar ms acc c r h (⊎-elim (clause-ends (markAt r)) (clauses-end (markAt r)) f)
 
 head-inv : (ar : List ℕ) (ms : List Mode) (s : List ℕ) (h : Call) (r : List ℕ) → headFields ar ms s ≡ got h r
-    → (s ≡ encCall h ++ r) × (callFits HeadArgument ar h ≡ true) × (hasMode ms (h .pred) ≡ false)
+    → (s ≡ encCall h ++ r) × (callFits NoWildcard ar h ≡ true) × (hasMode ms (h .pred) ≡ false)
 unfolding headFields
 head-inv ar ms s h r e =
-    let w = then-inv (call HeadArgument ar s) (λ k q. cond (hasMode ms (k .pred)) (bad Clash (length s)) (got k q)) e in
+    let w = then-inv (call NoWildcard ar s) (λ k q. cond (hasMode ms (k .pred)) (bad Clash (length s)) (got k q)) e in
     let x = untest-inv (hasMode ms (w .0 .pred)) (w .0) (w .1) Clash (length s) (w .3) in
-    let b = call-inv HeadArgument ar s (w .0) (w .1) (w .2) in
-    carry (λ (y : Call) (l : List ℕ). (s ≡ encCall y ++ l) × (callFits HeadArgument ar y ≡ true) × (hasMode ms (y .pred) ≡ false)) (x .1) (b .0, b .1, x .0)
+    let b = call-inv NoWildcard ar s (w .0) (w .1) (w .2) in
+    carry (λ (y : Call) (l : List ℕ). (s ≡ encCall y ++ l) × (callFits NoWildcard ar y ≡ true) × (hasMode ms (y .pred) ≡ false)) (x .1) (b .0, b .1, x .0)
 
 pub clause-inv : (ar : List ℕ) (ms : List Mode) (acc : List Clause) (s : List ℕ) (c : Clause) (r : List ℕ) → turn Clauses (markAt s) ≡ Mine → clause ar ms acc s ≡ got c r → (s ≡ encClause c ++ r) × ClauseFits ar ms acc c
 unfolding clause
@@ -226,7 +226,7 @@ clause-inv ar ms acc s c r t e =
     let free : not (hasMode ms (h .pred)) ≡ true = rw (b .2) in
     let bytes· : drop 2 s ≡ (encCall h ++ run encSubgoal (v .0)) ++ v .1 = b .0 ∙ (ap (λ (l : List ℕ). encCall h ++ l) (n .from) ∙ sym (append-assoc (encCall h) (run encSubgoal (v .0)) (v .1))) in
     carry (λ (x : Clause) (l : List ℕ). (s ≡ encClause x ++ l) × ClauseFits ar ms acc x) (v .3) (
-      mine-starts Clauses s t ∙ ap (λ (l : List ℕ). spelling Cl ++ l) bytes·,
+      sole-starts Clauses s sole-clauses t ∙ ap (λ (l : List ℕ). spelling Cl ++ l) bytes·,
       and-intro (b .1) (and-intro free (and-intro (le-leb _ _ (n .few)) (each-all (callFits Argument ar) [] (v .0) (n .good)))),
     )
 
@@ -291,7 +291,7 @@ over-query = refl
 -- ---- the book
 
 read-got : (b : Book) → WellFormed b → readBook (encode b) ≡ got b []
-unfolding readBook rules encode lowFrom
+unfolding readBook rules query encode lowFrom
 read-got b w =
     let ar = b .arities in
     let ms = b .modes in
@@ -299,17 +299,17 @@ read-got b w =
     let q = b .query in
     let few : length ar ≤ maxPredicates = leb-true _ _ (w .fewPredicates) in
     let fewer : length ms ≤ suc maxPredicates = let r = rising ar 0 ms (omega arith) (w .modesFit) (w .modesRise) in omega arith in
-    then-got _ (many-got Predicates predicate PredicateFits encPredicate (λ a r. mine-leads Predicates (a ∷ r)) (λ acc a r k f. predicate-got acc a r k) maxPredicates [] ar
+    then-got _ (many-got Predicates predicate PredicateFits encPredicate (λ a r. own-leads Predicates (a ∷ r) Pr refl) (λ acc a r k f. predicate-got acc a r k) maxPredicates [] ar
     (run encMode ms ++ (run encClause cs ++ asks q)) few (all-each (allows (AtMost maxArity)) [] ar (w .aritiesFit)) (over-predicates q ms cs))
-    ∙ then-got _ (many-got Modes (mode ar) (ModeFits ar) encMode (λ m r. mine-leads Modes (m .pred ∷ length (m .masks) ∷ (m .masks ++ r))) (λ acc m r k f. mode-got ar acc m r k)
+    ∙ then-got _ (many-got Modes (mode ar) (ModeFits ar) encMode (λ m r. own-leads Modes (m .pred ∷ length (m .masks) ∷ (m .masks ++ r)) Mo refl) (λ acc m r k f. mode-got ar acc m r k)
     (suc maxPredicates) [] ms (run encClause cs ++ asks q) fewer (modes-each ar [] ms (w .modesFit) (w .modesRise)) (over-modes q cs))
-    ∙ then-got _ (many-got Clauses (clause ar ms) (ClauseFits ar ms) encClause (λ c r. mine-leads Clauses ((encCall (c .head) ++ run encSubgoal (c .body)) ++ r)) (clause-reads ar ms)
+    ∙ then-got _ (many-got Clauses (clause ar ms) (ClauseFits ar ms) encClause (λ c r. own-leads Clauses ((encCall (c .head) ++ run encSubgoal (c .body)) ++ r) Cl refl) (clause-reads ar ms)
     maxClauses [] cs (asks q) (leb-true _ _ (w .fewClauses)) (all-each (clauseFits ar ms) [] cs (w .clausesFit)) (over-clauses q))
-    ∙ then-got _ (rw append-nil at (many-got Query (subgoal ar) (SubgoalFits ar) encSubgoal (λ c r. mine-leads Query (encCall c ++ r)) (λ acc c r k f. subgoal-got ar acc c r k)
+    ∙ then-got _ (rw append-nil at (many-got Query (subgoal ar) (SubgoalFits ar) encSubgoal (λ c r. own-leads Query (encCall c ++ r) Sg refl) (λ acc c r k f. subgoal-got ar acc c r k)
     maxSubgoals [] q [] (leb-true _ _ (w .fewAsked)) (all-each (callFits Argument ar) [] q (w .queryFits)) over-query))
 
 pub read-inv : (s : List ℕ) (b : Book) (r : List ℕ) → readBook s ≡ got b r → (encode b ≡ s) × WellFormed b
-unfolding readBook rules encode lowFrom
+unfolding readBook rules query encode lowFrom
 read-inv s b r e =
     let made : List ℕ → List Mode → List Clause → List Call → List ℕ → Got Book = λ ar ms cs q t. got (record { arities = ar; modes = ms; clauses = cs; query = q }) t in
     let asked : List ℕ → List Mode → List Clause → List ℕ → Got Book = λ ar ms cs t. andThen (many Query (subgoal ar) maxSubgoals [] (drop 2 t)) (made ar ms cs) in

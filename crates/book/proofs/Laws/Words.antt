@@ -15,7 +15,7 @@ use Rattle.masks.specs.Lists.{values}
 use Rattle.masks.proofs.Laws.Logic.{and-intro, and-left, and-right}
 use Rattle.masks.proofs.Laws.Lists.{length-values, getD-values}
 use Rattle.book.specs.Book.{Call}
-use Rattle.book.specs.Held.{byteOf, callIn}
+use Rattle.book.specs.Held.{countIn, byteOf, callIn}
 
 -- by Horner's rule
 unfoldable pub wordOf : List ℕ → ℕ
@@ -92,7 +92,7 @@ module _ {args : List ℕ} {i w : ℕ} where
 
   -- then the number of the arguments and the predicate
   pub packing-end : {n p : ℕ} → i ≤ 0 → n < 256 → p < 256 → Packing args i w
-      → _≡_ {A = Call} (callIn ((w * 256 + n) * 256 + p)) (record { pred = p; args = take n args })
+      → _≡_ {A = Call} (callIn ((w * 256 + n) * 256 + p)) (record { pred = p; args = take (countIn n) args })
   unfolding wordOf
   packing-end {n} {p} h bn bp k =
       let z : i ≡ 0 = omega arith in
@@ -106,10 +106,10 @@ module _ {args : List ℕ} {i w : ℕ} where
       at : ℕ → ℕ
       at j = byteOf (wordOf l) (2 + j)
 
-      call : ((j : ℕ) → byteOf (wordOf l) j ≡ getD l j 0) → _≡_ {A = Call} (callIn (wordOf l)) (record { pred = p; args = take n args })
+      call : ((j : ℕ) → byteOf (wordOf l) j ≡ getD l j 0) → _≡_ {A = Call} (callIn (wordOf l)) (record { pred = p; args = take (countIn n) args })
       call is =
           ap₂ (λ (q : ℕ) (s : List ℕ). record { pred = q; args = s }) (is 0)
-          (ap₂ (λ (m : ℕ) (s : List ℕ). take m s) (is 1)
+          (ap₂ (λ (m : ℕ) (s : List ℕ). take (countIn m) s) (is 1)
           (ext-getD 0 (values at maxArity) args (length-values at maxArity ∙ sym (k .size))
           (λ j b.
           let e : 2 + j ≡ suc (suc j) = omega arith in

@@ -17,9 +17,6 @@ loop-holds c = search needs
 until-requires : tie.Need-until-requires Inv-loop μ-loop
 until-requires c κs = search needs
 
-sub-answer : tie.Need-sub-answer Inv-loop μ-loop
-sub-answer c = search needs
-
 part-answer-start : tie.Need-part-answer-start Inv-loop μ-loop
 part-answer-start c = search needs
 
@@ -28,12 +25,6 @@ part-answer-end c = search needs
 
 answer-requires : tie.Need-answer-requires Inv-loop μ-loop
 answer-requires c κs = search needs
-
-add-at : tie.Need-add-at Inv-loop μ-loop
-add-at c = search needs
-
-loop-less : tie.Need-loop-less Inv-loop μ-loop
-loop-less c = search needs
 
 loop-again : tie.Need-loop-again Inv-loop μ-loop
 loop-again c = search needs
@@ -49,11 +40,11 @@ answer-all-spec =
     μ-loop
     loop-holds
     until-requires
-    sub-answer
+    (λ c. search needs)
     part-answer-start
     part-answer-end
     answer-requires
-    add-at
-    loop-less
+    (λ c. search needs)
+    (λ c. search needs)
     loop-again
     returns)

@@ -14,10 +14,11 @@ use Rattle.masks.specs.Limits.{allPatterns}
 use Rattle.masks.specs.Constraint.{admits}
 use Rattle.book.specs.Book.{Call, Clause, Book}
 use Rattle.book.specs.Encode.{WellFormed}
-use Rattle.ordering.specs.Adorn.{Table, Bound, nothing, headBound}
+use Rattle.book.specs.Table.{Table, entry}
+use Rattle.ordering.specs.Adorn.{Bound, nothing, headBound}
 use Rattle.ordering.specs.Orders.{Rearranges, count}
 use Rattle.ordering.specs.Good.{readyAt, afterAt, goodFrom, firstGood, isSome, goodClause}
-use Rattle.tables.specs.Table.{entry, modeOf, firstNeed, start, defined, good, step, table, rounds, final}
+use Rattle.tables.specs.Table.{modeOf, firstNeed, start, defined, good, step, table, rounds, final}
 use Rattle.choices.specs.Choice.{clause, Choice, IsChoice, queryCalls, clauseCalls, Reaches, by-query, by-clause, asked, WellModed}
 use Rattle.choices.specs.Plan.{orStanding, firstChoice, chosen}
 use Rattle.masks.proofs.Laws.Logic.{byBool, clash}
@@ -25,7 +26,7 @@ use Rattle.masks.proofs.Laws.Constraint.{inRange-mono, admits-written-up, admit
 use Rattle.ordering.proofs.Laws.Orders.{count-length, count-in, count-distinct}
 use Rattle.ordering.proofs.Laws.Greedy.{good-first}
 use Rattle.ordering.proofs.Laws.Good.{first-is-least, order-good-clause}
-use Rattle.ordering.proofs.Laws.Asks.{asks-fit, fit-asks}
+use Rattle.ordering.proofs.Laws.Asks.{asks-fit, fit-asks, ready-asks}
 use Rattle.tables.proofs.Laws.Valid.{arity-low, masks-low, defined-apart}
 use Rattle.tables.proofs.Laws.Own.{good-at, at-good, defined-at}
 use Rattle.tables.proofs.Laws.Round.{good-up, step-defined, step-outside}
@@ -105,18 +106,19 @@ module _ (B : Book) (w : WellFormed B) where
     -- SOUND: "A choice makes the book well-moded (definition 3.14) when every reached pattern of an outside predicate fits its constraint."; the one
     -- chosen does
     pub sound : WellModed B (chosen B)
-    unfolding WellModed chosen
-    sound p a r d =
-        sym (start-asked p a (reaches-inside B (chosen B) w (chosen-choice (final B) B) r .0)) ∙ final-below-start B w p a (reached-final r)
+    unfolding chosen
+    sound = record {
+      outside = λ p a r d.
+          sym (start-asked p a (reaches-inside B (chosen B) w (chosen-choice (final B) B) r .0)) ∙ final-below-start B w p a (reached-final r);
+    }
 
   -- ---- any choice that makes the book well-moded
 
   module _ (χ : Choice) (ok : IsChoice B χ) (moded : WellModed B χ) where
     reached-start : (p a : ℕ) → Reaches B χ p a → admits (entry (start B) p) a ≡ true
-    unfolding WellModed
     reached-start p a r =
         start-asked p a (reaches-inside B χ w ok r .0)
-        ∙ byBool (defined (B .clauses) p) (λ d. rw (defined-apart B w p d) (trivial-admits a)) (λ d. moded p a r d)
+        ∙ byBool (defined (B .clauses) p) (λ d. rw (defined-apart B w p d) (trivial-admits a)) (λ d. moded .outside p a r d)
 
     -- where a table admits all that is reached, what is reached is good under it
     reached-under : (T : Table) → ((q b : ℕ) → Reaches B χ q b → admits (entry T q) b ≡ true) → (p a : ℕ) → Reaches B χ p a
@@ -128,7 +130,8 @@ module _ (B : Book) (w : WellFormed B) where
         let c : Clause = clause B k in
         order-good-clause T c a (χ .forClause k a) (ok .clause· k a l)
         (fit-asks T (c .body) (headBound (c .head .args) a) (χ .forClause k a)
-        (λ q b t. h q b (by-clause k l (subst (λ (x : ℕ). Reaches B χ x a) (sym e) r) t))))
+        (ready-asks T (c .body) (headBound (c .head .args) a) (χ .forClause k a)
+        (λ q b t. h q b (by-clause k l (subst (λ (x : ℕ). Reaches B χ x a) (sym e) r) t)))))
 
     -- so what a well-moded choice reaches is admitted by every table
     pub reached-table : (k p a : ℕ) → Reaches B χ p a → admits (entry (table B k) p) a ≡ true
@@ -136,21 +139,22 @@ module _ (B : Book) (w : WellFormed B) where
     reached-table zero p a r = reached-start p a r
     reached-table (suc k) p a r = go (table B k) (reached-table k)
       where
-        go : (T : Table) → ((q b : ℕ) → Reaches B χ q b → admits (entry T q) b ≡ true) → admits (entry (step (B .arities) (B .clauses) T) p) a ≡ true
+        go : (T : Table) → ((q b : ℕ) → Reaches B χ q b → admits (entry T q) b ≡ true) → admits (entry (step B T) p) a ≡ true
         go T ih =
             let i = reaches-inside B χ w ok r in
             byBool (defined (B .clauses) p)
-            (λ d. rw (step-defined (B .arities) (B .clauses) T p (i .0) d)
+            (λ d. rw (step-defined B T p (i .0) d)
             (admits-written-up (good T (B .clauses) p) (good-up T (B .clauses) p) (2 ^ getD (B .arities) p 0) a (i .1)
             ∙ reached-under T ih p a r))
-            (λ d. rw (step-outside (B .arities) (B .clauses) T p (i .0) d) (ih p a r))
+            (λ d. rw (step-outside B T p (i .0) d) (ih p a r))
 
     -- COMPLETE: "Reply 7 is given exactly when no choice does."; where one does, the query has an order good against the final table
     pub complete : isSome (firstGood (final B) (B .query) nothing) ≡ true
     unfolding queryCalls final
     complete =
         good-first (readyAt (final B) (B .query)) (afterAt (B .query)) nothing (length (B .query)) (χ .forQuery) (ok .query·)
-        (fit-asks (final B) (B .query) nothing (χ .forQuery) (λ q b t. reached-table (rounds B) q b (by-query t)))
+        (fit-asks (final B) (B .query) nothing (χ .forQuery)
+        (ready-asks (final B) (B .query) nothing (χ .forQuery) (λ q b t. reached-table (rounds B) q b (by-query t))))
 
 -- ---- reply 7
 

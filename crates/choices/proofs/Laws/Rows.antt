@@ -12,10 +12,11 @@ use lib.ListN.{length, length-append}
 use borrow.Author.Tests.{eqb-true, eq-eqb, leb-true}
 use Rattle.masks.specs.Limits.{allPatterns}
 use Rattle.masks.specs.Lists.{joined}
-use Rattle.book.specs.Limits.{maxClauses, maxSubgoals}
-use Rattle.book.specs.Book.{Call, Book}
+use Rattle.book.specs.Limits.{maxClauses, maxSubgoals, longestPlan}
+use Rattle.book.specs.Book.{Call, noClause, Book}
 use Rattle.book.specs.Encode.{run, clauseFits, WellFormed}
-use Rattle.ordering.specs.Adorn.{Table, Bound, nothing, headBound, bit}
+use Rattle.book.specs.Table.{Table}
+use Rattle.ordering.specs.Adorn.{Bound, nothing, headBound, bit}
 use Rattle.ordering.specs.Orders.{In, Rearranges, LexLt, Least, Sorted}
 use Rattle.ordering.specs.Good.{goodFrom, firstGood, isSome}
 use Rattle.tables.specs.Table.{sumBelow, final}
@@ -221,7 +222,7 @@ module _ (B : Book) (w : WellFormed B) where
   unfolding clause
   body-few k h =
       clause-few (B .arities) (B .modes) (clause B k)
-      (all-at (clauseFits (B .arities) (B .modes)) (record { head = record { pred = 0; args = [] }; body = [] }) (B .clauses) k h (w .clausesFit))
+      (all-at (clauseFits (B .arities) (B .modes)) noClause (B .clauses) k h (w .clausesFit))
 
 -- "At most .. 64 clauses, 8 subgoals in a body or query, arity 6": 64 clauses under 64 patterns, 13 bytes each
 pub rows-length : (B : Book) (χ : Choice) (f : ℕ → ℕ → Bool) → WellFormed B → IsChoice B χ → length (run encRow (rowsUnder B χ f)) ≤ 53248
@@ -229,7 +230,7 @@ rows-length B χ f w c =
     omega (arith, clauses-few B w, under-length B χ (λ k a h. omega (arith, body-few B w k h, c .clause· k a h .long)) f)
 
 -- and "QO, n, n places", at most 11 bytes: no plan is longer than 53,259
-pub plan-length : (B : Book) → WellFormed B → length (image B) ≤ 53259
+pub plan-length : (B : Book) → WellFormed B → length (image B) ≤ longestPlan
 unfolding image planRows rowsOf chosen
 plan-length B w =
     let χ = chosen B in

@@ -6,7 +6,7 @@ use Prim.Native.Nat.{ℕ, _^_}
 use Rattle.masks.specs.Outcome.{refused, done}
 use Rattle.masks.specs.Set.{bitAt}
 use Rattle.book.specs.Book.{Mode, Clause}
-use Rattle.book.specs.Format.{markAt, many, predicate, rules, readBook, judge}
+use Rattle.book.specs.Format.{markAt, many, predicate, query, rules, readBook, judge}
 use Rattle.book.specs.Encode.{encode}
 use Rattle.book.specs.Answer.{onBook}
 use Rattle.book.proofs.Laws.Examples.{k1-book}
@@ -73,5 +73,5 @@ k1-lacks = refl
 
 -- "A valid book is next tried for 8": QU twice is 3 at 2, also with 63 chosen
 pub fault-first : closing (2 ^ 63) (81 ∷ 85 ∷ 81 ∷ 85 ∷ []) ≡ refused 3 2
-unfolding compute-close onBook judge readBook many markAt predicate rules
+unfolding compute-close onBook judge readBook many markAt predicate rules query
 fault-first = refl

@@ -14,9 +14,9 @@ use Rattle.masks.specs.Lists.{all}
 use Rattle.masks.specs.Constraint.{admits}
 use Rattle.book.specs.Book.{Clause, Book}
 use Rattle.book.specs.Encode.{WellFormed}
-use Rattle.ordering.specs.Adorn.{Table}
+use Rattle.book.specs.Table.{Table, entry}
 use Rattle.ordering.specs.Good.{goodClause}
-use Rattle.tables.specs.Table.{entry, modeOf, firstNeed, start, own, defined, good, final}
+use Rattle.tables.specs.Table.{modeOf, firstNeed, start, own, defined, good, final}
 use Rattle.closing.specs.Close.{keptClauses, closedMode, closedModes, closeOver}
 use Rattle.masks.proofs.Laws.Logic.{byBool, byRange, clash}
 use Rattle.masks.proofs.Laws.Constraint.{isWritten-mono, minimise-same}

@@ -15,9 +15,8 @@ use Rattle.book.specs.Book.{Mode, Clause, Book}
 use Rattle.book.specs.Format.{allows}
 use Rattle.book.specs.Encode.{modeFits, WellFormed}
 use Rattle.book.specs.Held.{hasIn, modeBytes, modeAt, modesOf, clausesOf, bookIn}
-use Rattle.ordering.specs.Adorn.{Table}
-use Rattle.ordering.specs.Held.{entryIn, tableIn}
-use Rattle.tables.specs.Table.{entry, modeOf, final}
+use Rattle.book.specs.Table.{Table, entry, entryIn, tableIn}
+use Rattle.tables.specs.Table.{modeOf, final}
 use Rattle.closing.specs.Close.{keptClauses, closedMode, modeWith, closedModes, closeOver, close, lacked}
 use Rattle.closing.specs.Held.{ModesClosed, ClausesKept}
 use Rattle.masks.proofs.Laws.Logic.{byBool}

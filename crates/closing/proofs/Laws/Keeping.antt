@@ -9,7 +9,7 @@ use native.Mathlib.Omega.{arith}
 use Rattle.book.specs.Limits.{maxPredicates, maxClauses}
 use Rattle.book.specs.Book.{Call, Clause}
 use Rattle.book.specs.Held.{clauseAt, clausesOf, StoredClause}
-use Rattle.needs.specs.Sets.{Known}
+use Rattle.book.specs.Sets.{Known}
 use Rattle.closing.specs.Close.{keptClauses}
 use Rattle.closing.specs.Held.{ClausesKept}
 use Rattle.book.proofs.Laws.Held.{clausesOf-stored}

@@ -13,7 +13,7 @@ use Rattle.masks.specs.Set.{bitAt}
 use Rattle.book.specs.Limits.{maxPredicates}
 use Rattle.book.specs.Book.{Mode}
 use Rattle.book.specs.Held.{modeAt, StoredMode}
-use Rattle.ordering.specs.Held.{entryIn}
+use Rattle.book.specs.Table.{entryIn}
 use Rattle.closing.specs.Held.{ModesClosed}
 use Rattle.masks.proofs.Laws.Logic.{byBool, clash}
 use Rattle.masks.proofs.Laws.Members.{Over, over-start, over-end, over-lowest, over-member, over-here, over-next}

@@ -9,8 +9,8 @@ use lib.ListN.{length}
 use Rattle.book.specs.Book.{Mode, Clause, Book}
 use Rattle.book.specs.Format.{allows}
 use Rattle.book.specs.Encode.{modeFits, WellFormed}
-use Rattle.ordering.specs.Adorn.{Table}
-use Rattle.tables.specs.Table.{entry, modeOf, final}
+use Rattle.book.specs.Table.{Table, entry}
+use Rattle.tables.specs.Table.{modeOf, final}
 use Rattle.closing.specs.Close.{keptClauses, closedMode, modeWith, closedModes, closeOver}
 use Rattle.masks.proofs.Laws.Logic.{byBool}
 use Rattle.masks.proofs.Laws.Lists.{all-mono, joined-cong}

@@ -15,7 +15,8 @@ use Rattle.book.specs.Limits.{maxClauses, maxSubgoals}
 use Rattle.book.specs.Book.{Clause, Book}
 use Rattle.book.specs.Format.{allows, hasMode}
 use Rattle.book.specs.Encode.{modeFits, clauseFits, WellFormed}
-use Rattle.tables.specs.Table.{entry, modeOf, final}
+use Rattle.book.specs.Table.{entry}
+use Rattle.tables.specs.Table.{modeOf, final}
 use Rattle.closing.specs.Close.{keptClauses, closedMode, closedModes, closeOver}
 use Rattle.masks.proofs.Laws.Logic.{byBool, false-of, and-intro, and-left, and-right}
 use Rattle.masks.proofs.Laws.Constraint.{written-inRange}

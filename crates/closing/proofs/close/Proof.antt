@@ -12,7 +12,7 @@ use Rattle.masks.specs.Outcome.{refused}
 use Rattle.book.specs.Book.{Book}
 use Rattle.book.specs.Format.{book}
 use Rattle.book.specs.Encode.{WellFormed}
-use Rattle.book.specs.Held.{bookIn}
+use Rattle.book.specs.Held.{bookIn, modesSize}
 use Rattle.closing.specs.Close.{lacked, close, closed, closing}
 use Rattle.masks.proofs.Laws.Outcome.{answers-refused}
 use Rattle.book.proofs.Laws.Held.{modeAt-zeros}
@@ -25,7 +25,7 @@ use Rattle.closing.proofs.close.Statement.{statement}
 use Rattle.closing.proofs.close.Tie as tie
 
 read-book-requires : tie.Need-read-book-requires
-read-book-requires c κs = modeAt-zeros 1408
+read-book-requires c κs = modeAt-zeros modesSize
 
 returns : tie.Need-returns
 returns c =

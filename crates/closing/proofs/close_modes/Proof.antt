@@ -19,9 +19,6 @@ loop-holds c = moding-start (c .args .set) (c .args .table .now) (c .args .modes
 cast-p : tie.Need-cast-p Inv-loop μ-loop
 cast-p c = let l = moding-low (c .before .loop .inv) (c .loop-test .taken) in omega arith
 
-sub-rest : tie.Need-sub-rest Inv-loop μ-loop
-sub-rest c = search needs
-
 mode-at-requires : tie.Need-mode-at-requires Inv-loop μ-loop
 mode-at-requires c κs = let l = moding-low (c .before .loop .inv) (c .loop-test .taken) in omega arith
 
@@ -47,7 +44,7 @@ close-modes-spec =
     μ-loop
     loop-holds
     cast-p
-    sub-rest
+    (λ c. search needs)
     mode-at-requires
     put-mode-requires
     loop-less

@@ -16,12 +16,13 @@ use Rattle.book.specs.Limits.{longest}
 use Rattle.book.specs.Book.{Book}
 use Rattle.book.specs.Format.{number, fault, book, judge}
 use Rattle.book.specs.Encode.{encode, WellFormed}
+use Rattle.book.specs.Table.{Table, entry}
 use Rattle.book.specs.declared.fault.Fault.{Fault}
 use Rattle.reading.specs.Judged.{checked}
-use Rattle.ordering.specs.Adorn.{Table, nothing}
+use Rattle.ordering.specs.Adorn.{nothing}
 use Rattle.ordering.specs.Orders.{LexLt, Sorted}
 use Rattle.ordering.specs.Good.{firstGood, isSome}
-use Rattle.tables.specs.Table.{entry, defined, table, settled, rounds, final}
+use Rattle.tables.specs.Table.{defined, table, settled, rounds, final}
 use Rattle.tables.specs.Image.{analysed}
 use Rattle.choices.specs.Choice.{clause, Orderable}
 use Rattle.choices.specs.Reached.{marked, reached}
@@ -105,7 +106,7 @@ module _ (s : List ℕ) (B : Book) (valid : judge s ≡ book B) where
       → (admits (entry (table B (suc k)) p) a ≡ true) ↔ say.GoodPattern (table B k) B p a
   unfolding table clause
   gets k p a h d l =
-      let e = step-admits (B .arities) (B .clauses) (table B k) p h d a l in (
+      let e = step-admits B (table B k) p h d a l in (
         λ t j i q.
             let (σ, r, g) = good-clause-order (table B k) (clause B j) a (good-at _ (table B k) (B .clauses) p a (sym e ∙ t) j i q) in
             (σ, (r, g)),
@@ -115,7 +116,7 @@ module _ (s : List ℕ) (B : Book) (valid : judge s ≡ book B) where
 
   keeps : (k p : ℕ) → p < length (B .arities) → defined (B .clauses) p ≡ false → entry (table B (suc k)) p ≡ entry (table B k) p
   unfolding table
-  keeps k p h d = step-outside (B .arities) (B .clauses) (table B k) p h d
+  keeps k p h d = step-outside B (table B k) p h d
 
   rising : Sorted (λ (r q : Row). LexLt (rowKey B r) (rowKey B q)) (planRows B)
   unfolding planRows rowsOf

@@ -9,8 +9,9 @@ use native.Mathlib.Nat.{zero-add, suc-add}
 use native.Mathlib.Omega.{arith}
 use lib.ListN.{length}
 use Rattle.book.specs.Book.{Call}
+use Rattle.book.specs.Table.{Table}
 use Rattle.ordering.specs.Orders.{In, Distinct, Rearranges, without, count}
-use Rattle.ordering.specs.Adorn.{Table, Bound}
+use Rattle.ordering.specs.Adorn.{Bound}
 use Rattle.ordering.specs.Turns.{goodFrom, firstGood}
 use Rattle.ordering.specs.Good as clause
 use Rattle.ordering.specs.Good.{readyAt, afterAt, isSome}

@@ -1,29 +1,29 @@
--- The loops over the arguments of a call, over the bits of a mask and over the masks of a constraint: what the first of them come to in each
--- lane. One invariant for each loop, with a law for its start, its next turn and its end. Assumes nothing.
+-- The loops over the arguments of a call: what the first of them come to in each lane. One invariant for each loop, with a law for its start, its next
+-- turn and its end. Assumes nothing.
 use mathlib.Core.Path.{_≡_, refl, sym, ap, ap₂, _∙_, subst}
-use mathlib.Core.Bool.{Bool, true, false, not, cond, _&&_, _||_, and-comm}
+use mathlib.Core.Bool.{Bool, true, false, cond}
 use mathlib.Core.List.{List, [], _∷_}
-use Prim.Native.Nat.{ℕ, zero, suc, _+_, _/_, _%_, _^_, _≤_, _<_}
+use Prim.Native.Nat.{ℕ, zero, suc, _+_, _/_, _%_, _≤_, _<_}
 use native.Mathlib.Numerals.{add-one}
 use native.Mathlib.Omega.{arith}
-use lib.Bits.{bitAnd, bitOr}
+use lib.Bits.{bitOr}
 use lib.Dec.{eqb, leb}
 use lib.ListN.{length, getD, set, replicate, take, length-set, getD-replicate, List·getD-eq-default}
 use lib.Seq.{getD-take, getD-set-same, getD-set-other, set-getD}
 use borrow.Author.Tests.{eqb-true, eqb-false, eq-eqb, ne-eqb, lt-ltb, le-ltb, leb-true, leb-false}
-use Rattle.masks.specs.Limits.{maxArity, allPatterns}
-use Rattle.masks.specs.Mask.{within}
-use Rattle.masks.specs.Constraint.{admits, inRange}
+use Rattle.masks.specs.Limits.{maxArity}
 use Rattle.masks.specs.Set.{bitAt}
-use Rattle.ordering.specs.Adorn.{variables, literal, Bound, nothing, isBound, patternOf, bindVar, bindAll, bindHead, headBound}
-use Rattle.lanes.specs.Lanes.{EachLane, lane, Agrees, Binds}
+use Rattle.masks.specs.Patterns.{EachLane, Agrees}
+use Rattle.book.specs.Book.{Call}
+use Rattle.ordering.specs.Adorn.{variables, literal, Bound, nothing, isBound, patternOf, bindVar, bindAll, bindHead, headBound, after}
+use Rattle.lanes.specs.Lanes.{lane, Binds}
 use Rattle.masks.proofs.Laws.Logic.{byBool}
-use Rattle.masks.proofs.Laws.Lists.{any-suc, take-front, front-lt, allBelow}
-use Rattle.masks.proofs.Laws.Constraint.{inRange-at}
-use Rattle.masks.proofs.Laws.Set.{bitAt-zero, bitAt-or}
-use Rattle.masks.proofs.Laws.Members.{bitAt-and}
+use Rattle.masks.proofs.Laws.Lists.{take-front, front-lt}
+use Rattle.masks.proofs.Laws.Set.{bitAt-zero}
+use Rattle.masks.proofs.Laws.Patterns.{ones, bitAt-ones, column, bitAt-column}
+use Rattle.ordering.proofs.Laws.Adorn.{after-args}
 use Rattle.ordering.proofs.Laws.Steps.{var-set, var-skip}
-use Rattle.lanes.proofs.Laws.Words.{ones, bitAt-ones, column, bitAt-column, lane-at, lane-or, lane-zeros, pattern-at, pattern-past, asked, within-bits}
+use Rattle.lanes.proofs.Laws.Words.{lane-at, lane-or, lane-zeros, pattern-at, pattern-past}
 
 -- of the first n of an array, all are done
 all-done : (n i : ℕ) (l : List ℕ) → i ≡ length (take n l) → take i l ≡ take n l
@@ -91,67 +91,18 @@ module _ (vars args : List ℕ) where
       g .made a l j o
       ∙ sym (pattern-at (lane a vars) (take n args) j (omega arith) ∙ ap (isBound (lane a vars)) (getD-take n args j 0 (q .0))))
 
--- ---- the bits of a mask: w has the lanes whose pattern has those of the first k
-
-abbrev pub Masked : ℕ → List ℕ → ℕ → ℕ → Type 0
-Masked mask words w k = EachLane (λ a. (p : ℕ) → Agrees words a p → bitAt w a ≡ allBelow (asked mask p) k)
-
-module _ (mask : ℕ) (words : List ℕ) where
-  pub masked-start : Masked mask words ones 0
-  masked-start a h p f = bitAt-ones a h
-
-  pub masked-skip : (w k : ℕ) → bitAt mask k ≡ false → Masked mask words w k → Masked mask words w (suc k)
-  masked-skip w k e g a h p f = g a h p f ∙ sym (ap (λ (b : Bool). (not b || bitAt p k) && allBelow (asked mask p) k) e)
-
-  pub masked-next : (w k : ℕ) → k < maxArity → bitAt mask k ≡ true → Masked mask words w k → Masked mask words (bitAnd w (getD words k 0)) (suc k)
-  masked-next w k l e g a h p f =
-      bitAt-and w (getD words k 0) a
-      ∙ ap₂ (λ (x y : Bool). x && y) (g a h p f) (f k l)
-      ∙ and-comm (allBelow (asked mask p) k) (bitAt p k)
-      ∙ sym (ap (λ (b : Bool). (not b || bitAt p k) && allBelow (asked mask p) k) e)
-
-  pub masked-end : (w k : ℕ) → mask < 2 ^ k → Masked mask words w k → EachLane (λ a. (p : ℕ) → Agrees words a p → bitAt w a ≡ within mask p)
-  masked-end w k l g a h p f = g a h p f ∙ sym (within-bits k mask p l)
-
--- ---- the masks of a constraint: r has the lanes whose pattern fits one of the first i
-
-abbrev pub Tried : List ℕ → List ℕ → ℕ → ℕ → Type 0
-Tried words masks i r = EachLane (λ a. (p : ℕ) → Agrees words a p → bitAt r a ≡ admits (take i masks) p)
-
--- each is one of six positions
-pub mask-below : (masks : List ℕ) (n i : ℕ) → inRange allPatterns (take n masks) ≡ true → i < length (take n masks) → getD masks i 0 < allPatterns
-mask-below masks n i t h =
-    subst (λ (m : ℕ). m < allPatterns) (getD-take n masks i 0 (front-lt n i masks h .0)) (inRange-at allPatterns (take n masks) i t h)
-
-module _ (words masks : List ℕ) where
-  pub tried-start : Tried words masks 0 0
-  unfolding admits
-  tried-start a h p f = bitAt-zero a
-
-  pub tried-next : (i r w : ℕ) → i < length masks → EachLane (λ a. (p : ℕ) → Agrees words a p → bitAt w a ≡ within (getD masks i 0) p)
-      → Tried words masks i r → Tried words masks (i + 1) (bitOr r w)
-  unfolding admits
-  tried-next i r w l q g a h p f =
-      bitAt-or r w a
-      ∙ ap₂ (λ (x y : Bool). x || y) (g a h p f) (q a h p f)
-      ∙ sym (any-suc (λ m. within m p) 0 masks i l)
-
-  pub tried-end : (n i r : ℕ) → i ≡ length (take n masks) → Tried words masks i r
-      → EachLane (λ a. (p : ℕ) → Agrees words a p → bitAt r a ≡ admits (take n masks) p)
-  tried-end n i r e g a h p f = g a h p f ∙ ap (λ (l : List ℕ). admits l p) (all-done n i masks e)
-
 -- ---- an argument bound in the lanes of r
 
 abbrev pub BindsOne : ℕ → ℕ → List ℕ → List ℕ → Type 0
-BindsOne v r before after = EachLane (λ a. lane a after ≡ cond (bitAt r a) (bindVar (lane a before) v) (lane a before))
+BindsOne v r before then = EachLane (λ a. lane a then ≡ cond (bitAt r a) (bindVar (lane a before) v) (lane a before))
 
-module _ (v r : ℕ) (vars : List ℕ) {after : List ℕ} where
-  pub one-var : v < variables → after ≡ set vars v (bitOr (getD vars v 0) r) → BindsOne v r vars after
+module _ (v r : ℕ) (vars : List ℕ) {then : List ℕ} where
+  pub one-var : v < variables → then ≡ set vars v (bitOr (getD vars v 0) r) → BindsOne v r vars then
   one-var l e a h =
       ap (lane a) e ∙ lane-or a vars v r ∙ ap (λ (b : Bound). cond (bitAt r a) b (lane a vars)) (sym (var-set (lane a vars) v l))
 
   -- a literal or a wildcard
-  pub one-other : variables ≤ v → after ≡ vars → BindsOne v r vars after
+  pub one-other : variables ≤ v → then ≡ vars → BindsOne v r vars then
   one-other l e a h = ap (lane a) e ∙ go (bitAt r a)
     where
       go : (c : Bool) → lane a vars ≡ cond c (bindVar (lane a vars) v) (lane a vars)
@@ -159,7 +110,7 @@ module _ (v r : ℕ) (vars : List ℕ) {after : List ℕ} where
       go false = refl
 
   -- the word that is stored is the one that was there
-  pub one-still : after ≡ set vars v (bitOr (getD vars v 0) r) → bitOr (getD vars v 0) r ≡ getD vars v 0 → after ≡ vars
+  pub one-still : then ≡ set vars v (bitOr (getD vars v 0) r) → bitOr (getD vars v 0) r ≡ getD vars v 0 → then ≡ vars
   one-still e q = e ∙ ap (set vars v) q ∙ set-getD vars v 0
 
 -- ---- the variables of a subgoal: those of the first i arguments are bound in the lanes of r
@@ -170,35 +121,48 @@ bind-suc [] i h b = absurd (omega arith)
 bind-suc (u ∷ l) zero h b = refl
 bind-suc (u ∷ l) (suc i) h b = bind-suc l i (omega arith) (bindVar b u)
 
-module _ (args : List ℕ) (r : ℕ) (before : List ℕ) where
-  pub binding-start : Binds (take 0 args) r before before false
+module _ (pred : ℕ) (args : List ℕ) where
+  -- the call with its first i arguments
+  abbrev pub upTo : ℕ → Call
+  upTo i = record { pred = pred; args = take i args }
+
+  after-none : (b : Bound) → after b (upTo 0) ≡ b
   unfolding bindAll
-  binding-start = record { lanes = λ a h. go (bitAt r a) (lane a before); still = λ e. refl }
-    where
-      go : (c : Bool) (b : Bound) → b ≡ cond c b b
-      go true b = refl
-      go false b = refl
+  after-none b = after-args b (upTo 0)
 
-  pub binding-next : (i : ℕ) {now after : List ℕ} {moved then : Bool} → i < length args → BindsOne (getD args i 0) r now after
-      → (then ≡ false → (moved ≡ false) × (after ≡ now)) → Binds (take i args) r before now moved → Binds (take (i + 1) args) r before after then
-  binding-next i {now} {after} l f m g =
-      record {
-        lanes = λ a h.
-            f a h
-            ∙ ap (λ (b : Bound). cond (bitAt r a) (bindVar b (getD args i 0)) b) (g .lanes a h)
-            ∙ inside (bitAt r a) (lane a before) (bindAll (lane a before) (take i args)) (getD args i 0)
-            ∙ rw add-one (sym (ap (λ (b : Bound). cond (bitAt r a) b (lane a before)) (bind-suc args i l (lane a before))));
-        still = λ e. m e .1 ∙ g .still (m e .0);
-      }
-    where
-      -- in the lanes of r one variable more, elsewhere all as it was
-      inside : (c : Bool) (b d : Bound) (v : ℕ) → cond c (bindVar (cond c d b) v) (cond c d b) ≡ cond c (bindVar d v) b
-      inside true b d v = refl
-      inside false b d v = refl
+  after-suc : (i : ℕ) → i < length args → (b : Bound) → after b (upTo (suc i)) ≡ bindVar (after b (upTo i)) (getD args i 0)
+  after-suc i h b =
+      after-args b (upTo (suc i)) ∙ bind-suc args i h b ∙ ap (λ (c : Bound). bindVar c (getD args i 0)) (sym (after-args b (upTo i)))
 
-  pub binding-end : (n i : ℕ) {now : List ℕ} {moved : Bool} → i ≡ length (take n args) → Binds (take i args) r before now moved
-      → Binds (take n args) r before now moved
-  binding-end n i {now} {moved} e g = subst (λ (l : List ℕ). Binds l r before now moved) (all-done n i args e) g
+  module _ (r : ℕ) (before : List ℕ) where
+    pub binding-start : Binds (upTo 0) r before before false
+    binding-start = record { lanes = λ a h. go (bitAt r a) (lane a before) (sym (after-none (lane a before))); still = λ e. refl }
+      where
+        go : (c : Bool) (b : Bound) {d : Bound} → b ≡ d → b ≡ cond c d b
+        go true b e = e
+        go false b e = refl
+
+    pub binding-next : (i : ℕ) {now then : List ℕ} {moved more : Bool} → i < length args → BindsOne (getD args i 0) r now then
+        → (more ≡ false → (moved ≡ false) × (then ≡ now)) → Binds (upTo i) r before now moved → Binds (upTo (i + 1)) r before then more
+    binding-next i l f m g =
+        record {
+          lanes = λ a h.
+              f a h
+              ∙ ap (λ (b : Bound). cond (bitAt r a) (bindVar b (getD args i 0)) b) (g .lanes a h)
+              ∙ inside (bitAt r a) (lane a before) (after (lane a before) (upTo i)) (getD args i 0)
+              ∙ rw add-one (sym (ap (λ (b : Bound). cond (bitAt r a) b (lane a before)) (after-suc i l (lane a before))));
+          still = λ e. m e .1 ∙ g .still (m e .0);
+        }
+      where
+        -- in the lanes of r one variable more, elsewhere all as it was
+        inside : (c : Bool) (b d : Bound) (v : ℕ) → cond c (bindVar (cond c d b) v) (cond c d b) ≡ cond c (bindVar d v) b
+        inside true b d v = refl
+        inside false b d v = refl
+
+    pub binding-end : (n i : ℕ) {now : List ℕ} {moved : Bool} → i ≡ length (take n args) → Binds (upTo i) r before now moved
+        → Binds (upTo n) r before now moved
+    binding-end n i {now} {moved} e g =
+        subst (λ (l : List ℕ). Binds (record { pred = pred; args = l }) r before now moved) (all-done n i args e) g
 
 -- ---- the variables of a head: those of the first i positions are bound in the lanes that have its bit
 
@@ -218,10 +182,10 @@ module _ (args : List ℕ) where
   unfolding headBound bindHead nothing
   headed-start = record { size = refl; lanes = λ a h. lane-zeros a variables }
 
-  pub headed-next : (i : ℕ) {vars after : List ℕ} → i < length args → i < maxArity → length after ≡ length vars
-      → BindsOne (getD args i 0) (column i) vars after → Headed args i vars → Headed args (i + 1) after
+  pub headed-next : (i : ℕ) {vars then : List ℕ} → i < length args → i < maxArity → length then ≡ length vars
+      → BindsOne (getD args i 0) (column i) vars then → Headed args i vars → Headed args (i + 1) then
   unfolding headBound
-  headed-next i {vars} {after} l k e f g =
+  headed-next i {vars} {then} l k e f g =
       record {
         size = e ∙ g .size;
         lanes = λ a h.

@@ -1,58 +1,16 @@
--- Words of 64 lanes, bit by bit: the word of all lanes, the columns of the positions, a lane of the variables and what a store makes of it, the
--- bits of a pattern, and a mask within a pattern. Assumes nothing.
+-- Words of 64 lanes, bit by bit: a lane of the variables and what a store makes of it, and the bits of a pattern. Assumes nothing.
 use mathlib.Core.Path.{_≡_, refl, sym, ap, _∙_}
-use mathlib.Core.Bool.{Bool, true, false, not, cond, _&&_, _||_, Bool·beq, or-true, or-false}
+use mathlib.Core.Bool.{Bool, true, false, cond, _||_, or-true, or-false}
 use mathlib.Core.List.{List, [], _∷_, map}
-use Prim.Native.Nat.{ℕ, zero, suc, _+_, _*_, _/_, _%_, _^_, _≤_, _<_}
-use native.Mathlib.Nat.{pow-suc}
+use Prim.Native.Nat.{ℕ, zero, suc, _+_, _*_, _/_, _%_, _≤_, _<_}
 use native.Mathlib.Omega.{arith}
 use lib.Bits.{bitOr}
-use lib.Dec.{eqb}
 use lib.ListN.{length, getD, set, replicate, List·getD-map}
 use lib.Seq.{set-getD}
-use borrow.Author.Tests.{eqb-true, eq-eqb}
-use Rattle.masks.specs.Limits.{maxArity, allPatterns}
-use Rattle.masks.specs.Mask.{within}
 use Rattle.masks.specs.Set.{bitAt}
 use Rattle.ordering.specs.Adorn.{Bound, isBound, bit, patternOf}
-use Rattle.lanes.specs.Lanes.{EachLane, lane}
-use Rattle.masks.proofs.Laws.Logic.{byBool, clash, same, or-case, not-elim}
-use Rattle.masks.proofs.Laws.Lists.{allBelow, allBelow-at, at-allBelow}
-use Rattle.masks.proofs.Laws.Mask.{within-zero, within-and, and-within, doubled}
+use Rattle.lanes.specs.Lanes.{lane}
 use Rattle.masks.proofs.Laws.Set.{bitAt-zero, bitAt-or}
-use Rattle.masks.proofs.Laws.Members.{bitAt-and}
-
--- ---- words that are numerals: each of their bits is computed
-
-abbrev pub ones : ℕ
-ones = 18446744073709551615
-
-pub bitAt-ones : EachLane (λ a. bitAt ones a ≡ true)
-unfolding bitAt
-bitAt-ones a h = allBelow-at (bitAt ones) allPatterns refl a h
-
--- word i has the lanes whose pattern has bit i
-abbrev columns : List ℕ
-columns =
-    12297829382473034410 ∷ 14757395258967641292 ∷ 17361641481138401520 ∷ 18374966859414961920 ∷ 18446462603027742720 ∷ 18446744069414584320 ∷ []
-
-abbrev pub column : ℕ → ℕ
-column i = getD columns i 0
-
-abbrev inColumn : ℕ → ℕ → Bool
-inColumn i a = Bool·beq (bitAt (column i) a) (bitAt a i)
-
-pub beq-same : (x y : Bool) → Bool·beq x y ≡ true → x ≡ y
-beq-same true true e = refl
-beq-same true false e = sym e
-beq-same false true e = e
-beq-same false false e = refl
-
-pub bitAt-column : (i : ℕ) → i < maxArity → EachLane (λ a. bitAt (column i) a ≡ bitAt a i)
-unfolding bitAt
-bitAt-column i h a k =
-    beq-same (bitAt (column i) a) (bitAt a i)
-    (allBelow-at (inColumn i) allPatterns (allBelow-at (λ j. allBelow (inColumn j) allPatterns) maxArity refl i h) a k)
 
 -- ---- a lane of the variables
 
@@ -106,42 +64,3 @@ unfolding patternOf
 pattern-past b [] j h = bitAt-zero j
 pattern-past b (v ∷ l) zero h = absurd (omega arith)
 pattern-past b (v ∷ l) (suc j) h = other-bits (patternOf b l) j (isBound b v) ∙ pattern-past b l j (omega arith)
-
--- ---- a mask within a pattern: each bit of the mask is one of the pattern
-
--- the members of a word of k bits
-pub member-below : (k w m : ℕ) → w < 2 ^ k → bitAt w m ≡ true → m < k
-unfolding bitAt
-member-below zero w m l t = let e : w ≡ 0 = omega arith in clash t (ap (λ (x : ℕ). bitAt x m) e ∙ bitAt-zero m)
-member-below (suc k) w zero l t = omega arith
-member-below (suc k) w (suc m) l t = let h = member-below k (w / 2) m (let p = pow-suc 2 k in omega arith) t in omega arith
-
--- bit i, if the mask has it
-abbrev pub asked : ℕ → ℕ → ℕ → Bool
-asked mask p i = not (bitAt mask i) || bitAt p i
-
-within-asked : (mask p i : ℕ) → within mask p ≡ true → asked mask p i ≡ true
-within-asked mask p i t = go (bitAt mask i) (bitAt p i) (ap (λ (x : ℕ). bitAt x i) (sym (within-and mask p t)) ∙ bitAt-and mask p i)
-  where
-    go : (x y : Bool) → x ≡ (x && y) → (not x || y) ≡ true
-    go true y e = sym e
-    go false y e = refl
-
-asked-within : (k mask p : ℕ) → mask < 2 ^ k → ((i : ℕ) → i < k → asked mask p i ≡ true) → within mask p ≡ true
-unfolding bitAt
-asked-within zero mask p l f = let e : mask ≡ 0 = omega arith in ap (λ (x : ℕ). within x p) e ∙ within-zero p
-asked-within (suc k) mask p l f =
-    and-within mask p
-    (doubled mask p (within-and (mask / 2) (p / 2) (asked-within k (mask / 2) (p / 2) (let q = pow-suc 2 k in omega arith) (λ i h. f (suc i) (omega arith))))
-    (digit (f 0 (omega arith))))
-  where
-    digit : asked mask p 0 ≡ true → mask % 2 ≤ p % 2
-    digit t =
-        byBool (eqb (p % 2) 1) (λ e. let q = eqb-true (p % 2) 1 e in omega arith)
-        (λ e. or-case (not (eqb (mask % 2) 1)) (eqb (p % 2) 1) t
-        (λ n. let ne : mask % 2 ≡ 1 → ⊥ = λ q. not-elim (eqb (mask % 2) 1) n (eq-eqb (mask % 2) 1 q) in omega arith) (λ q. clash q e))
-
-pub within-bits : (k mask p : ℕ) → mask < 2 ^ k → within mask p ≡ allBelow (asked mask p) k
-within-bits k mask p l =
-    same (within mask p) (allBelow (asked mask p) k) (λ t. at-allBelow (asked mask p) k (λ i h. within-asked mask p i t))
-    (λ t. asked-within k mask p l (allBelow-at (asked mask p) k t))

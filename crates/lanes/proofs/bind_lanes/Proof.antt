@@ -3,16 +3,17 @@ use mathlib.Core.Path.{sym, _∙_}
 use mathlib.Core.Logic.{⊎-elim}
 use Prim.Native.Nat.{_+_, _-_, _≤_}
 use native.Mathlib.Omega.{arith}
-use lib.ListN.{take, length-take}
+use lib.ListN.{length-take}
 use borrow.Author.Needs.{needs}
+use Rattle.book.specs.Held.{countIn}
 use Rattle.lanes.specs.Lanes.{Binds}
 use Rattle.masks.proofs.Laws.Logic.{clash}
-use Rattle.lanes.proofs.Laws.Steps.{one-var, one-other, one-still, binding-start, binding-next, binding-end}
+use Rattle.lanes.proofs.Laws.Steps.{one-var, one-other, one-still, upTo, binding-start, binding-next, binding-end}
 use Rattle.lanes.proofs.bind_lanes.Statement.{statement}
 use Rattle.lanes.proofs.bind_lanes.Tie as tie
 
 abbrev Inv-loop : tie.InvT-loop
-Inv-loop r vars₀ s n moved₀ i₀ vars moved i = (i ≤ n) × Binds (take i (s .args)) r vars₀ vars moved
+Inv-loop r vars₀ s n moved₀ i₀ vars moved i = (i ≤ n) × Binds (upTo (s .pred) (s .args) i) r vars₀ vars moved
 
 abbrev μ-loop : tie.MeasureT-loop
 μ-loop r vars₀ s n moved₀ i₀ vars moved i = n - i
@@ -21,7 +22,7 @@ arguments-requires : tie.Need-arguments-requires Inv-loop μ-loop
 arguments-requires c κs = search needs
 
 loop-holds : tie.Need-loop-holds Inv-loop μ-loop
-loop-holds c = let args = c .before .args in (omega arith, binding-start (args .t1 .args) (args .r) (args .vars .now))
+loop-holds c = let args = c .before .args in (omega arith, binding-start (args .t1 .pred) (args .t1 .args) (args .r) (args .vars .now))
 
 element-copy-out-v : tie.Need-element-copy-out-v Inv-loop μ-loop
 element-copy-out-v c = let n = c .before .before .arguments .ensures .1 in omega arith
@@ -44,9 +45,6 @@ element-write-vars c = omega arith
 add-i : tie.Need-add-i Inv-loop μ-loop
 add-i c = omega arith
 
-loop-less : tie.Need-loop-less Inv-loop μ-loop
-loop-less c = search needs
-
 loop-again : tie.Need-loop-again Inv-loop μ-loop
 loop-again c =
     let l = c .before .before .before .loop in
@@ -54,7 +52,7 @@ loop-again c =
     let n = c .before .before .before .before .arguments in
     let e = n .ensures .0 in
     let most : l .i + 1 ≤ n .result = omega arith in
-    let next = binding-next (args .t1 .args) (args .r) (args .vars .now) (l .i) (omega (arith, length-take (args .t1 .n) (args .t1 .args))) in (
+    let next = binding-next (args .t1 .pred) (args .t1 .args) (args .r) (args .vars .now) (l .i) (omega (arith, length-take (countIn (args .t1 .n)) (args .t1 .args))) in (
       most,
       ⊎-elim (λ u. next (one-var _ (args .r) (l .vars) (omega arith) (u .3)) (λ f. clash (u .4) f) (l .inv .1))
           (⊎-elim
@@ -68,7 +66,7 @@ returns c =
     let l = c .before .loop in
     let args = c .before .before .before .args in
     let n = c .before .before .arguments .ensures .0 in
-    binding-end (args .t1 .args) (args .r) (args .vars .now) (args .t1 .n) (l .i) (omega arith) (l .inv .1)
+    binding-end (args .t1 .pred) (args .t1 .args) (args .r) (args .vars .now) (countIn (args .t1 .n)) (l .i) (omega arith) (l .inv .1)
 
 pub bind-lanes-spec : {M : Type 1} → statement M
 bind-lanes-spec =
@@ -85,6 +83,6 @@ bind-lanes-spec =
     mul-vars
     element-write-vars
     add-i
-    loop-less
+    (λ c. search needs)
     loop-again
     returns)

@@ -5,7 +5,8 @@ use Prim.Native.Nat.{_-_, _≤_}
 use native.Mathlib.Omega.{arith}
 use lib.ListN.{length, length-take, length-set}
 use borrow.Author.Needs.{needs}
-use Rattle.lanes.proofs.Laws.Words.{column}
+use Rattle.book.specs.Held.{countIn}
+use Rattle.masks.proofs.Laws.Patterns.{column}
 use Rattle.lanes.proofs.Laws.Steps.{one-var, one-other, Headed, headed-start, headed-next, headed-end}
 use Rattle.lanes.proofs.head_lanes.Statement.{statement}
 use Rattle.lanes.proofs.head_lanes.Tie as tie
@@ -49,16 +50,13 @@ array-write-vars c = let s = c .before .before .before .loop .inv .1 .size in om
 add-i : tie.Need-add-i Inv-loop μ-loop
 add-i c = omega arith
 
-loop-less : tie.Need-loop-less Inv-loop μ-loop
-loop-less c = search needs
-
 loop-again : tie.Need-loop-again Inv-loop μ-loop
 loop-again c =
     let l = c .before .before .before .loop in
     let head = c .before .before .before .before .before .args .t1 in
     let n = c .before .before .before .before .arguments .ensures in (
       omega arith,
-      headed-next (head .args) (l .i) (omega (arith, length-take (head .n) (head .args))) (omega arith)
+      headed-next (head .args) (l .i) (omega (arith, length-take (countIn (head .n)) (head .args))) (omega arith)
           (⊎-elim (λ u. ap length (u .1) ∙ length-set (l .vars) _ _) (λ u. ap length (u .1)) (c .if1 .came))
           (⊎-elim (λ u. one-var _ (column (l .i)) (l .vars) (omega arith) (u .1)) (λ u. one-other _ (column (l .i)) (l .vars) (omega arith) (u .1)) (c .if1 .came))
           (l .inv .1),
@@ -69,7 +67,7 @@ returns c =
     let l = c .before .loop in
     let head = c .before .before .before .args .t1 in
     let n = c .before .before .arguments .ensures .0 in
-    headed-end (head .args) (head .n) (omega arith) (l .inv .1)
+    headed-end (head .args) (countIn (head .n)) (omega arith) (l .inv .1)
 
 pub head-lanes-spec : {M : Type 1} → statement M
 head-lanes-spec =
@@ -88,6 +86,6 @@ head-lanes-spec =
     mul-vars-3
     array-write-vars
     add-i
-    loop-less
+    (λ c. search needs)
     loop-again
     returns)

@@ -4,12 +4,11 @@ use mathlib.Core.Logic.{⊎-elim}
 use Prim.Native.Nat.{_-_}
 use native.Mathlib.Omega.{arith}
 use borrow.Author.Needs.{needs}
-use Rattle.masks.specs.Held.{masksOf}
 use Rattle.book.specs.Limits.{maxPredicates}
 use Rattle.book.specs.Held.{callOf, clauseAt}
-use Rattle.ordering.specs.Held.{tableIn}
+use Rattle.book.specs.Table.{tableIn}
 use Rattle.masks.proofs.Laws.Logic.{clash}
-use Rattle.lanes.proofs.Laws.Passing.{Subgoal, subgoal, subgoal-masks, subgoal-ready, Visiting, visiting-start, visiting-next, visiting-end}
+use Rattle.lanes.proofs.Laws.Passing.{Subgoal, subgoal, Visiting, visiting-start, visiting-next, visiting-end}
 use Rattle.lanes.proofs.one_pass.Statement.{statement}
 use Rattle.lanes.proofs.one_pass.Tie as tie
 
@@ -36,35 +35,21 @@ this : (c : tie.After-subgoal-at Inv-loop μ-loop)
     (callOf (c .subgoal-at .result))
 this c = let n = c .before .before .before .subgoals-at .ensures in subgoal (c .before .before .before .before .pre .1) (omega arith) (c .subgoal-at .ensures)
 
-mode-at-requires : tie.Need-mode-at-requires Inv-loop μ-loop
-mode-at-requires c κs = this c .low
-
 ready-lanes-requires : tie.Need-ready-lanes-requires Inv-loop μ-loop
-ready-lanes-requires c κs =
-    let mode = c .before .mode-at in
-    let s = c .before .before .before .before .before .before in
-    subgoal-masks (this (c .before .before)) (s .args .table .now) (masksOf (mode .result)) (mode .ensures) (s .pre .2)
+ready-lanes-requires c κs = (this (c .before) .low, c .before .before .before .before .before .pre .2)
 
 bind-lanes-requires : tie.Need-bind-lanes-requires Inv-loop μ-loop
 bind-lanes-requires c κs = search needs
-
-add-j : tie.Need-add-j Inv-loop μ-loop
-add-j c = search needs
-
-loop-less : tie.Need-loop-less Inv-loop μ-loop
-loop-less c = search needs
 
 loop-again : tie.Need-loop-again Inv-loop μ-loop
 loop-again c =
     let bind = c .before .bind-lanes in
     let ready = c .before .before .before .ready-lanes in
-    let mode = c .before .before .before .before .before .mode-at in
-    let d = c .before .before .before .before .before .before in
+    let d = c .before .before .before .before .before in
     let l = d .before .before .loop in
     let args = d .before .before .before .before .args in
-    visiting-next (tableIn (args .table .now) maxPredicates) (clauseAt (args .rules .now) (args .k) .body) (args .vars .now) (this d)
-    (subgoal-ready (this d) (args .table .now) (masksOf (mode .result)) (mode .ensures) (l .vars) (ready .result) (ready .ensures)) (bind .ensures)
-    (λ e. ⊎-elim (λ u. clash (u .1) e) (λ u. (sym (u .1) ∙ e, u .0 .left)) (c .if1 .came)) (l .inv)
+    visiting-next (tableIn (args .table .now) maxPredicates) (clauseAt (args .rules .now) (args .k) .body) (args .vars .now) (this d) (ready .ensures)
+    (bind .ensures) (λ e. ⊎-elim (λ u. clash (u .1) e) (λ u. (sym (u .1) ∙ e, u .0 .left)) (c .if1 .came)) (l .inv)
 
 returns : tie.Need-returns Inv-loop μ-loop
 returns c =
@@ -82,10 +67,9 @@ one-pass-spec =
     subgoals-at-requires
     loop-holds
     subgoal-at-requires
-    mode-at-requires
     ready-lanes-requires
     bind-lanes-requires
-    add-j
-    loop-less
+    (λ c. search needs)
+    (λ c. search needs)
     loop-again
     returns)

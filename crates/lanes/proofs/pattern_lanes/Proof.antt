@@ -3,6 +3,7 @@
 use Prim.Native.Nat.{_-_, _≤_}
 use native.Mathlib.Omega.{arith}
 use borrow.Author.Needs.{needs}
+use Rattle.book.specs.Held.{countIn}
 use Rattle.lanes.proofs.Laws.Steps.{Words, words-start, words-next, words-end}
 use Rattle.lanes.proofs.pattern_lanes.Statement.{statement}
 use Rattle.lanes.proofs.pattern_lanes.Tie as tie
@@ -34,9 +35,6 @@ array-write-words c = let n = c .before .before .before .before .arguments .ensu
 add-i : tie.Need-add-i Inv-loop μ-loop
 add-i c = let n = c .before .before .before .before .arguments .ensures .1 in omega arith
 
-loop-less : tie.Need-loop-less Inv-loop μ-loop
-loop-less c = search needs
-
 loop-again : tie.Need-loop-again Inv-loop μ-loop
 loop-again c =
     let l = c .before .before .before .loop in
@@ -49,7 +47,7 @@ returns c =
     let l = c .before .loop in
     let args = c .before .before .before .args in
     let n = c .before .before .arguments .ensures .0 in
-    words-end (args .vars .now) (args .t1 .args) (args .t1 .n) (omega arith) (l .inv .1)
+    words-end (args .vars .now) (args .t1 .args) (countIn (args .t1 .n)) (omega arith) (l .inv .1)
 
 pub pattern-lanes-spec : {M : Type 1} → statement M
 pattern-lanes-spec =
@@ -64,6 +62,6 @@ pattern-lanes-spec =
     mul-words
     array-write-words
     add-i
-    loop-less
+    (λ c. search needs)
     loop-again
     returns)

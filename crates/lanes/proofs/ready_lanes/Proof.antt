@@ -1,81 +1,41 @@
--- `lanes::ready_lanes` meets its contract. The loop's invariant: r has the lanes whose pattern fits one of the first i masks. Assumes nothing.
-use mathlib.Core.Path.{_≡_}
-use Prim.Native.Nat.{_-_, _≤_}
-use native.Mathlib.Omega.{arith}
-use lib.ListN.{length, length-take}
+-- `lanes::ready_lanes` meets its contract: in each lane, the pattern fits the constraint that is held at the predicate. Assumes nothing.
+use mathlib.Core.Path.{sym, ap, _∙_}
+use mathlib.Core.List.{List}
+use Prim.Native.Nat.{ℕ}
 use borrow.Author.Needs.{needs}
+use Rattle.masks.specs.Limits.{allPatterns}
+use Rattle.masks.specs.Constraint.{admits, inRange}
+use Rattle.book.specs.Limits.{maxPredicates}
 use Rattle.book.specs.Held.{callOf}
 use Rattle.ordering.specs.Adorn.{patternOf}
 use Rattle.lanes.specs.Lanes.{lane}
-use Rattle.lanes.proofs.Laws.Steps.{mask-below, Tried, tried-start, tried-next, tried-end}
+use Rattle.ordering.proofs.Laws.Held.{ready-held}
 use Rattle.lanes.proofs.ready_lanes.Statement.{statement}
 use Rattle.lanes.proofs.ready_lanes.Tie as tie
 
-abbrev Inv-loop : tie.InvT-loop
-Inv-loop vars c words n r₀ i₀ r i = (i ≤ n) × Tried words (c .masks) i r
-
-abbrev μ-loop : tie.MeasureT-loop
-μ-loop vars c words n r₀ i₀ r i = n - i
-
-pattern-lanes-requires : tie.Need-pattern-lanes-requires Inv-loop μ-loop
+pattern-lanes-requires : tie.Need-pattern-lanes-requires
 pattern-lanes-requires c κs = search needs
 
-count-requires : tie.Need-count-requires Inv-loop μ-loop
-count-requires c κs = search needs
+masks-at-requires : tie.Need-masks-at-requires
+masks-at-requires c κs = c .before .pre .0
 
-loop-holds : tie.Need-loop-holds Inv-loop μ-loop
-loop-holds c = (omega arith, tried-start (c .before .pattern-lanes .result) (c .before .before .args .t2 .masks))
+fit-lanes-requires : tie.Need-fit-lanes-requires
+fit-lanes-requires c κs =
+    let s = c .before .before .before in
+    ap (inRange allPatterns) (c .before .masks-at .ensures) ∙ s .pre .1 (callOf (s .args .s) .pred) (s .pre .0)
 
-element-copy-out-m : tie.Need-element-copy-out-m Inv-loop μ-loop
-element-copy-out-m c =
-    let d = c .before .before .before .before .args .t2 in
-    let e : length (d .masks) ≡ 20 = search needs in
-    let n = c .before .before .count .ensures in
-    omega (arith, length-take (d .n) (d .masks))
-
-mask-lanes-requires : tie.Need-mask-lanes-requires Inv-loop μ-loop
-mask-lanes-requires c κs =
-    let s = c .before .before .before .before .before .before in
-    let n = c .before .before .before .before .count .ensures in
-    mask-below (s .args .t2 .masks) (s .args .t2 .n) (c .before .before .before .loop .i) (s .pre) (omega arith)
-
-add-i : tie.Need-add-i Inv-loop μ-loop
-add-i c = omega arith
-
-loop-less : tie.Need-loop-less Inv-loop μ-loop
-loop-less c = search needs
-
-loop-again : tie.Need-loop-again Inv-loop μ-loop
-loop-again c =
-    let l = c .before .before .before .before .loop in
-    let words = c .before .before .before .before .before .before .pattern-lanes .result in
-    let d = c .before .before .before .before .before .before .before .args .t2 in
-    let n = c .before .before .before .before .before .count .ensures in (
-      omega arith,
-      tried-next words (d .masks) (l .i) (l .r) (c .mask-lanes .result) (omega (arith, length-take (d .n) (d .masks))) (c .mask-lanes .ensures) (l .inv .1),
-    )
-
-returns : tie.Need-returns Inv-loop μ-loop
+returns : tie.Need-returns
 returns c =
-    let l = c .before .loop in
-    let n = c .before .before .count .ensures in
+    let s = c .before .before .before .before in
+    let table = s .args .table .now in
+    let call = callOf (s .args .s) in
+    let masks = c .before .before .masks-at in
     let words = c .before .before .before .pattern-lanes in
-    let args = c .before .before .before .before .args in
-    λ a h. tried-end (words .result) (args .t2 .masks) (args .t2 .n) (l .i) (l .r) (omega arith) (l .inv .1) a h
-    (patternOf (lane a (args .vars .now)) (callOf (args .s) .args)) (words .ensures a h)
+    λ a h.
+    let b = lane a (s .args .vars .now) in
+    c .fit-lanes .ensures a h (patternOf b (call .args)) (words .ensures a h)
+    ∙ ap (λ (m : List ℕ). admits m (patternOf b (call .args))) (masks .ensures)
+    ∙ sym (ready-held table maxPredicates b call (s .pre .0))
 
 pub ready-lanes-spec : {M : Type 1} → statement M
-ready-lanes-spec =
-    tie.close
-    (tie.spec
-    Inv-loop
-    μ-loop
-    pattern-lanes-requires
-    count-requires
-    loop-holds
-    element-copy-out-m
-    mask-lanes-requires
-    add-i
-    loop-less
-    loop-again
-    returns)
+ready-lanes-spec = tie.close (tie.spec pattern-lanes-requires masks-at-requires fit-lanes-requires returns)

@@ -30,17 +30,8 @@ digit-requires c κs = search needs
 cast-least : tie.Need-cast-least Inv-loop μ-loop
 cast-least c = search needs
 
-add-least : tie.Need-add-least Inv-loop μ-loop
-add-least c = search needs
-
 least-requires : tie.Need-least-requires Inv-loop μ-loop
 least-requires c κs = search needs
-
-add-i : tie.Need-add-i Inv-loop μ-loop
-add-i c = search needs
-
-loop-less : tie.Need-loop-less Inv-loop μ-loop
-loop-less c = search needs
 
 loop-again : tie.Need-loop-again Inv-loop μ-loop
 loop-again c =
@@ -61,9 +52,9 @@ decimal-spec =
     shared-slice-read-digit
     digit-requires
     cast-least
-    add-least
+    (λ c. search needs)
     least-requires
-    add-i
-    loop-less
+    (λ c. search needs)
+    (λ c. search needs)
     loop-again
     returns)

@@ -18,9 +18,6 @@ returns-3 : tie.Need-returns-3
 unfolding digitOf
 returns-3 c = let x = c .before .before .before .args .x in (rw (le-ltb x 48 (omega arith), lt-leb x 57 (omega arith), lt-ltb x 97 (omega arith)), omega arith)
 
-add-result : tie.Need-add-result
-add-result c = search needs
-
 returns-4 : tie.Need-returns-4
 unfolding digitOf
 returns-4 c =
@@ -34,4 +31,4 @@ returns-5 c =
     (rw (le-ltb x 48 (omega arith), lt-leb x 57 (omega arith), le-ltb x 97 (omega arith), lt-leb x 102 (omega arith)), omega arith)
 
 pub digit-spec : {M : Type 1} → statement M
-digit-spec = tie.close (tie.spec returns returns-2 returns-3 add-result returns-4 returns-5)
+digit-spec = tie.close (tie.spec returns returns-2 returns-3 (λ c. search needs) returns-4 returns-5)

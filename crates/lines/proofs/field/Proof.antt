@@ -25,12 +25,6 @@ until-requires c κs = search needs
 after-requires : tie.Need-after-requires Inv-loop μ-loop
 after-requires c κs = search needs
 
-add-i : tie.Need-add-i Inv-loop μ-loop
-add-i c = search needs
-
-loop-less : tie.Need-loop-less Inv-loop μ-loop
-loop-less c = search needs
-
 loop-again : tie.Need-loop-again Inv-loop μ-loop
 loop-again c =
     let loop = c .before .before .before .loop in
@@ -38,9 +32,6 @@ loop-again c =
 
 until-requires-2 : tie.Need-until-requires-2 Inv-loop μ-loop
 until-requires-2 c κs = search needs
-
-sub-result : tie.Need-sub-result Inv-loop μ-loop
-sub-result c = search needs
 
 part-result-start : tie.Need-part-result-start Inv-loop μ-loop
 part-result-start c = search needs
@@ -60,11 +51,11 @@ field-spec =
     loop-holds
     until-requires
     after-requires
-    add-i
-    loop-less
+    (λ c. search needs)
+    (λ c. search needs)
     loop-again
     until-requires-2
-    sub-result
+    (λ c. search needs)
     part-result-start
     part-result-end
     returns)

@@ -33,12 +33,6 @@ cast-n c = search needs
 add-n : tie.Need-add-n Inv-loop μ-loop
 add-n c = let m = reading-room (c .before .before .before .before .loop .inv) (c .before .before .before .loop-test .taken) (c .digit .ensures .1) in omega arith
 
-add-i : tie.Need-add-i Inv-loop μ-loop
-add-i c = search needs
-
-loop-less : tie.Need-loop-less Inv-loop μ-loop
-loop-less c = search needs
-
 loop-again : tie.Need-loop-again Inv-loop μ-loop
 loop-again c = let r = c .before .before .before .before .loop .inv in let l = r .there in reading-next r (c .before .before .before .loop-test .taken) (omega arith) (c .digit .ensures .0) (c .digit .ensures .1)
 
@@ -58,7 +52,7 @@ hex-number-spec =
     digit-requires
     cast-n
     add-n
-    add-i
-    loop-less
+    (λ c. search needs)
+    (λ c. search needs)
     loop-again
     returns-2)

@@ -21,9 +21,6 @@ abbrev μ-loop : tie.MeasureT-loop
 loop-holds : tie.Need-loop-holds Inv-loop μ-loop
 loop-holds c = (omega arith, omega arith)
 
-sub-begins : tie.Need-sub-begins Inv-loop μ-loop
-sub-begins c = search needs
-
 part-begins-start : tie.Need-part-begins-start Inv-loop μ-loop
 part-begins-start c = search needs
 
@@ -41,12 +38,6 @@ returns c =
     let k = c .before .before .before .before .before in
     let z = inputs-here (k .before .before .args .line .now) (k .loop .i) (c .before .begins .ensures) (c .before .before .before .before .loop-test .taken) (c .if1 .taken) in
     ((omega arith, sym (length-take-le _ _ (omega arith))), omega (arith, z, k .loop .inv .1))
-
-add-i : tie.Need-add-i Inv-loop μ-loop
-add-i c = search needs
-
-loop-less : tie.Need-loop-less Inv-loop μ-loop
-loop-less c = search needs
 
 loop-again : tie.Need-loop-again Inv-loop μ-loop
 loop-again c =
@@ -67,13 +58,13 @@ results-at-spec =
     Inv-loop
     μ-loop
     loop-holds
-    sub-begins
+    (λ c. search needs)
     part-begins-start
     part-begins-end
     slice-aggregate-begins
     begins-requires
     returns
-    add-i
-    loop-less
+    (λ c. search needs)
+    (λ c. search needs)
     loop-again
     returns-2)

@@ -21,9 +21,6 @@ abbrev μ-loop : tie.MeasureT-loop
 loop-holds : tie.Need-loop-holds Inv-loop μ-loop
 loop-holds c = (omega arith, refl, omega arith, refl)
 
-sub-if1 : tie.Need-sub-if1 Inv-loop μ-loop
-sub-if1 c = search needs
-
 same-length : tie.Need-same-length Inv-loop μ-loop
 same-length c = c .before .before .loop .inv .1
 
@@ -43,9 +40,6 @@ digit-requires c κs = search needs
 mul-to : tie.Need-mul-to Inv-loop μ-loop
 mul-to c = search needs
 
-add-digit : tie.Need-add-digit Inv-loop μ-loop
-add-digit c = search needs
-
 shared-slice-read-digit-2 : tie.Need-shared-slice-read-digit-2 Inv-loop μ-loop
 shared-slice-read-digit-2 c = search needs
 
@@ -57,12 +51,6 @@ add-to c = omega (arith, c .before .before .digit .ensures, c .digit2 .ensures)
 
 slice-write-to : tie.Need-slice-write-to Inv-loop μ-loop
 slice-write-to c = search needs
-
-add-n : tie.Need-add-n Inv-loop μ-loop
-add-n c = search needs
-
-add-at : tie.Need-add-at Inv-loop μ-loop
-add-at c = search needs
 
 loop-less : tie.Need-loop-less Inv-loop μ-loop
 loop-less c = simp length-set (omega arith)
@@ -91,19 +79,19 @@ unhex-spec =
     Inv-loop
     μ-loop
     loop-holds
-    sub-if1
+    (λ c. search needs)
     same-length
     returns
     shared-slice-read-digit
     digit-requires
     mul-to
-    add-digit
+    (λ c. search needs)
     shared-slice-read-digit-2
     digit-requires-2
     add-to
     slice-write-to
-    add-n
-    add-at
+    (λ c. search needs)
+    (λ c. search needs)
     loop-less
     loop-again
     same-length-2

@@ -31,12 +31,6 @@ returns c =
     let z = before-here (a .s .now) (a .stop) (loop .i) (c .before .before .loop-test .taken) (c .if1 .taken) in
     ((omega arith, (omega arith, sym (length-take-le _ _ (omega arith)))), omega (arith, z, loop .inv .2))
 
-add-i : tie.Need-add-i Inv-loop μ-loop
-add-i c = search needs
-
-loop-less : tie.Need-loop-less Inv-loop μ-loop
-loop-less c = search needs
-
 loop-again : tie.Need-loop-again Inv-loop μ-loop
 loop-again c =
     let loop = c .before .before .before .loop in
@@ -60,7 +54,7 @@ until-spec =
     loop-holds
     shared-slice-read-if1
     returns
-    add-i
-    loop-less
+    (λ c. search needs)
+    (λ c. search needs)
     loop-again
     returns-2)

@@ -1,6 +1,6 @@
 -- Constraints. Each mask of a set contains a least one, so the written form admits what the set admits; and a mask of a written form is told
 -- from what the form admits, so two written forms that admit the same patterns are equal. Assumes nothing.
-use mathlib.Core.Path.{_≡_, refl, sym, ap, ap₂, _∙_, subst}
+use mathlib.Core.Path.{_≡_, refl, sym, ap, ap₂, _∙_}
 use mathlib.Core.Bool.{Bool, true, false, not, cond, _&&_, _||_, and-or-distrib-left, and-or-distrib-right, and-false, and-true, or-false, false≢true}
 use mathlib.Core.List.{List, [], _∷_, _++_, map, append-nil}
 use Prim.Native.Nat.{ℕ, zero, suc, _+_, _^_, _≤_, _<_, _-_}
@@ -383,6 +383,3 @@ sameMasks-refl (x ∷ xs) = and-intro (eq-eqb x x refl) (sameMasks-refl xs)
 
 pub sameMasks-other : (xs ys : List ℕ) → (xs ≡ ys → ⊥) → false ≡ sameMasks xs ys
 sameMasks-other xs ys ne = sym (false-of (λ t. ne (sameMasks-true xs ys t)))
-
-pub sameMasks-equal : (xs ys : List ℕ) → xs ≡ ys → true ≡ sameMasks xs ys
-sameMasks-equal xs ys e = sym (subst (λ (zs : List ℕ). sameMasks xs zs ≡ true) e (sameMasks-refl xs))

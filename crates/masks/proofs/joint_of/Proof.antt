@@ -31,12 +31,6 @@ with-unions-requires c κs =
     let s = c .before .before .before .before .before .args in
     (inRange-at 64 (s .first .now) (l .i) (p .0) (omega arith), p .1)
 
-add-i : tie.Need-add-i Inv-loop μ-loop
-add-i c = search needs
-
-loop-less : tie.Need-loop-less Inv-loop μ-loop
-loop-less c = search needs
-
 loop-again : tie.Need-loop-again Inv-loop μ-loop
 loop-again c =
     let s = c .before .before .before .before .before .before .args in
@@ -61,8 +55,8 @@ joint-of-spec =
     loop-holds
     shared-slice-read-with-unions
     with-unions-requires
-    add-i
-    loop-less
+    (λ c. search needs)
+    (λ c. search needs)
     loop-again
     written-requires
     returns)

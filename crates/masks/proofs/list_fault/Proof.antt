@@ -30,12 +30,6 @@ returns-2 c =
     let s = c .before .before .before .before .before .args in
     fault-mask (s .limit) (s .masks .now) (omega arith) (c .before .before .before .loop .i) (omega arith) (omega arith)
 
-add-i : tie.Need-add-i Inv-loop μ-loop
-add-i c = search needs
-
-loop-less : tie.Need-loop-less Inv-loop μ-loop
-loop-less c = search needs
-
 loop-again : tie.Need-loop-again Inv-loop μ-loop
 loop-again c =
     let s = c .before .before .before .before .before .args in
@@ -58,7 +52,7 @@ list-fault-spec =
     loop-holds
     shared-slice-read-if2
     returns-2
-    add-i
-    loop-less
+    (λ c. search needs)
+    (λ c. search needs)
     loop-again
     returns-3)

@@ -5,7 +5,7 @@ use Prim.Native.Nat.{ℕ}
 use lib.ListN.{length}
 use Rattle.masks.specs.Outcome.{done}
 use Rattle.book.specs.Book.{Book}
-use Rattle.ordering.specs.Held.{tableIn}
+use Rattle.book.specs.Table.{tableIn}
 use Rattle.tables.specs.Table.{rounds, final}
 use Rattle.tables.specs.Image.{rows, image, analysed, analysis}
 

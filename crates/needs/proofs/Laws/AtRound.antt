@@ -16,17 +16,16 @@ use Rattle.masks.proofs.Laws.Lists.{values-cong}
 use Rattle.masks.proofs.Laws.Set.{bitAt-zero}
 use Rattle.masks.proofs.Laws.Members.{lowest}
 use Rattle.masks.proofs.Laws.Constraint.{written-cong, sameMasks-true, sameMasks-refl}
+use Rattle.book.proofs.Laws.Table.{tableIn-at, tableIn-length}
 use Rattle.book.specs.Limits.{maxPredicates}
 use Rattle.book.specs.Book.{Clause, Book}
 use Rattle.book.specs.Encode.{WellFormed}
-use Rattle.ordering.specs.Adorn.{Table}
-use Rattle.ordering.specs.Held.{entryIn, tableIn, Low}
-use Rattle.ordering.proofs.Laws.Held.{tableIn-at, tableIn-length}
-use Rattle.tables.specs.Table.{entry, defined, good, next, step, start, table, rounds, final}
+use Rattle.book.specs.Table.{Table, entry, entryIn, tableIn, Low}
+use Rattle.tables.specs.Table.{defined, good, next, step, start, table, rounds, final}
 use Rattle.tables.specs.Calls.{touched}
 use Rattle.tables.proofs.Laws.Valid.{bodies-known, defined-known}
 use Rattle.tables.proofs.Laws.Round.{good-cut, next-same, step-at, step-defined, step-outside}
-use Rattle.tables.proofs.Laws.Rounds.{Going, going-start, going-next, going-less, going-rounds, going-final}
+use Rattle.tables.proofs.Laws.Rounds.{start-proper, table-proper, Going, going-start, going-next, going-less, going-rounds, going-final}
 use Rattle.needs.specs.Round.{allGood, Given, Due, Stepped}
 use Rattle.needs.proofs.Laws.Calls.{own-good}
 use Rattle.needs.proofs.Laws.Rounding.{few-predicates, few-clauses, gets, Rounding}
@@ -40,7 +39,7 @@ module _ (B : Book) (arities rules own· old : List ℕ) (due : ℕ) (g : Given 
 
   -- what a predicate due gets is what the step gives it
   gets-next : (p : ℕ) → p < size → defined (B .clauses) p ≡ true
-      → gets arities rules own· old due p ≡ entry (step (B .arities) (B .clauses) (tableIn old size)) p
+      → gets arities rules own· old due p ≡ entry (step B (tableIn old size)) p
   gets-next p h d =
       let n = few-predicates B arities rules own· g in
       let k = few-clauses B arities rules own· g in
@@ -50,7 +49,7 @@ module _ (B : Book) (arities rules own· old : List ℕ) (due : ℕ) (g : Given 
       own-good rules (length (B .clauses)) (getD own· p 0) p (tableIn old maxPredicates) a k (g .owns p (omega arith))
       ∙ ap (λ (cs : List Clause). good (tableIn old maxPredicates) cs p a) (g .clauses·)
       ∙ good-cut old size maxPredicates n (B .clauses) (bodies-known B (g .well)) p a)
-      ∙ sym (step-defined (B .arities) (B .clauses) (tableIn old size) p h d)
+      ∙ sym (step-defined B (tableIn old size) p h d)
 
   pub rounding-end : {new : List ℕ} {changed : ℕ} → Rounding arities rules own· old due new changed maxPredicates
       → Due B (tableIn old size) due → Stepped B old new changed
@@ -58,18 +57,18 @@ module _ (B : Book) (arities rules own· old : List ℕ) (due : ℕ) (g : Given 
   rounding-end {new} {changed} r d =
       let n = few-predicates B arities rules own· g in
       record {
-        table = values-cong (entryIn new) (λ p. next (tableIn old size) (B .clauses) (getD (B .arities) p 0) p) size (λ p h. each p h (omega arith));
+        table = values-cong (entryIn new) (next B (tableIn old size)) size (λ p h. each p h (omega arith));
         low = r .low;
         changed· = λ p h. r .marked p;
         within = λ p e. defined-known B (g .well) p (d .defined· p (r .inside p e));
       }
     where
-      each : (p : ℕ) → p < size → p < maxPredicates → entryIn new p ≡ next (tableIn old size) (B .clauses) (getD (B .arities) p 0) p
+      each : (p : ℕ) → p < size → p < maxPredicates → entryIn new p ≡ next B (tableIn old size) p
       each p h l =
           byBool (bitAt due p)
           (λ e. r .done p l e ∙ gets-next p h (d .defined· p e))
           (λ e. r .kept p (λ t. clash t e) ∙ sym (tableIn-at old size p h) ∙ sym (d .others p h e))
-          ∙ step-at (B .arities) (B .clauses) (tableIn old size) p h
+          ∙ step-at B (tableIn old size) p h
 
 -- ---- the loop: table k, with what is due
 
@@ -78,15 +77,16 @@ pub record AtRound (B : Book) (k : ℕ) (needs : List ℕ) (due : ℕ) : Type 0 
   pub low : Low needs
   pub due· : Due B (tableIn needs (length (B .arities))) due
 
-pub at-round-start : (B : Book) (needs : List ℕ) (due : ℕ) → tableIn needs (length (B .arities)) ≡ start B → Low needs → Holds due (defined (B .clauses))
+pub at-round-start : (B : Book) → WellFormed B → (needs : List ℕ) (due : ℕ) → tableIn needs (length (B .arities)) ≡ start B → Low needs → Holds due (defined (B .clauses))
     → AtRound B 0 needs due
-at-round-start B needs due e l h =
+at-round-start B w needs due e l h =
     record {
       going = subst (λ (T : Table). Going B 0 T) (sym e) (going-start B);
       low = l;
       due· = record {
         defined· = λ p t. sym (h p) ∙ t;
-        others = λ p i t. step-outside (B .arities) (B .clauses) (tableIn needs (length (B .arities))) p i (sym (h p) ∙ t);
+        written· = λ p i t. rw e (start-proper B w .written· p i);
+        others = λ p i t. step-outside B (tableIn needs (length (B .arities))) p i (sym (h p) ∙ t);
       };
     }
 
@@ -102,7 +102,7 @@ module _ (B : Book) (w : WellFormed B) (k : ℕ) (old : List ℕ) (due : ℕ) (t
   unmarked p h e = sameMasks-true (entryIn new p) (entryIn old p) (not-false (sameMasks (entryIn new p) (entryIn old p)) (sym (s .changed· p h) ∙ e))
 
   -- none is marked: the table is settled
-  same-table : changed ≡ 0 → step (B .arities) (B .clauses) (tableIn old n) ≡ tableIn old n
+  same-table : changed ≡ 0 → step B (tableIn old n) ≡ tableIn old n
   unfolding tableIn
   same-table e =
       let f = few in
@@ -116,7 +116,7 @@ module _ (B : Book) (w : WellFormed B) (k : ℕ) (old : List ℕ) (due : ℕ) (t
 
   -- one is marked: the table is another
   module _ (small : changed < 2 ^ 64) (z : changed ≡ 0 → ⊥) where
-    other-table : step (B .arities) (B .clauses) (tableIn old n) ≡ tableIn old n → ⊥
+    other-table : step B (tableIn old n) ≡ tableIn old n → ⊥
     other-table e =
         let m = trailingZeros 64 changed in
         let l = lowest 64 changed small z in
@@ -130,17 +130,19 @@ module _ (B : Book) (w : WellFormed B) (k : ℕ) (old : List ℕ) (due : ℕ) (t
     at-round-less = going-less B k (tableIn old n) (t .going) w other-table
 
     pub at-round-next : {more : ℕ} → Holds more (touched (bitAt changed) (B .clauses)) → AtRound B (suc k) new more
+    unfolding table
     at-round-next {more} h =
         record {
           going = subst (λ (T : Table). Going B (suc k) T) (sym (s .table)) (going-next B k (tableIn old n) (t .going) other-table);
           low = s .low;
           due· = record {
             defined· = λ p e. touched-defined (bitAt changed) (B .clauses) p (sym (h p) ∙ e);
+            written· = λ p i e. rw (s .table ∙ ap (step B) (t .going .now)) (table-proper B w (suc k) .written· p i);
             others = λ p i e. byBool (defined (B .clauses) p)
-                (λ d. step-at (B .arities) (B .clauses) (tableIn new n) p i
-                ∙ next-same (tableIn new n) (tableIn old n) (bitAt changed) agree (B .clauses) p d (sym (h p) ∙ e) (getD (B .arities) p 0)
-                ∙ sym (step-at (B .arities) (B .clauses) (tableIn old n) p i) ∙ ap (λ (T : Table). entry T p) (sym (s .table)))
-                (λ d. step-outside (B .arities) (B .clauses) (tableIn new n) p i d);
+                (λ d. step-at B (tableIn new n) p i
+                ∙ next-same (tableIn new n) (tableIn old n) (bitAt changed) agree B p d (sym (h p) ∙ e)
+                ∙ sym (step-at B (tableIn old n) p i) ∙ ap (λ (T : Table). entry T p) (sym (s .table)))
+                (λ d. step-outside B (tableIn new n) p i d);
           };
         }
       where

@@ -1,7 +1,7 @@
 -- Who calls whom. One invariant for each loop that makes the sets, with a law for its start, its next turn and its end; then what the sets say: who
 -- calls one of a set has a clause that does, and the clauses of a set are good where the predicate's are. Assumes nothing.
 use mathlib.Core.Path.{_≡_, refl, sym, ap, ap₂, _∙_, subst}
-use mathlib.Core.Bool.{Bool, true, false, cond, _&&_, _||_, and-true, and-false, and-or-distrib-right, or-true, or-assoc, or-false}
+use mathlib.Core.Bool.{Bool, true, false, cond, _&&_, _||_, and-true, and-false, and-or-distrib-right, or-assoc, or-false}
 use mathlib.Core.List.{List, [], _∷_}
 use Prim.Native.Nat.{ℕ, zero, suc, _+_, _-_, _^_, _≤_, _<_}
 use native.Mathlib.Numerals.{add-one}
@@ -9,107 +9,27 @@ use native.Mathlib.Omega.{arith}
 use lib.Bits.{bitAnd, bitOr}
 use lib.Count.{trailingZeros}
 use lib.Dec.{eqb, ltb}
-use lib.ListN.{length, getD, take, set, replicate, length-set, length-replicate, getD-replicate}
-use lib.Seq.{take-all, getD-set-same, getD-set-other}
+use lib.ListN.{length, getD, take, set, replicate, length-set}
+use lib.Seq.{take-all}
 use borrow.Author.Tests.{eqb-true, eqb-false, ne-eqb, ltb-true, lt-ltb, le-ltb}
 use Rattle.masks.specs.Lists.{any}
 use Rattle.masks.specs.Set.{bitAt, Holds}
 use Rattle.book.specs.Limits.{maxPredicates, maxClauses}
-use Rattle.book.specs.Book.{Call}
+use Rattle.book.specs.Book.{Call, noCall}
 use Rattle.book.specs.Held.{callOf, clauseAt, clausesOf}
+use Rattle.book.specs.Table.{Table}
+use Rattle.book.specs.Sets.{callsBelow, Known}
 use Rattle.book.specs.declared.clause.Call as call
-use Rattle.ordering.specs.Adorn.{Table}
 use Rattle.ordering.specs.Good.{at, goodClause}
-use Rattle.ordering.specs.Held.{callsBelow}
 use Rattle.tables.specs.Calls.{calls, touched}
 use Rattle.tables.specs.Table.{own, defined, good}
-use Rattle.needs.specs.Sets.{eachIn, someIn, Owns, Calling, Known, Added}
-use Rattle.masks.proofs.Laws.Logic.{byBool, same, and-left, and-right}
+use Rattle.needs.specs.Sets.{eachIn, someIn, Calling, Added}
+use Rattle.masks.proofs.Laws.Logic.{byBool, and-left, and-right}
 use Rattle.masks.proofs.Laws.Lists.{any-suc}
-use Rattle.masks.proofs.Laws.Set.{bitAt-zero, bitAt-or, eqb-comm, bitAt-more}
+use Rattle.masks.proofs.Laws.Set.{bitAt-zero, bitAt-or, bitAt-more}
 use Rattle.masks.proofs.Laws.Members.{Over, over-start, over-end, over-lowest, over-member, over-here, over-next}
-use Rattle.ordering.proofs.Laws.Held.{callsBelow-at}
+use Rattle.book.proofs.Laws.Sets.{callsBelow-at, stored-more, bitAt-none}
 use Rattle.tables.proofs.Laws.Own.{defined-snoc, touched-snoc, good-snoc}
-
--- ---- one member more, in a word and in a word of an array
-
-pub stored-more : (words : List ℕ) (p m : ℕ) → p < length words
-    → (q k : ℕ) → bitAt (getD (set words p (bitOr (getD words p 0) (2 ^ m))) q 0) k ≡ (bitAt (getD words q 0) k || (eqb q p && eqb m k))
-stored-more words p m h q k =
-    byBool (eqb q p)
-    (λ t.
-    let e = eqb-true q p t in
-    ap (λ (i : ℕ). bitAt (getD (set words p (bitOr (getD words p 0) (2 ^ m))) i 0) k) e
-    ∙ ap (λ (w : ℕ). bitAt w k) (getD-set-same words p (bitOr (getD words p 0) (2 ^ m)) 0 h)
-    ∙ bitAt-more (getD words p 0) m k
-    ∙ ap₂ (λ (i : ℕ) (b : Bool). bitAt (getD words i 0) k || (b && eqb m k)) (sym e) (sym t))
-    (λ t.
-    ap (λ (w : ℕ). bitAt w k) (getD-set-other words p q (bitOr (getD words p 0) (2 ^ m)) 0 (eqb-false q p t))
-    ∙ sym (or-false (bitAt (getD words q 0) k)) ∙ ap (λ (b : Bool). bitAt (getD words q 0) k || (b && eqb m k)) (sym t))
-
--- an array of empty sets
-pub bitAt-none : (q k : ℕ) → q < maxPredicates → bitAt (getD (replicate maxPredicates 0) q 0) k ≡ false
-bitAt-none q k h = ap (λ (w : ℕ). bitAt w k) (getD-replicate maxPredicates q 0 0 h) ∙ bitAt-zero k
-
--- the numbers below one more
-ltb-suc : (i k : ℕ) → ltb i (k + 1) ≡ (ltb i k || eqb k i)
-ltb-suc i k =
-    byBool (eqb k i)
-    (λ t. let e = eqb-true k i t in rw t (lt-ltb i (k + 1) (omega arith) ∙ sym (or-true (ltb i k))))
-    (λ t.
-    let ne : k ≡ i → ⊥ = eqb-false k i t in
-    rw t
-    (same (ltb i (k + 1)) (ltb i k) (λ l. let h = ltb-true i (k + 1) l in lt-ltb i k (omega arith)) (λ l. let h = ltb-true i k l in lt-ltb i (k + 1) (omega arith))
-    ∙ sym (or-false (ltb i k))))
-
--- ---- the predicate of a call that is held by value
-
-pub head-low : {rules : List ℕ} {n : ℕ} (k : ℕ) (h : call.Call) → Known rules n → k < n → callOf h ≡ clauseAt rules k .head → h .pred < maxPredicates
-head-low k h s l e = let p = ap (λ (d : Call). d .pred) e in let r = s .heads k l in omega arith
-
--- ---- the clauses of each predicate: of the first k clauses its own
-
-pub record Owning (rules : List ℕ) (n k : ℕ) (own : List ℕ) : Type 0 where
-  pub most : k ≤ n
-  pub size : length own ≡ maxPredicates
-  pub owns : Owns rules k own
-
-pub owning-start : (rules : List ℕ) (n : ℕ) → Owning rules n 0 (replicate maxPredicates 0)
-owning-start rules n =
-    record {
-      most = omega arith;
-      size = length-replicate {A = ℕ} maxPredicates 0;
-      owns = λ p h i. bitAt-none p i h ∙ ap (λ (b : Bool). b && eqb (clauseAt rules i .head .pred) p) (sym (le-ltb i 0 (omega arith)));
-    }
-
-module _ {rules : List ℕ} {n k : ℕ} {own : List ℕ} (o : Owning rules n k own) where
-  pub owning-next : (h : call.Call) → Known rules n → k < n → callOf h ≡ clauseAt rules k .head
-      → Owning rules n (k + 1) (set own (h .pred) (bitOr (getD own (h .pred) 0) (2 ^ k)))
-  owning-next h known m e =
-      let p = h .pred in
-      let l = head-low k h known m e in
-      let s = o .size in
-      record {
-        most = omega arith;
-        size = length-set own p (bitOr (getD own p 0) (2 ^ k)) ∙ s;
-        owns = λ q r i.
-            stored-more own p k (omega arith) q i
-            ∙ ap₂ (λ (a b : Bool). a || b) (o .owns q r i) (one q i)
-            ∙ sym (and-or-distrib-right (ltb i k) (eqb k i) (eqb (clauseAt rules i .head .pred) q))
-            ∙ ap (λ (b : Bool). b && eqb (clauseAt rules i .head .pred) q) (sym (ltb-suc i k));
-      }
-    where
-      one : (q i : ℕ) → (eqb q (h .pred) && eqb k i) ≡ (eqb k i && eqb (clauseAt rules i .head .pred) q)
-      one q i =
-          byBool (eqb k i)
-          (λ t.
-          rw t
-          (and-true (eqb q (h .pred))
-          ∙ eqb-comm q (h .pred) ∙ ap (λ (d : Call). eqb (d .pred) q) (e ∙ ap (λ (j : ℕ). clauseAt rules j .head) (eqb-true k i t))))
-          (λ t. rw t (and-false (eqb q (h .pred))))
-
-  pub owning-end : n ≤ k → Owns rules n own
-  owning-end h = let m = o .most in let e : k ≡ n = omega arith in subst (λ (j : ℕ). Owns rules j own) e (o .owns)
 
 -- ---- the predicates that have clauses: those of the first k heads
 
@@ -163,9 +83,6 @@ module _ {rules : List ℕ} {n k : ℕ} {callers : List ℕ} (o : Gathering rule
 
 -- ---- one clause's subgoals: its head's predicate calls those of the first j
 
-abbrev none : Call
-none = record { pred = 0; args = [] }
-
 abbrev calledIn : List Call → ℕ → Bool
 calledIn body q = any (λ s. eqb q (s .pred)) body
 
@@ -187,7 +104,7 @@ adding-start rules k before e = record { most = omega arith; size = e; added = �
 module _ {rules : List ℕ} {k : ℕ} {before : List ℕ} {j : ℕ} {words : List ℕ} (o : Adding rules k before j words) where
   -- h is the head and s is subgoal j: the predicates of both have a word
   pub adding-room : (h s : call.Call) → clauseAt rules k .head .pred < maxPredicates → callsBelow maxPredicates (clauseAt rules k .body) ≡ true
-      → j < length (clauseAt rules k .body) → callOf h ≡ clauseAt rules k .head → callOf s ≡ getD (clauseAt rules k .body) j none → Room h s words
+      → j < length (clauseAt rules k .body) → callOf h ≡ clauseAt rules k .head → callOf s ≡ getD (clauseAt rules k .body) j noCall → Room h s words
   unfolding at
   adding-room h s first low m e f =
       let p = ap (λ (d : Call). d .pred) e in
@@ -196,7 +113,7 @@ module _ {rules : List ℕ} {k : ℕ} {before : List ℕ} {j : ℕ} {words : Lis
       record { caller = omega arith; called = omega arith; size = o .size }
 
   pub adding-next : (h s : call.Call) → Room h s words → j < length (clauseAt rules k .body)
-      → callOf h ≡ clauseAt rules k .head → callOf s ≡ getD (clauseAt rules k .body) j none
+      → callOf h ≡ clauseAt rules k .head → callOf s ≡ getD (clauseAt rules k .body) j noCall
       → Adding rules k before (j + 1) (set words (s .pred) (bitOr (getD words (s .pred) 0) (2 ^ h .pred)))
   adding-next h s room m e f =
       let q = s .pred in
@@ -213,7 +130,7 @@ module _ {rules : List ℕ} {k : ℕ} {before : List ℕ} {j : ℕ} {words : Lis
             ∙ or-assoc (bitAt (getD before r 0) p) (calledIn (take j body) r && is) _
             ∙ ap (λ (b : Bool). bitAt (getD before r 0) p || b)
             (sym (and-or-distrib-right (calledIn (take j body) r) _ is)
-            ∙ ap (λ (b : Bool). b && is) (sym (any-suc (λ (s : Call). eqb r (s .pred)) none body j m)));
+            ∙ ap (λ (b : Bool). b && is) (sym (any-suc (λ (s : Call). eqb r (s .pred)) noCall body j m)));
       }
 
   pub adding-end : length (clauseAt rules k .body) ≤ j → Added rules k before words

@@ -1,30 +1,37 @@
 -- A round, predicate by predicate: those due get the written form of their good patterns, the others keep what they have, and those marked are the
 -- ones whose constraint is another. Since the others would get what they have, that is a step. Assumes nothing.
-use mathlib.Core.Path.{_≡_, refl, sym, ap, _∙_, subst}
-use mathlib.Core.Bool.{Bool, true, false, not, _||_, or-false, or-true}
+use mathlib.Core.Path.{_≡_, refl, sym, ap, ap₂, _∙_, subst}
+use mathlib.Core.Bool.{Bool, true, false, not, cond, _&&_, _||_, or-false, or-true}
 use mathlib.Core.List.{List}
-use Prim.Native.Nat.{ℕ, suc, _^_, _≤_, _<_}
+use Prim.Native.Nat.{ℕ, zero, suc, _^_, _≤_, _<_}
 use native.Mathlib.Omega.{arith}
 use lib.Bits.{bitOr}
 use lib.Dec.{eqb, ltb}
 use lib.ListN.{length, getD}
 use borrow.Author.Tests.{eqb-true, eqb-false, ltb-true, leb-true}
 use Rattle.masks.specs.Limits.{maxArity, allPatterns}
-use Rattle.masks.specs.Set.{bitAt}
-use Rattle.masks.specs.Constraint.{written, sameMasks}
-use Rattle.masks.proofs.Laws.Logic.{byBool, clash, and-left}
+use Rattle.masks.specs.Set.{bitAt, Holds}
+use Rattle.masks.specs.Constraint.{admits, isWritten, written, sameMasks}
+use Rattle.masks.proofs.Laws.Logic.{byBool, clash, and-intro, and-left, and-right}
 use Rattle.masks.proofs.Laws.Set.{bitAt-zero, bitAt-or, bitAt-power}
-use Rattle.masks.proofs.Laws.Constraint.{inRange-mono, written-inRange, written-isWritten, sameMasks-true, sameMasks-refl}
+use Rattle.masks.proofs.Laws.Constraint.{Up, inRange-mono, written-inRange, written-isWritten, written-cut, sameMasks-refl, sameMasks-other}
+use Rattle.masks.proofs.Laws.Patterns.{same-sets, sets-same}
 use Rattle.book.specs.Limits.{maxPredicates, maxClauses}
 use Rattle.book.specs.Book.{Clause, Book}
 use Rattle.book.specs.Held.{clauseAt, StoredMode}
+use Rattle.book.specs.Table.{Table, entryIn, tableIn, Low}
+use Rattle.book.specs.Sets.{callsBelow, Callable}
 use Rattle.book.proofs.Laws.Held.{clausesOf-at}
-use Rattle.ordering.specs.Held.{entryIn, Low, callsBelow}
+use Rattle.book.proofs.Laws.Table.{tableIn-at}
+use Rattle.book.proofs.Laws.Sets.{callsBelow-mono}
+use Rattle.ordering.specs.Good.{goodClause}
+use Rattle.ordering.proofs.Laws.Adorn.{more-refl}
+use Rattle.ordering.proofs.Laws.Good.{good-clause-mono}
 use Rattle.tables.specs.Table.{defined}
 use Rattle.tables.proofs.Laws.Valid.{arity-low, defined-known, clause-calls}
 use Rattle.tables.proofs.Laws.Held.{stored-entry, stored-other, stored-low}
-use Rattle.needs.specs.Round.{Callable, allGood, Given}
-use Rattle.ordering.proofs.Laws.Held.{callsBelow-mono}
+use Rattle.needs.specs.Sets.{eachIn}
+use Rattle.needs.specs.Round.{allGood, Given, Due}
 
 -- ---- what a book in the arrays gives
 
@@ -49,6 +56,33 @@ module _ (B : Book) (arities rules own : List ℕ) (g : Given B arities rules ow
       let q : getD (B .clauses) k c ≡ clauseAt rules k = ap (λ (cs : List Clause). getD cs k c) (sym (g .clauses·)) ∙ clausesOf-at rules c n k m in
       callsBelow-mono (length (B .arities)) maxPredicates few-predicates (clauseAt rules k .body)
       (subst (λ (d : Clause). callsBelow (length (B .arities)) (d .body) ≡ true) q (clause-calls B (g .well) c k m))
+
+  -- a predicate due has its constraint in written form
+  pub given-written : (old : List ℕ) {due : ℕ} → Due B (tableIn old (length (B .arities))) due → (p : ℕ) → bitAt due p ≡ true
+      → isWritten (2 ^ getD arities p 0) (entryIn old p) ≡ true
+  given-written old d p e =
+      let l = defined-known B (g .well) p (d .defined· p e) in
+      ap₂ (λ (k : ℕ) (c : List ℕ). isWritten (2 ^ k) c) (g .arities· p l) (sym (tableIn-at old (length (B .arities)) p l)) ∙ d .written· p l e
+
+-- where more is bound, clauses stay good
+all-good-up : (rules : List ℕ) (own : ℕ) (table : List ℕ) → Up (allGood rules own table)
+all-good-up rules own table a b w = go maxClauses
+  where
+    T : Table
+    T = tableIn table maxPredicates
+
+    one : (k : ℕ) (x : Bool) → cond x (goodClause T (clauseAt rules k) a) true ≡ true → cond x (goodClause T (clauseAt rules k) b) true ≡ true
+    one k true t = good-clause-mono T T (clauseAt rules k) a b (more-refl T) w t
+    one k false t = t
+
+    each : ℕ → ℕ → Bool
+    each x n = eachIn own (λ k. goodClause T (clauseAt rules k) x) n
+
+    go : (n : ℕ) → each a n ≡ true → each b n ≡ true
+    go zero t = t
+    go (suc n) t =
+        let c = cond (bitAt own n) (goodClause T (clauseAt rules n) a) true in
+        and-intro (go n (and-left (each a n) c t)) (one n (bitAt own n) (and-right (each a n) c t))
 
 -- ---- the loop over the predicates due: those below n are done
 
@@ -87,10 +121,9 @@ module _ (arities rules own old : List ℕ) (due : ℕ) where
         }
 
     module _ (e : bitAt due n ≡ true) (r : Rounding new changed n) where
-      -- n gets what it has
-      pub rounding-same : sameMasks (gets n) (entryIn old n) ≡ true → Rounding new changed (suc n)
-      rounding-same t =
-          let q : entryIn new n ≡ gets n = r .kept n (λ d. omega arith) ∙ sym (sameMasks-true (gets n) (entryIn old n) t) in
+      kept-old : gets n ≡ entryIn old n → Rounding new changed (suc n)
+      kept-old t =
+          let q : entryIn new n ≡ gets n = r .kept n (λ d. omega arith) ∙ sym t in
           record {
             low = r .low;
             done = λ p h d. byBool (eqb p n)
@@ -100,7 +133,6 @@ module _ (arities rules own old : List ℕ) (due : ℕ) where
             inside = r .inside;
           }
 
-      -- n gets another constraint, which is stored
       stored-new : {after : List ℕ} → 2 ^ getD arities n 0 ≤ allPatterns → sameMasks (gets n) (entryIn old n) ≡ false → StoredMode new after n (gets n)
           → Rounding after (bitOr changed (2 ^ n)) (suc n)
       stored-new {after} b t s =
@@ -125,7 +157,19 @@ module _ (arities rules own old : List ℕ) (due : ℕ) where
               (λ q. rw q (or-false (bitAt changed p)) ∙ r .marked p
               ∙ ap (λ (c : List ℕ). not (sameMasks c (entryIn old p))) (sym (stored-other s p (eqb-false p n q))))
 
-      pub rounding-new : {after masks : List ℕ} {more : ℕ} → 2 ^ getD arities n 0 ≤ allPatterns → sameMasks (gets n) (entryIn old n) ≡ false
-          → masks ≡ gets n → StoredMode new after n masks → more ≡ bitOr changed (2 ^ n) → Rounding after more (suc n)
-      rounding-new {after} b t m s q =
-          subst (λ (x : ℕ). Rounding after x (suc n)) (sym q) (stored-new b t (subst (λ (l : List ℕ). StoredMode new after n l) m s))
+      -- its good patterns, and those that it had
+      module _ {good had : ℕ} (few : 2 ^ getD arities n 0 ≤ allPatterns) (g : Holds good (λ a. ltb a (2 ^ getD arities n 0) && allGood rules (getD own n 0) old a))
+          (h : Holds had (λ a. ltb a (2 ^ getD arities n 0) && admits (entryIn old n) a)) where
+        -- they are the same: n gets what it has
+        pub rounding-same : isWritten (2 ^ getD arities n 0) (entryIn old n) ≡ true → good ≡ had → Rounding new changed (suc n)
+        rounding-same w q = kept-old (same-sets (2 ^ getD arities n 0) few (allGood rules (getD own n 0) old) (entryIn old n) good had g h w q)
+
+        -- they are not: n gets another constraint, which is stored
+        pub rounding-new : {after masks : List ℕ} {more : ℕ} → (good ≡ had → ⊥) → masks ≡ written (bitAt good) allPatterns → StoredMode new after n masks
+            → more ≡ bitOr changed (2 ^ n) → Rounding after more (suc n)
+        rounding-new {after} ne m s q =
+            let f = allGood rules (getD own n 0) old in
+            let c = m ∙ written-cut f (bitAt good) (2 ^ getD arities n 0) allPatterns few (λ a l. g a) in
+            let other : gets n ≡ entryIn old n → ⊥ = λ z. ne (sets-same (2 ^ getD arities n 0) few f (entryIn old n) good had g h (all-good-up rules (getD own n 0) old) z) in
+            subst (λ (x : ℕ). Rounding after x (suc n)) (sym q)
+            (stored-new few (sym (sameMasks-other (gets n) (entryIn old n) other)) (subst (λ (l : List ℕ). StoredMode new after n l) c s))

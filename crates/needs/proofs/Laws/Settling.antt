@@ -16,17 +16,17 @@ use Rattle.book.specs.Limits.{maxPredicates, maxClauses}
 use Rattle.book.specs.Book.{Clause, Book}
 use Rattle.book.specs.Encode.{WellFormed}
 use Rattle.book.specs.Held.{clauseAt, clausesOf, modesOf, masksIn, modeBytes, bookIn}
+use Rattle.book.specs.Table.{tableIn, entryIn, LowModes}
+use Rattle.book.specs.Sets.{callsBelow, Owns, Known}
 use Rattle.book.proofs.Laws.Held.{clausesOf-at, clausesOf-length}
-use Rattle.ordering.specs.Held.{tableIn, callsBelow, entryIn}
+use Rattle.book.proofs.Laws.Sets.{callsBelow-mono}
 use Rattle.tables.specs.Table.{modeOf, firstNeeds, start, defined}
 use Rattle.tables.specs.Calls.{touched}
-use Rattle.tables.specs.Held.{LowModes}
 use Rattle.tables.proofs.Laws.Valid.{arity-low, masks-low, clause-own, clause-calls}
 use Rattle.tables.proofs.Laws.Held.{modeOf-modesOf}
-use Rattle.needs.specs.Sets.{someIn, Owns, Calling, Known}
+use Rattle.needs.specs.Sets.{someIn, Calling}
 use Rattle.needs.specs.Round.{Given}
 use Rattle.needs.proofs.Laws.Calls.{calling-touched}
-use Rattle.ordering.proofs.Laws.Held.{callsBelow-mono}
 
 -- ---- the clauses of a book in an array
 

@@ -6,8 +6,8 @@ use Prim.Native.Nat.{ℕ}
 use native.Mathlib.Omega.{arith}
 use borrow.Author.Needs.{needs}
 use Rattle.masks.specs.Outcome.{done}
-use Rattle.book.specs.Held.{bookIn}
-use Rattle.ordering.specs.Held.{tableIn}
+use Rattle.book.specs.Held.{bookIn, modesSize}
+use Rattle.book.specs.Table.{tableIn}
 use Rattle.tables.specs.Image.{rows, analysed, analysis}
 use Rattle.masks.proofs.Laws.Outcome.{room-enough, answers-short, answers-done}
 use Rattle.book.proofs.Laws.Held.{modeAt-zeros}
@@ -17,7 +17,7 @@ use Rattle.needs.proofs.analyse.Statement.{statement}
 use Rattle.needs.proofs.analyse.Tie as tie
 
 read-book-requires : tie.Need-read-book-requires
-read-book-requires c κs = modeAt-zeros 1408
+read-book-requires c κs = modeAt-zeros modesSize
 
 returns : tie.Need-returns
 returns c = read-refused (c .before .before .before .read-book .ensures) analysed (c .before .before .before .before .before .before .before .before .before .args .out .now) (c .before .if1 .taken)

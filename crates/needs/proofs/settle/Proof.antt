@@ -8,9 +8,9 @@ use native.Mathlib.Omega.{arith}
 use borrow.Author.Needs.{needs}
 use Rattle.book.specs.Book.{Book}
 use Rattle.book.specs.Held.{bookIn}
-use Rattle.ordering.specs.Held.{tableIn}
+use Rattle.book.specs.Table.{tableIn}
+use Rattle.book.specs.Sets.{Owns, Known}
 use Rattle.tables.specs.Table.{rounds}
-use Rattle.needs.specs.Sets.{Owns, Known}
 use Rattle.needs.specs.Round.{Given, Stepped}
 use Rattle.tables.proofs.Laws.Rounds.{rounds-few}
 use Rattle.needs.proofs.Laws.AtRound.{AtRound, at-round-start, at-round-final, at-round-rounds, at-round-less, at-round-next}
@@ -71,7 +71,7 @@ loop-holds : tie.Need-loop-holds Inv-loop μ-loop
 loop-holds c =
     let s = c .before .before .before .before in
     let first = c .before .first-table in
-    at-round-start (book s) (first .result .needs) (c .heads .result)
+    at-round-start (book s) (s .pre .2) (first .result .needs) (c .heads .result)
     (read-start (s .args .preds) (arities s) (modes s) (s .args .clauses) (rules s) (s .pre .0) (s .pre .1) (s .pre .2) (first .result .needs) (first .ensures .0))
     (first .ensures .1)
     (read-heads (s .args .preds) (arities s) (modes s) (s .args .clauses) (rules s) (s .pre .0) (s .pre .1) (s .pre .2) (c .heads .result) (c .heads .ensures))

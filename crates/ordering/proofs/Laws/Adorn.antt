@@ -14,7 +14,8 @@ use borrow.Author.Tests.{eqb-true, eq-eqb}
 use Rattle.masks.specs.Mask.{within}
 use Rattle.masks.specs.Constraint.{admits}
 use Rattle.book.specs.Book.{Call}
-use Rattle.ordering.specs.Adorn.{Table, variables, Bound, nothing, literal, isBound, bit, patternOf, bindVar, bindAll, bindHead, headBound, ready, after}
+use Rattle.book.specs.Table.{Table}
+use Rattle.ordering.specs.Adorn.{variables, Bound, nothing, literal, isBound, bit, patternOf, bindVar, bindAll, bindHead, headBound, ready, after}
 use Rattle.masks.proofs.Laws.Logic.{clash}
 use Rattle.masks.proofs.Laws.Mask.{within-and, and-within, halved, doubled}
 use Rattle.masks.proofs.Laws.Constraint.{admits-up}
@@ -217,6 +218,11 @@ ready-mono T T′ b b′ s m h t =
 pub ready-same : (T U : Table) (b : Bound) (s : Call) → getD T (s .pred) [] ≡ getD U (s .pred) [] → ready T b s ≡ ready U b s
 unfolding ready
 ready-same T U b s e = ap (λ (c : List ℕ). admits c (patternOf b (s .args))) e
+
+-- what a subgoal binds, for whoever computes it; what it needs is `ready-held` in `Held`
+pub after-args : (b : Bound) (s : Call) → after b s ≡ bindAll b (s .args)
+unfolding after
+after-args b s = refl
 
 pub after-grows : (b : Bound) (s : Call) → Le b (after b s)
 unfolding after

@@ -1,16 +1,16 @@
--- The calls of a body in an order. An order is good exactly where each call fits the constraint of its predicate. Assumes nothing.
+-- The calls of a body in an order. An order is good exactly where each subgoal is ready in its turn, and then its calls fit. Assumes nothing.
 use mathlib.Core.Path.{_≡_, refl, ap}
 use mathlib.Core.Bool.{true, _&&_, false≢true}
 use mathlib.Core.Logic.{inl, inr}
 use mathlib.Core.List.{List, [], _∷_, _++_}
 use Prim.Native.Nat.{ℕ}
 use lib.Dec.{eqb}
-use lib.ListN.{getD}
 use borrow.Author.Tests.{eqb-true, eq-eqb}
 use Rattle.masks.specs.Lists.{any}
 use Rattle.masks.specs.Constraint.{admits}
 use Rattle.book.specs.Book.{Call}
-use Rattle.ordering.specs.Adorn.{Table, Bound, patternOf, ready}
+use Rattle.book.specs.Table.{Table, entry}
+use Rattle.ordering.specs.Adorn.{Bound, patternOf, ready}
 use Rattle.ordering.specs.Orders.{In}
 use Rattle.ordering.specs.Turns as turns
 use Rattle.ordering.specs.Good.{at, readyAt, afterAt, goodFrom}
@@ -55,26 +55,38 @@ asks-each P body b (p ∷ σ) h q a e =
 
 -- ---- good orders
 
+-- P holds of each subgoal of an order in its turn, with what is bound then
+abbrev pub EachTurn : (Bound → Call → Type 0) → List Call → Bound → List ℕ → Type 0
+EachTurn P body b [] = Unit {0}
+EachTurn P body b (p ∷ σ) = P b (at body p) × EachTurn P body (afterAt body b p) σ
+
 module _ (T : Table) (body : List Call) where
   -- the calls of a good order fit
-  pub asks-fit : (b : Bound) (σ : List ℕ) → goodFrom T body b σ ≡ true → (q a : ℕ) → called q a (asks body b σ) ≡ true → admits (getD T q []) a ≡ true
+  pub asks-fit : (b : Bound) (σ : List ℕ) → goodFrom T body b σ ≡ true → (q a : ℕ) → called q a (asks body b σ) ≡ true → admits (entry T q) a ≡ true
   unfolding asks ready
   asks-fit b [] g q a e = absurd (false≢true e)
   asks-fit b (p ∷ σ) g q a e =
       let h = good-parts (readyAt T body) (afterAt body) b p σ g in
-      called-case (λ r c. admits (getD T r []) c ≡ true) (record { pred = at body p .pred; pattern = patternOf b (at body p .args) }) (asks body (afterAt body b p) σ) q a e
+      called-case (λ r c. admits (entry T r) c ≡ true) (record { pred = at body p .pred; pattern = patternOf b (at body p .args) }) (asks body (afterAt body b p) σ) q a e
       (h .0)
       (λ t. asks-fit (afterAt body b p) σ (h .1) q a t)
 
-  -- an order whose calls fit is good
-  pub fit-asks : (b : Bound) (σ : List ℕ) → ((q a : ℕ) → called q a (asks body b σ) ≡ true → admits (getD T q []) a ≡ true) → goodFrom T body b σ ≡ true
-  unfolding asks ready turns.goodFrom
+  -- an order whose subgoals are ready, each in its turn, is good
+  pub fit-asks : (b : Bound) (σ : List ℕ) → EachTurn (λ c s. ready T c s ≡ true) body b σ → goodFrom T body b σ ≡ true
+  unfolding turns.goodFrom
   fit-asks b [] h = refl
-  fit-asks b (p ∷ σ) h =
-      let x : Asked = record { pred = at body p .pred; pattern = patternOf b (at body p .args) } in
-      good-cons (readyAt T body) (afterAt body) b p σ
-      (h (at body p .pred) (patternOf b (at body p .args)) (called-first x (asks body (afterAt body b p) σ)))
-      (fit-asks (afterAt body b p) σ (λ q a t. h q a (or-right (eqb (at body p .pred) q && eqb (patternOf b (at body p .args)) a) t)))
+  fit-asks b (p ∷ σ) h = good-cons (readyAt T body) (afterAt body) b p σ (h .0) (fit-asks (afterAt body b p) σ (h .1))
+
+  -- those whose calls fit are
+  pub ready-asks : (b : Bound) (σ : List ℕ) → ((q a : ℕ) → called q a (asks body b σ) ≡ true → admits (entry T q) a ≡ true)
+      → EachTurn (λ c s. ready T c s ≡ true) body b σ
+  unfolding asks ready
+  ready-asks b [] h = tt
+  ready-asks b (p ∷ σ) h =
+      let x : Asked = record { pred = at body p .pred; pattern = patternOf b (at body p .args) } in (
+        h (x .pred) (x .pattern) (called-first x (asks body (afterAt body b p) σ)),
+        ready-asks (afterAt body b p) σ (λ q a t. h q a (or-right (eqb (x .pred) q && eqb (x .pattern) a) t)),
+      )
 
 -- ---- one place more
 

@@ -6,7 +6,8 @@ use Rattle.masks.specs.Lists.{below}
 use Rattle.masks.specs.Mask.{within}
 use Rattle.masks.specs.Constraint.{admits}
 use Rattle.book.specs.Book.{Clause}
-use Rattle.ordering.specs.Adorn.{Table, nothing, isBound, patternOf, bindVar, bindAll, bindHead, headBound, ready, after}
+use Rattle.book.specs.Table.{Table}
+use Rattle.ordering.specs.Adorn.{nothing, isBound, patternOf, bindVar, bindAll, bindHead, headBound, ready, after}
 use Rattle.ordering.specs.Orders.{find, without, each, ordersOf, count, orders}
 use Rattle.ordering.specs.Turns as turns
 use Rattle.ordering.specs.Good.{at, firstGood, goodClause}

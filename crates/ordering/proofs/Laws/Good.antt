@@ -9,9 +9,10 @@ use native.Mathlib.Omega.{arith}
 use lib.ListN.{length, getD}
 use Rattle.masks.specs.Lists.{any}
 use Rattle.masks.specs.Mask.{within}
-use Rattle.book.specs.Book.{Call, Clause}
+use Rattle.book.specs.Book.{Call, noCall, Clause}
+use Rattle.book.specs.Table.{Table}
 use Rattle.ordering.specs.Orders.{Rearranges, Least, count}
-use Rattle.ordering.specs.Adorn.{Table, Bound, headBound, ready, after}
+use Rattle.ordering.specs.Adorn.{Bound, headBound, ready, after}
 use Rattle.ordering.specs.Good.{at, readyAt, afterAt, goodFrom, firstGood, isSome, goodClause}
 use Rattle.ordering.specs.Held.{orNone}
 use Rattle.masks.proofs.Laws.Logic.{clash, false-of}
@@ -103,7 +104,7 @@ module _ (T U : Table) (x : ℕ → Bool) (agree : (q : ℕ) → x q ≡ false �
       first-same (readyAt T body) (afterAt body) (readyAt U body) (afterAt body) (λ (u v : Bound). u ≡ v) (length body)
       (λ u v p l e. ap (λ (w : Bound). ready T w (at body p)) e
       ∙ ready-same T U v (at body p)
-      (agree (at body p .pred) (false-of (λ t. clash (any-at (λ s. x (s .pred)) (record { pred = 0; args = [] }) body p l t) n))))
+      (agree (at body p .pred) (false-of (λ t. clash (any-at (λ s. x (s .pred)) noCall body p l t) n))))
       (λ u v p e. ap (λ (w : Bound). after w (at body p)) e) b b refl
 
 pub clause-same : (T U : Table) (x : ℕ → Bool) → ((q : ℕ) → x q ≡ false → getD T q [] ≡ getD U q []) → (c : Clause) (a : ℕ)

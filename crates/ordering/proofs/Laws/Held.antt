@@ -1,4 +1,4 @@
--- A table as the code holds it: what it has at each predicate; the predicates that subgoals call; and the places of an order. Assumes nothing.
+-- A table that goes on past the predicates that subgoals call; and the places of an order. Assumes nothing.
 use mathlib.Core.Path.{_≡_, refl, sym, ap, _∙_, subst}
 use mathlib.Core.Bool.{Bool, true, false, not, cond}
 use mathlib.Core.List.{List, [], _∷_}
@@ -7,36 +7,27 @@ use Prim.Native.Nat.{ℕ, _<_, _≤_, min}
 use native.Mathlib.Omega.{arith}
 use lib.Dec.{ltb}
 use lib.ListN.{length, getD, take, length-take}
-use borrow.Author.Tests.{ltb-true, lt-ltb, not-true, not-false}
+use borrow.Author.Tests.{ltb-true, not-true, not-false}
 use Rattle.masks.specs.Lists.{any, all}
+use Rattle.masks.specs.Constraint.{admits}
 use Rattle.book.specs.Limits.{maxSubgoals}
 use Rattle.book.specs.Book.{Call}
-use Rattle.ordering.specs.Adorn.{Bound}
-use Rattle.ordering.specs.Good.{at, firstGood}
-use Rattle.ordering.specs.Held.{entryIn, tableIn, callsBelow, placesOf, orNone}
+use Rattle.book.specs.Table.{entryIn, tableIn}
+use Rattle.book.specs.Sets.{callsBelow}
+use Rattle.ordering.specs.Adorn.{Bound, patternOf, ready}
+use Rattle.ordering.specs.Good.{firstGood}
+use Rattle.ordering.specs.Held.{placesOf, orNone}
 use Rattle.ordering.specs.declared.Order.{Order}
 use Rattle.masks.proofs.Laws.Logic.{and-left, and-right}
-use Rattle.masks.proofs.Laws.Lists.{all-at, length-values, getD-values, all-mono}
+use Rattle.book.proofs.Laws.Table.{tableIn-at}
 use Rattle.ordering.proofs.Laws.Good.{first-kept}
 use Rattle.ordering.proofs.Laws.Steps.{first-at}
 
-pub tableIn-length : (table : List ℕ) (n : ℕ) → length (tableIn table n) ≡ n
-unfolding tableIn
-tableIn-length table n = length-values (entryIn table) n
-
-pub tableIn-at : (table : List ℕ) (n p : ℕ) → p < n → getD (tableIn table n) p [] ≡ entryIn table p
-unfolding tableIn
-tableIn-at table n p h = getD-values (entryIn table) [] n p h
-
-pub callsBelow-at : (n : ℕ) (body : List Call) (j : ℕ) → callsBelow n body ≡ true → j < length body → at body j .pred < n
-unfolding callsBelow at
-callsBelow-at n body j t h =
-    ltb-true (at body j .pred) n (all-at (λ c. ltb (c .pred) n) (record { pred = 0; args = [] }) body j h t)
-
-pub callsBelow-mono : (n m : ℕ) → n ≤ m → (body : List Call) → callsBelow n body ≡ true → callsBelow m body ≡ true
-unfolding callsBelow
-callsBelow-mono n m h =
-    all-mono (λ (s : Call). ltb (s .pred) n) (λ s. ltb (s .pred) m) (λ s t. let l = ltb-true (s .pred) n t in lt-ltb (s .pred) m (omega arith))
+-- what a subgoal needs, for whoever computes it: that its pattern fits the constraint held at its predicate
+pub ready-held : (table : List ℕ) (n : ℕ) (b : Bound) (s : Call) → s .pred < n
+    → ready (tableIn table n) b s ≡ admits (entryIn table (s .pred)) (patternOf b (s .args))
+unfolding ready
+ready-held table n b s h = ap (λ (c : List ℕ). admits c (patternOf b (s .args))) (tableIn-at table n (s .pred) h)
 
 -- ---- subgoals that call predicates below n: a table that goes on past n is as good as one that does not
 

@@ -11,10 +11,11 @@ use lib.ListN.{length, getD, set, take, replicate, length-set, length-take}
 use lib.Seq.{length-take-le, take-suc, take-suc-set}
 use Rattle.masks.specs.Limits.{maxArity, allPatterns}
 use Rattle.masks.specs.Lists.{values}
-use Rattle.book.specs.Book.{Call}
+use Rattle.book.specs.Book.{Call, noCall}
 use Rattle.book.specs.Held.{callOf}
+use Rattle.book.specs.Table.{Table}
 use Rattle.book.specs.declared.clause.Call as call
-use Rattle.ordering.specs.Adorn.{Table, Bound, patternOf}
+use Rattle.ordering.specs.Adorn.{Bound, patternOf}
 use Rattle.ordering.specs.Good.{at, readyAt, afterAt, firstGood}
 use Rattle.ordering.specs.Asks.{Asked, asks, patternsIn}
 use Rattle.ordering.specs.Held.{orderOf, orNone, placesOf, patternsOf, picked, PatternAt}
@@ -155,11 +156,11 @@ module _ (T : Table) (body : List Call) (b : Bound) (o : Order) (e : orderOf o �
 
   -- of a call that was read by value, with six arguments at most
   pub pattern-low : patternsOf o ≡ patternsIn body b (placesOf o) → (i : ℕ) → i < length (placesOf o) → (s : call.Call)
-      → callOf s ≡ getD body (getD (o .places) i 0) (record { pred = 0; args = [] }) → length (s .args) ≡ maxArity → getD (o .patterns) i 0 < allPatterns
+      → callOf s ≡ getD body (getD (o .places) i 0) noCall → length (s .args) ≡ maxArity → getD (o .patterns) i 0 < allPatterns
   unfolding at
   pattern-low t i h s q n =
       let r = order-pattern t i h in
-      let a : callOf s .args ≡ at body (getD order i 0) .args = ap (λ (c : Call). c .args) (q ∙ ap (λ (p : ℕ). getD body p (record { pred = 0; args = [] })) (order-at i h)) in
+      let a : callOf s .args ≡ at body (getD order i 0) .args = ap (λ (c : Call). c .args) (q ∙ ap (λ (p : ℕ). getD body p noCall) (order-at i h)) in
       let l = pattern-small (allAfter (afterAt body) b (take i order)) maxArity (at body (getD order i 0) .args) (rw (← a) (simp length-take (omega arith))) in
       omega arith
 

@@ -14,19 +14,23 @@ use lib.Seq.{take-suc-set, getD-set-same, getD-set-other}
 use borrow.Author.Tests.{not-true}
 use Rattle.masks.specs.Constraint.{admits}
 use Rattle.book.specs.Limits.{maxPredicates}
-use Rattle.book.specs.Book.{Call}
+use Rattle.book.specs.Book.{Call, noCall}
+use Rattle.book.specs.Table.{entryIn, tableIn}
+use Rattle.book.specs.Sets.{callsBelow}
 use Rattle.ordering.specs.Orders.{In, find, without, count}
 use Rattle.ordering.specs.Adorn.{Bound, patternOf, bindAll, ready, after}
 use Rattle.ordering.specs.Good.{at, readyAt, afterAt}
-use Rattle.ordering.specs.Held.{entryIn, tableIn, callsBelow, foundOr, picked, PatternAt}
+use Rattle.ordering.specs.Held.{foundOr, picked, PatternAt}
 use Rattle.masks.proofs.Laws.Logic.{clash, and-left, and-right}
+use Rattle.book.proofs.Laws.Sets.{callsBelow-at}
 use Rattle.ordering.proofs.Laws.Orders.{find-some, find-none, find-least, without-in, without-keeps, without-gone, Ascends, ascends-distinct, ascends-without, count-in, in-count, count-ascends}
 use Rattle.ordering.proofs.Laws.Greedy.{greedyOf, greedy}
-use Rattle.ordering.proofs.Laws.Held.{tableIn-at, callsBelow-at}
+use Rattle.ordering.proofs.Laws.Adorn.{after-args}
+use Rattle.ordering.proofs.Laws.Held.{ready-held}
 
 -- ---- a subgoal as it is read
 
-module _ (body : List Call) (p : ℕ) {s : Call} (e : s ≡ getD body p (record { pred = 0; args = [] })) where
+module _ (body : List Call) (p : ℕ) {s : Call} (e : s ≡ getD body p noCall) where
   pub pred-read : callsBelow maxPredicates body ≡ true → p < length body → s .pred < maxPredicates
   unfolding at
   pred-read t h = rw e (callsBelow-at maxPredicates body p t h)
@@ -34,18 +38,17 @@ module _ (body : List Call) (p : ℕ) {s : Call} (e : s ≡ getD body p (record 
   -- with its constraint in the table and its pattern
   pub ready-read : (table : List ℕ) (b : Bound) {c : List ℕ} {a : ℕ} → callsBelow maxPredicates body ≡ true → p < length body → c ≡ entryIn table (s .pred)
       → a ≡ patternOf b (s .args) → readyAt (tableIn table maxPredicates) body b p ≡ admits c a
-  unfolding at ready
+  unfolding at
   ready-read table b t h q r =
-      sym (ap (ready (tableIn table maxPredicates) b) e)
-      ∙ ap₂ admits (tableIn-at table maxPredicates (s .pred) (pred-read t h) ∙ sym q) (sym r)
+      sym (ap (ready (tableIn table maxPredicates) b) e) ∙ ready-held table maxPredicates b s (pred-read t h) ∙ ap₂ admits (sym q) (sym r)
 
   pub pattern-read : (b : Bound) {a : ℕ} → a ≡ patternOf b (s .args) → PatternAt body b p a
   unfolding at
   pattern-read b r h = r ∙ ap (λ (c : Call). patternOf b (c .args)) e
 
   pub after-read : (b : Bound) {b′ : Bound} → b′ ≡ bindAll b (s .args) → b′ ≡ afterAt body b p
-  unfolding at after
-  after-read b q = q ∙ ap (after b) e
+  unfolding at
+  after-read b q = q ∙ sym (after-args b s) ∙ ap (after b) e
 
 -- ---- the scan
 

@@ -3,7 +3,7 @@ use Prim.Native.Nat.{_-_}
 use native.Mathlib.Omega.{arith}
 use lib.ListN.{length-take}
 use borrow.Author.Needs.{needs}
-use Rattle.book.specs.Held.{callOf}
+use Rattle.book.specs.Held.{callOf, countIn}
 use Rattle.ordering.proofs.Laws.Steps.{Binding, binding-start, binding-next, binding-end}
 use Rattle.ordering.proofs.bind_all.Statement.{statement}
 use Rattle.ordering.proofs.bind_all.Tie as tie
@@ -24,7 +24,7 @@ element-copy-out-bind-var : tie.Need-element-copy-out-bind-var Inv-loop μ-loop
 element-copy-out-bind-var c =
     let s = c .before .before .before .args .t2 in
     let n = c .before .before .arguments .ensures .0 in
-    omega (arith, length-take (s .n) (s .args))
+    omega (arith, length-take (countIn (s .n)) (s .args))
 
 bind-var-requires : tie.Need-bind-var-requires Inv-loop μ-loop
 bind-var-requires c κs = search needs
@@ -39,7 +39,7 @@ loop-again : tie.Need-loop-again Inv-loop μ-loop
 loop-again c =
     let s = c .before .before .before .before .before .args .t2 in
     let n = c .before .before .before .before .arguments .ensures .0 in
-    rw (c .bind-var .ensures) (binding-next (s .n) (s .args) (c .before .before .before .loop .inv) (omega arith))
+    rw (c .bind-var .ensures) (binding-next (countIn (s .n)) (s .args) (c .before .before .before .loop .inv) (omega arith))
 
 returns : tie.Need-returns Inv-loop μ-loop
 returns c = let n = c .before .before .arguments .ensures .0 in binding-end (c .before .loop .inv) (omega arith)

@@ -6,7 +6,7 @@ use native.Mathlib.Omega.{arith}
 use borrow.Author.Needs.{needs}
 use Rattle.book.specs.Limits.{maxPredicates}
 use Rattle.book.specs.Held.{clauseAt}
-use Rattle.ordering.specs.Held.{tableIn}
+use Rattle.book.specs.Table.{tableIn}
 use Rattle.book.proofs.Laws.Held.{clauseAt-count}
 use Rattle.ordering.proofs.Laws.Run.{after-read}
 use Rattle.ordering.proofs.Laws.Patterns.{patterns-none, Going, going-start, going-next, going-stuck, going-end}

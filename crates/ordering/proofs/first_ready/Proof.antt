@@ -9,8 +9,8 @@ use borrow.Author.Needs.{needs}
 use borrow.Author.Tests.{not-true, not-false}
 use Rattle.book.specs.Limits.{maxPredicates}
 use Rattle.book.specs.Held.{clauseAt}
+use Rattle.book.specs.Table.{tableIn}
 use Rattle.ordering.specs.Good.{readyAt}
-use Rattle.ordering.specs.Held.{tableIn}
 use Rattle.book.proofs.Laws.Held.{clauseAt-count}
 use Rattle.ordering.proofs.Laws.Run.{pred-read, ready-read, pattern-read, Scan, scan-start, scan-used, scan-waits, scan-here, scan-end}
 use Rattle.ordering.proofs.first_ready.Statement.{statement}

@@ -5,7 +5,7 @@ use Prim.Native.Nat.{_-_}
 use native.Mathlib.Omega.{arith}
 use lib.ListN.{length-take}
 use borrow.Author.Needs.{needs}
-use Rattle.book.specs.Held.{callOf}
+use Rattle.book.specs.Held.{callOf, countIn}
 use Rattle.ordering.specs.Adorn.{nothing}
 use Rattle.ordering.proofs.Laws.Steps.{Heading, heading-start, heading-bound, heading-free, heading-end}
 use Rattle.ordering.proofs.head_bound.Statement.{statement}
@@ -28,7 +28,7 @@ element-copy-out-bind-var : tie.Need-element-copy-out-bind-var Inv-loop μ-loop
 element-copy-out-bind-var c =
     let s = c .before .before .before .before .args .t1 in
     let n = c .before .before .before .arguments .ensures .0 in
-    omega (arith, length-take (s .n) (s .args))
+    omega (arith, length-take (countIn (s .n)) (s .args))
 
 bind-var-requires : tie.Need-bind-var-requires Inv-loop μ-loop
 bind-var-requires c κs = search needs
@@ -44,8 +44,8 @@ loop-again c =
     let s = c .before .before .before .before .args .t1 in
     let n = c .before .before .before .arguments .ensures .0 in
     let l = c .before .before .loop .inv in
-    ⊎-elim (λ w. rw (w .3, w .2 .ensures) (heading-bound (s .n) (s .args) l (omega arith) (omega arith)))
-    (λ w. rw (w .1) (heading-free (s .n) (s .args) l (omega arith) (λ e. omega arith))) (c .if1 .came)
+    ⊎-elim (λ w. rw (w .3, w .2 .ensures) (heading-bound (countIn (s .n)) (s .args) l (omega arith) (omega arith)))
+    (λ w. rw (w .1) (heading-free (countIn (s .n)) (s .args) l (omega arith) (λ e. omega arith))) (c .if1 .came)
 
 returns : tie.Need-returns Inv-loop μ-loop
 returns c = let n = c .before .before .arguments .ensures .0 in heading-end (c .before .loop .inv) (omega arith)

@@ -4,7 +4,7 @@ use Prim.Native.Nat.{ℕ, _-_, _≤_}
 use native.Mathlib.Omega.{arith}
 use lib.ListN.{length, length-take, getD, drop}
 use borrow.Author.Needs.{needs}
-use Rattle.book.specs.Held.{callOf}
+use Rattle.book.specs.Held.{callOf, countIn}
 use Rattle.ordering.specs.Adorn.{patternOf}
 use Rattle.ordering.proofs.Laws.Steps.{bitOf, bitOf-small, pattern-next, pattern-end, pattern-left}
 use Rattle.ordering.proofs.pattern.Statement.{statement}
@@ -37,7 +37,7 @@ mul-a c =
 element-copy-out-bound-bit : tie.Need-element-copy-out-bound-bit Inv-loop μ-loop
 element-copy-out-bound-bit c =
     let s = c .before .before .before .args .t2 in
-    omega (arith, length-take (s .n) (s .args))
+    omega (arith, length-take (countIn (s .n)) (s .args))
 
 bound-bit-requires : tie.Need-bound-bit-requires Inv-loop μ-loop
 bound-bit-requires c κs = search needs
@@ -58,7 +58,7 @@ loop-again : tie.Need-loop-again Inv-loop μ-loop
 loop-again c =
     let s = c .before .before .before .before .before .args in
     let l = c .before .before .before .loop in
-    let d = pattern-next (s .bound) (s .t2 .n) (s .t2 .args) (l .i) (c .bound-bit .result) (omega arith) (omega arith) (c .bound-bit .ensures) in
+    let d = pattern-next (s .bound) (countIn (s .t2 .n)) (s .t2 .args) (l .i) (c .bound-bit .result) (omega arith) (omega arith) (c .bound-bit .ensures) in
     let e = l .inv .1 in
     (omega arith, omega arith)
 

@@ -5,20 +5,21 @@ use lib.ListN.{take, length-replicate}
 use borrow.Author.Needs.{needs}
 use Rattle.printing.specs.Sheet.{printing}
 use Rattle.masks.proofs.Laws.Outcome.{answers-zero, Told, result-told}
+use Rattle.book.specs.Limits.{longestSheet}
 use Rattle.printing.proofs.Laws.Length.{sheet-length}
 use Rattle.orders.proofs.main.Statement.{statement}
 use Rattle.orders.proofs.main.Tie as tie
 
 -- the sheet stands at the front of the text
 there : (c : tie.After-sheet) → let i = c .before .before .before .before .before .read-input in
-    Told 0 164392 (printing (take (i .result .n) (i .last .0))) (c .sheet .result) (c .sheet .last .1 .0)
+    Told 0 longestSheet (printing (take (i .result .n) (i .last .0))) (c .sheet .result) (c .sheet .last .1 .0)
 there c =
     let i = c .before .before .before .before .before .read-input in
     let s = take (i .result .n) (i .last .0) in
     let l = sheet-length s in
-    let z = length-replicate {A = ℕ} 164392 0 in
+    let z = length-replicate {A = ℕ} longestSheet 0 in
     let a = c .sheet .ensures in
-    result-told 0 164392 (printing s) (omega arith, l) a z (answers-zero a (omega arith))
+    result-told 0 longestSheet (printing s) (omega arith, l) a z (answers-zero a (omega arith))
 
 slice-aggregate-read-input : tie.Need-slice-aggregate-read-input
 slice-aggregate-read-input c = search needs

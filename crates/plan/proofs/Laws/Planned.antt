@@ -18,18 +18,19 @@ use Rattle.masks.specs.Outcome.{Answers, refused, inRoom}
 use Rattle.masks.specs.Set.{bitAt}
 use Rattle.masks.specs.declared.reply.Reply.{Reply}
 use Rattle.book.specs.Limits.{maxPredicates, maxClauses}
-use Rattle.book.specs.Book.{Call, Clause, Book}
+use Rattle.book.specs.Book.{Call, Clause, noClause, Book}
 use Rattle.book.specs.Encode.{run}
 use Rattle.book.specs.Held.{clauseAt, clausesOf, bookIn}
+use Rattle.book.specs.Table.{Table, tableIn}
+use Rattle.book.specs.Sets.{callsBelow, Owns, Known}
 use Rattle.reading.specs.Judged.{BookRead}
 use Rattle.reading.specs.declared.Reading.{Reading}
-use Rattle.ordering.specs.Adorn.{Table, Bound, nothing, headBound}
+use Rattle.ordering.specs.Adorn.{Bound, nothing, headBound}
 use Rattle.ordering.specs.Good.{firstGood, isSome}
-use Rattle.ordering.specs.Held.{tableIn, callsBelow, orNone, orderOf, placesOf}
+use Rattle.ordering.specs.Held.{orNone, orderOf, placesOf}
 use Rattle.ordering.specs.declared.Order.{Order}
 use Rattle.tables.specs.Table.{final}
 use Rattle.writing.specs.Wrote.{Room, Wrote}
-use Rattle.needs.specs.Sets.{Owns, Known}
 use Rattle.choices.specs.Choice.{clause, Reaches}
 use Rattle.choices.specs.Reached.{marked, reached}
 use Rattle.choices.specs.Plan.{orStanding, firstChoice, chosen, rowsFor, rowsUnder, rowsOf, planRows, encQuery, encRow, image, planned}
@@ -41,7 +42,8 @@ use Rattle.masks.proofs.Laws.Set.{bitAt-zero}
 use Rattle.masks.proofs.Laws.Outcome.{answers-short, answers-done}
 use Rattle.reading.proofs.Laws.Judged.{read-well}
 use Rattle.book.proofs.Laws.Encode.{run-joined}
-use Rattle.ordering.proofs.Laws.Held.{callsBelow-mono, first-cut}
+use Rattle.book.proofs.Laws.Sets.{callsBelow-mono}
+use Rattle.ordering.proofs.Laws.Held.{first-cut}
 use Rattle.tables.proofs.Laws.Sums.{howMany, sum-cong, length-joined, howMany-each, ones-below}
 use Rattle.tables.proofs.Laws.Valid.{query-calls, clause-calls}
 use Rattle.needs.proofs.Laws.Settling.{clauses-count, known-clauses}
@@ -92,7 +94,7 @@ module _ (B : Book) (preds clauses : ℕ) (rules table : List ℕ) (l : Lent B p
   unfolding clause
   clause-order k a h =
       order (clause B k .body) (headBound (clause B k .head .args) a)
-      (clause-calls B (l .well) (record { head = record { pred = 0; args = [] }; body = [] }) k (let e = count in omega arith))
+      (clause-calls B (l .well) noClause k (let e = count in omega arith))
 
   -- ---- a query that has a good order
 

@@ -7,10 +7,11 @@ use lib.ListN.{length}
 use Rattle.book.specs.Limits.{maxPredicates}
 use Rattle.book.specs.Book.{Call}
 use Rattle.book.specs.Held.{callOf, clauseAt}
+use Rattle.book.specs.Table.{tableIn}
 use Rattle.book.specs.declared.clause.Call as call
 use Rattle.ordering.specs.Adorn.{headBound}
 use Rattle.ordering.specs.Good.{firstGood}
-use Rattle.ordering.specs.Held.{tableIn, orderOf, orNone, placesOf}
+use Rattle.ordering.specs.Held.{orderOf, orNone, placesOf}
 use Rattle.ordering.specs.declared.Order.{Order}
 use Rattle.choices.specs.Plan.{encRow}
 use Rattle.plan.specs.Lent.{rowBy}

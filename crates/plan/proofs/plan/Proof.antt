@@ -1,5 +1,6 @@
 -- `plan::plan` meets its contract. A fault is the book's; else the book is well formed and its final table is settled, and what is given is its plan. Assumes nothing.
 use borrow.Author.Needs.{needs}
+use Rattle.book.specs.Held.{modesSize}
 use Rattle.choices.specs.Plan.{planned}
 use Rattle.book.proofs.Laws.Held.{modeAt-zeros}
 use Rattle.reading.proofs.Laws.Judged.{read-refused, read-well, read-made}
@@ -8,7 +9,7 @@ use Rattle.plan.proofs.plan.Statement.{statement}
 use Rattle.plan.proofs.plan.Tie as tie
 
 read-book-requires : tie.Need-read-book-requires
-read-book-requires c κs = modeAt-zeros 1408
+read-book-requires c κs = modeAt-zeros modesSize
 
 returns : tie.Need-returns
 returns c = read-refused (c .before .before .before .read-book .ensures) planned (c .before .before .before .before .before .before .before .before .before .args .out .now) (c .before .if1 .taken)

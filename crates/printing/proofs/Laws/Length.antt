@@ -11,14 +11,15 @@ use lib.Dec.{ltb}
 use lib.ListN.{length, getD, take, length-append, length-take}
 use borrow.Author.Tests.{lt-ltb, leb-true}
 use Rattle.masks.specs.Lists.{joined}
-use Rattle.book.specs.Limits.{longest, maxPredicates, maxSubgoals}
+use Rattle.book.specs.Limits.{longest, maxPredicates, maxSubgoals, longestSheet}
 use Rattle.book.specs.Book.{Book}
 use Rattle.book.specs.Format.{number, Judged, fault, book, judge}
 use Rattle.book.specs.Encode.{run, WellFormed}
+use Rattle.book.specs.Table.{entry}
 use Rattle.ordering.specs.Adorn.{nothing}
 use Rattle.ordering.specs.Orders.{In, Rearranges}
 use Rattle.ordering.specs.Good.{firstGood, isSome}
-use Rattle.tables.specs.Table.{entry, rounds, final}
+use Rattle.tables.specs.Table.{rounds, final}
 use Rattle.tables.specs.Image as table
 use Rattle.choices.specs.Reached.{marked, reached}
 use Rattle.choices.specs.Plan as plan
@@ -165,7 +166,7 @@ module _ (B : Book) (w : WellFormed B) where
       (λ t. rw t (omega (arith, plan-most, plan-length B w)))
       (λ t. rw t (omega (arith, refusal-most 7 0 (omega arith) (omega arith))))
 
-  pub book-length : length (bookSheet B) ≤ 164392
+  pub book-length : length (bookSheet B) ≤ longestSheet
   unfolding bookSheet
   book-length =
       omega (
@@ -181,13 +182,13 @@ module _ (B : Book) (w : WellFormed B) where
 -- ---- any bytes
 
 -- that a machine can have
-pub judged-length : (s : List ℕ) → length s < 10 ^ 20 → length (judgedSheet (judge s)) ≤ 164392
+pub judged-length : (s : List ℕ) → length s < 10 ^ 20 → length (judgedSheet (judge s)) ≤ longestSheet
 judged-length s h = go (judge s) refl
   where
-    go : (j : Judged) → judge s ≡ j → length (judgedSheet j) ≤ 164392
+    go : (j : Judged) → judge s ≡ j → length (judgedSheet j) ≤ longestSheet
     go (fault f at) e = omega (arith, refusal-most (number f) at (omega (arith, number-range f)) (omega (arith, fault-place s f at e)))
     go (book B) e = book-length B (judge-inv s B e .1)
 
-pub sheet-length : (s : List ℕ) → length (sheet s) ≤ 164392
+pub sheet-length : (s : List ℕ) → length (sheet s) ≤ longestSheet
 unfolding sheet
 sheet-length s = judged-length (take (suc longest) s) (omega (arith, length-take (suc longest) s))

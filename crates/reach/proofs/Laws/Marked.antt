@@ -9,13 +9,13 @@ use lib.ListN.{length, getD, set}
 use Rattle.book.specs.Limits.{maxPredicates}
 use Rattle.book.specs.Book.{Call}
 use Rattle.book.specs.Held.{clauseAt}
+use Rattle.book.specs.Table.{tableIn}
 use Rattle.ordering.specs.Adorn.{Bound, headBound}
 use Rattle.ordering.specs.Asks.{Asked, called}
-use Rattle.ordering.specs.Held.{tableIn}
 use Rattle.reach.specs.Marked.{markedAt, Marked, callsBy, clauseBy}
 use Rattle.masks.proofs.Laws.Lists.{any-append}
 use Rattle.masks.proofs.Laws.Set.{bitAt-zero, bitAt-or, bitAt-power, eqb-comm}
-use Rattle.needs.proofs.Laws.Calls.{stored-more}
+use Rattle.book.proofs.Laws.Sets.{stored-more}
 
 pub marked-nil : (words : List ℕ) → Marked words words 0 []
 marked-nil words = record { marks = λ q b. sym (or-false (markedAt words q b)); names· = bitAt-zero }

@@ -1,6 +1,6 @@
 -- The calls of a body in its first good order, marked one after the other. Assumes nothing.
 use mathlib.Core.Path.{_≡_, ap, ap₂, _∙_, subst}
-use mathlib.Core.List.{List, []}
+use mathlib.Core.List.{List}
 use Prim.Native.Nat.{ℕ, _+_, _^_, _≤_, _<_}
 use native.Mathlib.Numerals.{add-one}
 use native.Mathlib.Omega.{arith}
@@ -9,8 +9,9 @@ use lib.ListN.{length, getD, set, take, length-set}
 use lib.Seq.{take-all}
 use Rattle.masks.specs.Lists.{values}
 use Rattle.book.specs.Limits.{maxPredicates}
-use Rattle.book.specs.Book.{Call}
-use Rattle.ordering.specs.Adorn.{Table, Bound, patternOf}
+use Rattle.book.specs.Book.{Call, noCall}
+use Rattle.book.specs.Table.{Table}
+use Rattle.ordering.specs.Adorn.{Bound, patternOf}
 use Rattle.ordering.specs.Good.{at, afterAt, firstGood}
 use Rattle.ordering.specs.Asks.{Asked, asks, patternsIn}
 use Rattle.ordering.specs.Held.{orNone, orderOf, placesOf, patternsOf}
@@ -20,9 +21,6 @@ use Rattle.masks.proofs.Laws.Lists.{values-cong}
 use Rattle.ordering.proofs.Laws.Greedy.{allAfter}
 use Rattle.ordering.proofs.Laws.Patterns.{asks-values, order, order-long, order-at, order-pattern}
 use Rattle.reach.proofs.Laws.Marked.{marked-nil, marked-append, marked-one}
-
-abbrev pub none : Call
-none = record { pred = 0; args = [] }
 
 -- ---- the loop: the first i calls are marked
 
@@ -41,7 +39,7 @@ module _ {body : List Call} {places patterns before : List ℕ} {n : ℕ} where
 
   -- s is the call at the next place, w its word with the pattern, and v the names with its own
   pub marking-next : {i : ℕ} {words : List ℕ} {names : ℕ} {s : Call} {w v : ℕ} → Marking body places patterns before n i words names
-      → i < n → s ≡ getD body (getD places i 0) none → s .pred < maxPredicates
+      → i < n → s ≡ getD body (getD places i 0) noCall → s .pred < maxPredicates
       → w ≡ bitOr (getD words (s .pred) 0) (2 ^ getD patterns i 0) → v ≡ bitOr names (2 ^ s .pred)
       → Marking body places patterns before n (i + 1) (set words (s .pred) w) v
   unfolding at

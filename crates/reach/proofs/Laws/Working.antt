@@ -15,25 +15,24 @@ use Rattle.masks.specs.Limits.{allPatterns}
 use Rattle.masks.specs.Lists.{any, joined}
 use Rattle.masks.specs.Set.{bitAt}
 use Rattle.book.specs.Limits.{maxPredicates, maxClauses}
-use Rattle.book.specs.Book.{Call, Clause, Book}
+use Rattle.book.specs.Book.{Call, Clause, noClause, Book}
 use Rattle.book.specs.Held.{clauseAt, clausesOf}
+use Rattle.book.specs.Table.{tableIn}
+use Rattle.book.specs.Sets.{Owns, Known, Callable}
 use Rattle.ordering.specs.Adorn.{nothing, headBound}
 use Rattle.ordering.specs.Asks.{Asked, called}
-use Rattle.ordering.specs.Held.{tableIn}
-use Rattle.needs.specs.Sets.{Owns, Known}
-use Rattle.needs.specs.Round.{Callable}
 use Rattle.choices.specs.Choice.{clause, queryCalls, clauseCalls, Reaches, by-query, by-clause}
 use Rattle.reach.specs.Marked.{markedAt, Marked, callsBy, clauseBy, clausesBy, patternsBy, taken, ReachedIn}
 use Rattle.masks.proofs.Laws.Logic.{byBool, byRange, clash, false-of, and-intro, and-left, and-right, or-left, or-right, or-case}
 use Rattle.masks.proofs.Laws.Lists.{any-joined, joined-any}
 use Rattle.masks.proofs.Laws.Set.{bitAt-zero, bitAt-or}
 use Rattle.masks.proofs.Laws.Members.{lowest, others, others-less}
+use Rattle.masks.proofs.Laws.Patterns.{member-below}
 use Rattle.ordering.proofs.Laws.Asks.{called-pred}
 use Rattle.masks.proofs.Laws.Words.{Within, no-members, in-new, new-in, new-none, new-some}
+use Rattle.book.proofs.Laws.Sets.{bitAt-none}
 use Rattle.needs.proofs.Laws.Settling.{clauses-count, clause-is}
 use Rattle.choices.proofs.Laws.Reached.{closed-reaches}
-use Rattle.lanes.proofs.Laws.Words.{member-below}
-use Rattle.needs.proofs.Laws.Calls.{bitAt-none}
 use Rattle.reach.proofs.Laws.Space.{space, space-less}
 
 -- ---- the calls of the members of a set
@@ -59,7 +58,7 @@ queryBy rules table = callsBy (tableIn table maxPredicates) (clauseAt rules maxC
 
 pub book-clause : (B : Book) (rules : List ℕ) (n : ℕ) → B .clauses ≡ clausesOf rules n → (k : ℕ) → k < n → clause B k ≡ clauseAt rules k
 unfolding clause
-book-clause B rules n e = clause-is B rules n e (record { head = record { pred = 0; args = [] }; body = [] })
+book-clause B rules n e = clause-is B rules n e noClause
 
 module _ (rules table : List ℕ) (n : ℕ) (B : Book) (e : B .clauses ≡ clausesOf rules n) (f : B .query ≡ clauseAt rules maxClauses .body) where
   book-query : queryCalls B (taken (tableIn table maxPredicates) B) ≡ queryBy rules table

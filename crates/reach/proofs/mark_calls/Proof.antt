@@ -6,7 +6,7 @@ use lib.ListN.{length, getD}
 use borrow.Author.Needs.{needs}
 use Rattle.book.specs.Limits.{maxPredicates}
 use Rattle.book.specs.Held.{clauseAt}
-use Rattle.ordering.specs.Held.{tableIn}
+use Rattle.book.specs.Table.{tableIn}
 use Rattle.reach.specs.Marked.{callsBy}
 use Rattle.ordering.proofs.Laws.Run.{pred-read}
 use Rattle.ordering.proofs.Laws.Patterns.{order-below, pattern-low}
@@ -90,12 +90,6 @@ slice-write-words c = let l = low (c .before .before .before .before) in let z =
 with-member-requires-2 : tie.Need-with-member-requires-2 Inv-loop μ-loop
 with-member-requires-2 c κs = low (c .before .before .before .before)
 
-add-i : tie.Need-add-i Inv-loop μ-loop
-add-i c = search needs
-
-loop-less : tie.Need-loop-less Inv-loop μ-loop
-loop-less c = search needs
-
 loop-again : tie.Need-loop-again Inv-loop μ-loop
 loop-again c =
     let d = c .before .before .before .before .before in
@@ -129,7 +123,7 @@ mark-calls-spec =
     mul-words
     slice-write-words
     with-member-requires-2
-    add-i
-    loop-less
+    (λ c. search needs)
+    (λ c. search needs)
     loop-again
     returns)

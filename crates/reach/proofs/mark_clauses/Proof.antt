@@ -36,9 +36,6 @@ module _ (c : tie.In-loop Inv-loop μ-loop) where
 cast-k : tie.Need-cast-k Inv-loop μ-loop
 cast-k c = let l = low c in omega arith
 
-sub-rest : tie.Need-sub-rest Inv-loop μ-loop
-sub-rest c = search needs
-
 head-at-requires : tie.Need-head-at-requires Inv-loop μ-loop
 head-at-requires c κs = let l = low c in omega arith
 
@@ -79,7 +76,7 @@ mark-clauses-spec =
     μ-loop
     loop-holds
     cast-k
-    sub-rest
+    (λ c. search needs)
     head-at-requires
     head-bound-requires
     mark-calls-requires

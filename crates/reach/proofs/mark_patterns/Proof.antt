@@ -29,9 +29,6 @@ low c =
 cast-a : tie.Need-cast-a Inv-loop μ-loop
 cast-a c = let l = low c in omega arith
 
-sub-rest : tie.Need-sub-rest Inv-loop μ-loop
-sub-rest c = search needs
-
 mark-clauses-requires : tie.Need-mark-clauses-requires Inv-loop μ-loop
 mark-clauses-requires c κs = c .before .before .before .pre
 
@@ -60,7 +57,7 @@ mark-patterns-spec =
     μ-loop
     loop-holds
     cast-a
-    sub-rest
+    (λ c. search needs)
     mark-clauses-requires
     loop-less
     loop-again

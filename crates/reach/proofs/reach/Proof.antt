@@ -59,9 +59,6 @@ mark-patterns-requires c κs =
     let l = low d in
     own-callable (s .args .rules .now) (s .args .clauses) (s .args .own .now) (s .pre .3) _ (omega arith) (s .pre .1)
 
-sub-work : tie.Need-sub-work Inv-loop μ-loop
-sub-work c = search needs
-
 -- what the turn makes of the marks
 turn : (c : tie.After-mark-patterns Inv-loop μ-loop)
     → let d = c .before .before .before .before .before in
@@ -105,7 +102,7 @@ reach-spec =
     mul-mark-patterns
     element-copy-out-mark-patterns
     mark-patterns-requires
-    sub-work
+    (λ c. search needs)
     loop-less
     loop-again
     returns)

@@ -92,9 +92,9 @@ module _ (ar s : List ℕ) (arities : Arities ar) (from : ℕ) where
               above = λ i h. (modeAt-others stored i (λ q. absurd (omega arith)) ∙ l .above i (omega arith));
             }
 
-    pub moding-end : (turn Modes (markAt (drop at s)) ≡ Mine → ⊥) → (n : ℕ) {r : Found} → Reads s r (λ k. k) (stops Modes n (drop at s))
+    pub moding-end : (turn Modes (markAt (drop at s)) ≡ Mine → ⊥) → {r : Found} → Reads s r (λ k. k) (stops Modes 0 (drop at s))
         → Reads s r (λ k. modesOf modes maxPredicates) (many Modes (mode ar) (suc maxPredicates) [] (drop from s))
-    moding-end other n w =
+    moding-end other w =
         let a = l .most in
         let d = arities .few in
-        going-end Modes (mode ar) s (suc maxPredicates) from (l .going) other (λ k. modesOf modes maxPredicates) n (modesOf-rest modes b maxPredicates (omega arith) (l .above)) w
+        going-end Modes (mode ar) s (suc maxPredicates) from (l .going) other (modesOf-rest modes b maxPredicates (omega arith) (l .above)) w

@@ -13,14 +13,12 @@ use Rattle.book.specs.declared.fault.Fault.{Fault}
 use Rattle.book.specs.declared.fault.Fault.the-variants.{TooMany}
 use Rattle.book.specs.declared.mark.Mark.{Mark}
 use Rattle.book.specs.declared.mark.Phase.{Phase}
-use Rattle.book.specs.declared.mark.Phase.the-variants.{Predicates, Modes, Clauses, Body, Query}
 use Rattle.book.specs.declared.mark.Turn.{Turn}
 use Rattle.book.specs.declared.mark.Turn.the-variants.{Mine, Over, No}
-use Rattle.book.proofs.Laws.Got.{bad-got, got-value}
-use Rattle.book.proofs.Laws.Marks.{mineOf, leads-mine, unled, mine-starts}
+use Rattle.book.proofs.Laws.Marks.{Sole, leads-own, unled, own-two}
 use Rattle.records.specs.declared.field.Found.{Found}
 use Rattle.records.specs.declared.field.Found.the-variants.{Next, Bad}
-use Rattle.records.specs.Found.{counted, means, Reads, onStop, stops}
+use Rattle.records.specs.Found.{Reads, stops}
 use Rattle.reading.specs.Judged.{Listed}
 use Rattle.records.proofs.Laws.Reads.{then-bad, reads-map}
 
@@ -31,30 +29,19 @@ pub record Going {A : Type 0} (p : Phase) (item : List A → List ℕ → Got A)
   pub size : length acc ≡ n
   pub kept : many p item (room - n) acc (drop at s) ≡ many p item room [] (drop from s)
 
--- the mark of a run leads the bytes at a place
-module _ (p : Phase) {m : Mark} (own : m ≡ mineOf p) (s : List ℕ) (at : ℕ) where
-  pub mine-at : leads (spelling m) (drop at s) ≡ true → turn p (markAt (drop at s)) ≡ Mine
-  mine-at t = leads-mine p (drop at s) (subst (λ (k : Mark). leads (spelling k) (drop at s) ≡ true) own t)
+-- a mark of a run leads the bytes at a place; or the only one that the run has does not
+module _ (p : Phase) (m : Mark) (s : List ℕ) (at : ℕ) where
+  pub mine-at : turn p m ≡ Mine → leads (spelling m) (drop at s) ≡ true → turn p (markAt (drop at s)) ≡ Mine
+  mine-at own t = leads-own p m own (drop at s) t
 
-  pub not-mine-at : leads (spelling m) (drop at s) ≡ false → turn p (markAt (drop at s)) ≡ Mine → ⊥
-  not-mine-at t = unled p (drop at s) (subst (λ (k : Mark). leads (spelling k) (drop at s) ≡ false) own t)
-
-spelling-two : (p : Phase) (r : List ℕ) → length (spelling (mineOf p) ++ r) ≡ suc (suc (length r))
-spelling-two p r = go p
-  where
-    go : (q : Phase) → length (spelling (mineOf q) ++ r) ≡ suc (suc (length r))
-    go Predicates = refl
-    go Modes = refl
-    go Clauses = refl
-    go Body = refl
-    go Query = refl
+  pub not-mine-at : Sole p m → leads (spelling m) (drop at s) ≡ false → turn p (markAt (drop at s)) ≡ Mine → ⊥
+  not-mine-at sole t = unled p (drop at s) (λ k e. ap (λ (j : Mark). leads (spelling j) (drop at s)) (sole k e) ∙ t)
 
 -- so the two bytes of the mark are there
 pub mark-there : (p : Phase) (s : List ℕ) (at : ℕ) → turn p (markAt (drop at s)) ≡ Mine → at + 2 ≤ length s
 mark-there p s at t =
-    let e = ap length (mine-starts p (drop at s) t) in
+    let e = own-two p (drop at s) t in
     let l : length (drop at s) ≡ length s - at = length-drop at s in
-    let z = spelling-two p (drop 2 (drop at s)) in
     omega arith
 
 module _ {A : Type 0} (p : Phase) (item : List A → List ℕ → Got A) (s : List ℕ) (room from : ℕ) where
@@ -94,14 +81,14 @@ module _ {A : Type 0} (p : Phase) (item : List A → List ℕ → Got A) (s : Li
           }
 
     -- the end of the run, or a fault
-    pub going-end : (turn p (markAt (drop at s)) ≡ Mine → ⊥) → (f : ℕ → List A) (m : ℕ) → f m ≡ acc → {r : Found} → Reads s r (λ k. k) (stops p m (drop at s))
-        → Reads s r f (many p item room [] (drop from s))
+    pub going-end : (turn p (markAt (drop at s)) ≡ Mine → ⊥) → {xs : List A} → xs ≡ acc → {r : Found} → Reads s r (λ k. k) (stops p 0 (drop at s))
+        → Reads s r (λ k. xs) (many p item room [] (drop from s))
     unfolding many
-    going-end other f m e {r} w =
-        let u : Reads s r f (andThen (stops p m (drop at s)) (λ a t. got (f a) t)) = reads-map f w in
+    going-end other {xs} e {r} w =
+        let u : Reads s r (λ k. xs) (andThen {A = ℕ} (stops p 0 (drop at s)) (λ a t. got xs t)) = reads-map (λ (k : ℕ). xs) w in
         record { inside = u .inside; is = u .is ∙ (go (turn p (markAt (drop at s))) other ∙ (all (room - n) ∙ l .kept)) }
       where
-        go : (t : Turn) → (t ≡ Mine → ⊥) → andThen (onStop t m (drop at s)) (λ a t. got (f a) t) ≡ onTurn t (got acc (drop at s)) acc (drop at s)
+        go : (t : Turn) → (t ≡ Mine → ⊥) → andThen (onTurn {A = ℕ} t (got 0 (drop at s)) 0 (drop at s)) (λ a t. got xs t) ≡ onTurn t (got acc (drop at s)) acc (drop at s)
         go Mine q = absurd (q refl)
         go Over q = ap (λ (x : List A). got x (drop at s)) e
         go (No v) q = refl
@@ -115,16 +102,6 @@ module _ {A : Type 0} (p : Phase) (item : List A → List ℕ → Got A) (s : Li
         all zero = same (turn p (markAt (drop at s))) other _ _
         all (suc k) = same (turn p (markAt (drop at s))) other _ _
 
--- how many were counted at the end of a run
-pub stops-count : (p : Phase) (n : ℕ) (s t : List ℕ) {r : Found} → Reads s r (λ k. k) (stops p n t) → counted r ≤ n
-stops-count p n s t {r} w = go (turn p (markAt t)) r (w .is)
-  where
-    go : (u : Turn) (q : Found) → means s q (λ k. k) ≡ onStop u n t → counted q ≤ n
-    go u (Bad v at) e = omega arith
-    go Mine (Next at k) e = let z : k ≡ n = got-value e in omega arith
-    go Over (Next at k) e = let z : k ≡ n = got-value e in omega arith
-    go (No v) (Next at k) e = bad-got (sym e)
-
 -- one more of the first n of an array
 pub front-more : {X Y : Type 0} (f : X → Y) (l : List X) (n : ℕ) (x : X) → n < length l → map f (take (n + 1) (set l n x)) ≡ map f (take n l) ++ (f x ∷ [])
 front-more f l n x h = rw (add-one, take-suc-set l n x h) (map-append f (take n l) (x ∷ []))
@@ -132,21 +109,6 @@ front-more f l n x h = rw (add-one, take-suc-set l n x h) (map-append f (take n 
 pub take-more : (l : List ℕ) (n x : ℕ) → n < length l → take (n + 1) (set l n x) ≡ take n l ++ (x ∷ [])
 take-more l n x h = rw (add-one, take-suc-set l n x h)
 
-pub count-bad : {g : Found} {v : Fault} {at : ℕ} (k : ℕ) → g ≡ Bad v at → counted g ≤ k
-count-bad k e = rw e (omega arith)
-
-pub count-next : {g : Found} {at n : ℕ} (k : ℕ) → g ≡ Next at n → counted g ≤ k → n ≤ k
-count-next k e h = subst (λ (q : Found). counted q ≤ k) e h
-
 -- the predicates of an array with room for all
 pub listed : {l : List ℕ} (n : ℕ) → length l ≡ maxPredicates → n ≤ maxPredicates → Listed n l
 listed {l} n e h = record { few = h; each = length-take-le n l (rw e h) }
-
-pub listed-none : {l : List ℕ} → Listed 0 l
-listed-none = record { few = omega arith; each = refl }
-
-pub listed-bad : {l : List ℕ} {g : Found} {v : Fault} {at : ℕ} → g ≡ Bad v at → Listed (counted g) l
-listed-bad e = rw e listed-none
-
-pub listed-next : {l : List ℕ} {g : Found} {at n : ℕ} → g ≡ Next at n → Listed (counted g) l → Listed n l
-listed-next {l} e h = subst (λ (q : Found). Listed (counted q) l) e h

@@ -9,7 +9,6 @@ use Rattle.book.specs.declared.mark.Mark.the-variants.{Sg}
 use Rattle.book.specs.Held.{callOf}
 use Rattle.book.specs.Format.{subgoal}
 use Rattle.reading.proofs.Laws.Runs.{Going, mine-at, not-mine-at, mark-there, going-start, going-full, going-bad, going-next, going-end, front-more}
-use Rattle.book.proofs.Laws.Marks.{mine-mark}
 use Rattle.reading.proofs.read_body.Statement.{statement}
 use Rattle.reading.proofs.read_body.Tie as tie
 
@@ -38,7 +37,7 @@ returns c =
     let loop = c .before .before .before .before .before .loop in
     let is-mark = c .before .before .before .is-mark in
     let if1 = c .before .before .if1 in
-    (rw (c .no-clause .ensures .0) (going-full _ _ _ _ _ (loop .inv .1) (mine-at (args .phase) (mine-mark (args .phase) Sg (pre .2)) (args .s .now) (loop .at) (sym (is-mark .ensures) ∙ if1 .taken)) (omega arith)), c .no-clause .ensures .1)
+    (rw (c .no-clause .ensures .0) (going-full _ _ _ _ _ (loop .inv .1) (mine-at (args .phase) Sg (args .s .now) (loop .at) (pre .2 .own) (sym (is-mark .ensures) ∙ if1 .taken)) (omega arith)), c .no-clause .ensures .1)
 
 read-subgoal-requires : tie.Need-read-subgoal-requires Inv-loop μ-loop
 read-subgoal-requires c κs =
@@ -46,7 +45,7 @@ read-subgoal-requires c κs =
     let pre = c .before .before .before .before .before .before .before .before .pre in
     let loop = c .before .before .before .before .loop in
     let is-mark = c .before .before .is-mark in
-    (mark-there (args .phase) (args .s .now) _ (mine-at (args .phase) (mine-mark (args .phase) Sg (pre .2)) (args .s .now) (loop .at) (sym (is-mark .ensures) ∙ c .before .if1 .taken)), pre .1)
+    (mark-there (args .phase) (args .s .now) _ (mine-at (args .phase) Sg (args .s .now) (loop .at) (pre .2 .own) (sym (is-mark .ensures) ∙ c .before .if1 .taken)), pre .1)
 
 enum-told : tie.Need-enum-told Inv-loop μ-loop
 enum-told c = search needs
@@ -63,7 +62,7 @@ returns-2 c =
     let is-mark = c .before .before .before .before .before .before .before .is-mark in
     let if1 = c .before .before .before .before .before .before .if1 in
     let read-subgoal = c .before .before .before .before .read-subgoal in
-    (rw (c .no-clause2 .ensures .0) (going-bad _ _ _ _ _ (loop .inv .1) (mine-at (args .phase) (mine-mark (args .phase) Sg (pre .2)) (args .s .now) (loop .at) (sym (is-mark .ensures) ∙ if1 .taken)) (omega arith) (read-subgoal .ensures) (c .before .enum-told .given .1)), c .no-clause2 .ensures .1)
+    (rw (c .no-clause2 .ensures .0) (going-bad _ _ _ _ _ (loop .inv .1) (mine-at (args .phase) Sg (args .s .now) (loop .at) (pre .2 .own) (sym (is-mark .ensures) ∙ if1 .taken)) (omega arith) (read-subgoal .ensures) (c .before .enum-told .given .1)), c .no-clause2 .ensures .1)
 
 enum-known-g : tie.Need-enum-known-g Inv-loop μ-loop
 enum-known-g c = search needs
@@ -89,7 +88,7 @@ loop-again c =
     let is-mark = c .before .before .before .before .before .before .before .is-mark in
     let if1 = c .before .before .before .before .before .before .if1 in
     let read-subgoal = c .before .before .before .before .read-subgoal in
-    (simp length-set (loop .inv .0), going-next _ _ _ _ _ (loop .inv .1) (mine-at (args .phase) (mine-mark (args .phase) Sg (pre .2)) (args .s .now) (loop .at) (sym (is-mark .ensures) ∙ if1 .taken)) (omega arith) (read-subgoal .ensures) (c .before .g .given .1) (front-more callOf (loop .body) (loop .n) (read-subgoal .result .call) (let e = loop .inv .0 in omega arith)))
+    (simp length-set (loop .inv .0), going-next _ _ _ _ _ (loop .inv .1) (mine-at (args .phase) Sg (args .s .now) (loop .at) (pre .2 .own) (sym (is-mark .ensures) ∙ if1 .taken)) (omega arith) (read-subgoal .ensures) (c .before .g .given .1) (front-more callOf (loop .body) (loop .n) (read-subgoal .result .call) (let e = loop .inv .0 in omega arith)))
 
 cast-count : tie.Need-cast-count Inv-loop μ-loop
 cast-count c = let t = c .before .before .before .loop .inv .1 .turns in omega arith
@@ -103,7 +102,7 @@ returns-3 c =
     let pre = c .before .before .before .before .before .before .before .before .pre in
     let loop = c .before .before .before .before .loop in
     let is-mark = c .before .before .is-mark in
-    (going-end _ _ _ _ _ (loop .inv .1) (not-mine-at (args .phase) (mine-mark (args .phase) Sg (pre .2)) (args .s .now) (loop .at) (sym (is-mark .ensures) ∙ c .before .if1 .left)) (λ k. map callOf (take (loop .n) (loop .body))) (loop .n) refl (c .run-end .ensures), refl)
+    (going-end _ _ _ _ _ (loop .inv .1) (not-mine-at (args .phase) Sg (args .s .now) (loop .at) (pre .2 .sole) (sym (is-mark .ensures) ∙ c .before .if1 .left)) refl (c .run-end .ensures), refl)
 
 pub read-body-spec : {M : Type 1} → statement M
 read-body-spec =

@@ -1,6 +1,7 @@
 -- `reading::read_clause` meets its contract. A fault of the head is the clause's; else the body decides. Assumes nothing.
 use mathlib.Core.Path.{refl}
 use borrow.Author.Needs.{needs}
+use Rattle.book.proofs.Laws.Marks.{sole-body}
 use Rattle.records.proofs.Laws.Reads.{clause-bad, clause-next, next-inside}
 use Rattle.reading.proofs.read_clause.Statement.{statement}
 use Rattle.reading.proofs.read_clause.Tie as tie
@@ -21,7 +22,7 @@ read-body-requires : tie.Need-read-body-requires
 read-body-requires c κs =
     let pre = c .before .before .before .before .before .before .before .pre in
     let read-head = c .before .before .before .before .read-head in
-    (next-inside (read-head .ensures) (c .before .g .given .1), pre .1, refl)
+    (next-inside (read-head .ensures) (c .before .g .given .1), pre .1, record { own = refl; sole = sole-body })
 
 returns : tie.Need-returns
 returns c =

@@ -8,7 +8,8 @@ use Rattle.book.specs.declared.mark.Mark.the-variants.{Cl}
 use Rattle.book.specs.Held.{modesOf, clausesOf}
 use Rattle.book.specs.Format.{clause}
 use Rattle.book.specs.Limits.{maxPredicates}
-use Rattle.reading.proofs.Laws.Runs.{Going, mine-at, not-mine-at, mark-there, going-start, going-full, going-bad, going-next, going-end, stops-count, count-bad}
+use Rattle.reading.proofs.Laws.Runs.{Going, mine-at, not-mine-at, mark-there, going-start, going-full, going-bad, going-next, going-end}
+use Rattle.book.proofs.Laws.Marks.{sole-clauses}
 use Rattle.book.proofs.Laws.Held.{clausesOf-stored}
 use Rattle.reading.proofs.read_clauses.Statement.{statement}
 use Rattle.reading.proofs.read_clauses.Tie as tie
@@ -31,7 +32,7 @@ returns c =
     let args = c .before .before .before .before .before .before .before .args in
     let loop = c .before .before .before .before .loop in
     let is-mark = c .before .before .is-mark in
-    (going-full _ _ _ _ _ (loop .inv) (mine-at Clauses {m = Cl} refl (args .s .now) (loop .at) (sym (is-mark .ensures) ∙ c .before .if1 .taken)) (omega arith), omega arith)
+    (going-full _ _ _ _ _ (loop .inv) (mine-at Clauses Cl (args .s .now) (loop .at) refl (sym (is-mark .ensures) ∙ c .before .if1 .taken)) (omega arith), loop .inv .turns)
 
 read-clause-requires : tie.Need-read-clause-requires Inv-loop μ-loop
 read-clause-requires c κs =
@@ -39,7 +40,7 @@ read-clause-requires c κs =
     let pre = c .before .before .before .before .before .before .before .pre in
     let loop = c .before .before .before .before .loop in
     let is-mark = c .before .before .is-mark in
-    (mark-there Clauses (args .s .now) _ (mine-at Clauses {m = Cl} refl (args .s .now) (loop .at) (sym (is-mark .ensures) ∙ c .before .if1 .taken)), pre .1)
+    (mark-there Clauses (args .s .now) _ (mine-at Clauses Cl (args .s .now) (loop .at) refl (sym (is-mark .ensures) ∙ c .before .if1 .taken)), pre .1)
 
 enum-told : tie.Need-enum-told Inv-loop μ-loop
 enum-told c = search needs
@@ -52,7 +53,7 @@ returns-2 c =
     let is-mark = c .before .before .before .before .before .before .is-mark in
     let if1 = c .before .before .before .before .before .if1 in
     let read-clause = c .before .before .before .read-clause in
-    (going-bad _ _ _ _ _ (loop .inv) (mine-at Clauses {m = Cl} refl (args .s .now) (loop .at) (sym (is-mark .ensures) ∙ if1 .taken)) (omega arith) (read-clause .ensures) (c .enum-told .given .1), count-bad _ (c .enum-told .given .1))
+    (going-bad _ _ _ _ _ (loop .inv) (mine-at Clauses Cl (args .s .now) (loop .at) refl (sym (is-mark .ensures) ∙ if1 .taken)) (omega arith) (read-clause .ensures) (c .enum-told .given .1), loop .inv .turns)
 
 enum-known-g : tie.Need-enum-known-g Inv-loop μ-loop
 enum-known-g c = search needs
@@ -75,10 +76,7 @@ loop-again c =
     let if1 = c .before .before .before .before .before .before .before .before .if1 in
     let read-clause = c .before .before .before .before .before .before .read-clause in
     let g = c .before .before .before .g in
-    going-next _ _ _ _ _ (loop .inv) (mine-at Clauses {m = Cl} refl (args .s .now) (loop .at) (sym (is-mark .ensures) ∙ if1 .taken)) (omega arith) (read-clause .ensures) (g .given .1) (clausesOf-stored (c .put-clause .ensures))
-
-cast-run-end : tie.Need-cast-run-end Inv-loop μ-loop
-cast-run-end c = let t = c .before .before .before .loop .inv .turns in omega arith
+    going-next _ _ _ _ _ (loop .inv) (mine-at Clauses Cl (args .s .now) (loop .at) refl (sym (is-mark .ensures) ∙ if1 .taken)) (omega arith) (read-clause .ensures) (g .given .1) (clausesOf-stored (c .put-clause .ensures))
 
 run-end-requires : tie.Need-run-end-requires Inv-loop μ-loop
 run-end-requires c κs = c .before .before .before .loop .inv .inside
@@ -88,7 +86,7 @@ returns-3 c =
     let args = c .before .before .before .before .before .before .before .args in
     let loop = c .before .before .before .before .loop in
     let is-mark = c .before .before .is-mark in
-    (going-end _ _ _ _ _ (loop .inv) (not-mine-at Clauses {m = Cl} refl (args .s .now) (loop .at) (sym (is-mark .ensures) ∙ c .before .if1 .left)) (λ k. clausesOf (loop .rules) k) (loop .n) refl (c .run-end .ensures), let t = loop .inv .turns in let b = stops-count Clauses (loop .n) (args .s .now) _ (c .run-end .ensures) in omega arith)
+    (going-end _ _ _ _ _ (loop .inv) (not-mine-at Clauses Cl (args .s .now) (loop .at) sole-clauses (sym (is-mark .ensures) ∙ c .before .if1 .left)) refl (c .run-end .ensures), loop .inv .turns)
 
 pub read-clauses-spec : {M : Type 1} → statement M
 read-clauses-spec =
@@ -107,6 +105,5 @@ read-clauses-spec =
     add-n
     loop-less
     loop-again
-    cast-run-end
     run-end-requires
     returns-3)

@@ -7,6 +7,7 @@ use borrow.Author.Needs.{needs}
 use Rattle.book.specs.declared.mark.Phase.the-variants.{Modes}
 use Rattle.book.specs.declared.mark.Mark.the-variants.{Mo}
 use Rattle.reading.proofs.Laws.Moding.{Moding, moding-start, moding-bad, moding-below, moding-on, moding-next, moding-end}
+use Rattle.book.proofs.Laws.Marks.{sole-modes}
 use Rattle.reading.proofs.Laws.Runs.{mine-at, not-mine-at, mark-there}
 use Rattle.records.proofs.Laws.Reads.{next-inside}
 use Rattle.reading.proofs.read_modes.Statement.{statement}
@@ -31,7 +32,7 @@ read-mode-requires c κs =
     let args = c .before .before .before .before .before .before .args in
     let pre = c .before .before .before .before .before .before .pre in
     let loop = c .before .before .before .loop in
-    (mark-there Modes (args .s .now) _ (mine-at Modes {m = Mo} refl (args .s .now) (loop .at) (sym (c .before .is-mark .ensures) ∙ c .if1 .taken)), pre .1)
+    (mark-there Modes (args .s .now) _ (mine-at Modes Mo (args .s .now) (loop .at) refl (sym (c .before .is-mark .ensures) ∙ c .if1 .taken)), pre .1)
 
 enum-told : tie.Need-enum-told Inv-loop μ-loop
 enum-told c = search needs
@@ -44,7 +45,7 @@ returns c =
     let is-mark = c .before .before .before .before .before .is-mark in
     let if1 = c .before .before .before .before .if1 in
     let read-mode = c .before .before .before .read-mode in
-    moding-bad _ _ (pre .1) _ (loop .inv) (mine-at Modes {m = Mo} refl (args .s .now) (loop .at) (sym (is-mark .ensures) ∙ if1 .taken)) (read-mode .ensures) (c .enum-told .given .1)
+    moding-bad _ _ (pre .1) _ (loop .inv) (mine-at Modes Mo (args .s .now) (loop .at) refl (sym (is-mark .ensures) ∙ if1 .taken)) (read-mode .ensures) (c .enum-told .given .1)
 
 enum-known-g : tie.Need-enum-known-g Inv-loop μ-loop
 enum-known-g c = search needs
@@ -58,7 +59,7 @@ put-mode-requires c κs =
     let if1 = c .before .before .before .before .before .before .if1 in
     let read-mode = c .before .before .before .before .before .read-mode in
     let g = c .before .before .g in
-    moding-below _ (args .s .now) (pre .1) _ (loop .inv) (mine-at Modes {m = Mo} refl (args .s .now) (loop .at) (sym (is-mark .ensures) ∙ if1 .taken)) (read-mode .ensures) (g .given .1)
+    moding-below _ (args .s .now) (pre .1) _ (loop .inv) (mine-at Modes Mo (args .s .now) (loop .at) refl (sym (is-mark .ensures) ∙ if1 .taken)) (read-mode .ensures) (g .given .1)
 
 add-low : tie.Need-add-low Inv-loop μ-loop
 add-low c =
@@ -69,7 +70,7 @@ add-low c =
     let if1 = c .before .before .before .before .before .before .before .if1 in
     let read-mode = c .before .before .before .before .before .before .read-mode in
     let g = c .before .before .before .g in
-    let h = moding-below _ (args .s .now) (pre .1) _ (loop .inv) (mine-at Modes {m = Mo} refl (args .s .now) (loop .at) (sym (is-mark .ensures) ∙ if1 .taken)) (read-mode .ensures) (g .given .1) in omega arith
+    let h = moding-below _ (args .s .now) (pre .1) _ (loop .inv) (mine-at Modes Mo (args .s .now) (loop .at) refl (sym (is-mark .ensures) ∙ if1 .taken)) (read-mode .ensures) (g .given .1) in omega arith
 
 loop-less : tie.Need-loop-less Inv-loop μ-loop
 loop-less c =
@@ -80,7 +81,7 @@ loop-less c =
     let if1 = c .before .before .before .before .before .before .before .if1 in
     let read-mode = c .before .before .before .before .before .before .read-mode in
     let g = c .before .before .before .g in
-    let h = moding-on _ (args .s .now) (pre .1) _ (loop .inv) (mine-at Modes {m = Mo} refl (args .s .now) (loop .at) (sym (is-mark .ensures) ∙ if1 .taken)) (read-mode .ensures) (g .given .1) in let i = next-inside (read-mode .ensures) (g .given .1) in omega arith
+    let h = moding-on _ (args .s .now) (pre .1) _ (loop .inv) (mine-at Modes Mo (args .s .now) (loop .at) refl (sym (is-mark .ensures) ∙ if1 .taken)) (read-mode .ensures) (g .given .1) in let i = next-inside (read-mode .ensures) (g .given .1) in omega arith
 
 loop-again : tie.Need-loop-again Inv-loop μ-loop
 loop-again c =
@@ -91,7 +92,7 @@ loop-again c =
     let if1 = c .before .before .before .before .before .before .before .if1 in
     let read-mode = c .before .before .before .before .before .before .read-mode in
     let g = c .before .before .before .g in
-    moding-next _ _ (pre .1) _ (loop .inv) (mine-at Modes {m = Mo} refl (args .s .now) (loop .at) (sym (is-mark .ensures) ∙ if1 .taken)) (read-mode .ensures) (g .given .1) (c .put-mode .ensures)
+    moding-next _ _ (pre .1) _ (loop .inv) (mine-at Modes Mo (args .s .now) (loop .at) refl (sym (is-mark .ensures) ∙ if1 .taken)) (read-mode .ensures) (g .given .1) (c .put-mode .ensures)
 
 run-end-requires : tie.Need-run-end-requires Inv-loop μ-loop
 run-end-requires c κs = c .before .before .before .loop .inv .going .inside
@@ -102,7 +103,7 @@ returns-2 c =
     let pre = c .before .before .before .before .before .before .before .pre in
     let loop = c .before .before .before .before .loop in
     let is-mark = c .before .before .is-mark in
-    moding-end _ _ (pre .1) _ (loop .inv) (not-mine-at Modes {m = Mo} refl (args .s .now) (loop .at) (sym (is-mark .ensures) ∙ c .before .if1 .left)) 0 (c .run-end .ensures)
+    moding-end _ _ (pre .1) _ (loop .inv) (not-mine-at Modes Mo (args .s .now) (loop .at) sole-modes (sym (is-mark .ensures) ∙ c .before .if1 .left)) (c .run-end .ensures)
 
 pub read-modes-spec : {M : Type 1} → statement M
 read-modes-spec =

@@ -7,7 +7,8 @@ use borrow.Author.Needs.{needs}
 use Rattle.book.specs.declared.mark.Phase.the-variants.{Predicates}
 use Rattle.book.specs.declared.mark.Mark.the-variants.{Pr}
 use Rattle.book.specs.Format.{predicate}
-use Rattle.reading.proofs.Laws.Runs.{Going, mine-at, not-mine-at, mark-there, going-start, going-full, going-bad, going-next, going-end, take-more, stops-count, listed, listed-none, listed-bad}
+use Rattle.reading.proofs.Laws.Runs.{Going, mine-at, not-mine-at, mark-there, going-start, going-full, going-bad, going-next, going-end, take-more, listed}
+use Rattle.book.proofs.Laws.Marks.{sole-predicates}
 use Rattle.reading.proofs.read_predicates.Statement.{statement}
 use Rattle.reading.proofs.read_predicates.Tie as tie
 
@@ -28,14 +29,14 @@ returns c =
     let args = c .before .before .before .before .before .before .before .args in
     let loop = c .before .before .before .before .loop in
     let is-mark = c .before .before .is-mark in
-    (going-full _ _ _ _ _ (loop .inv .1) (mine-at Predicates {m = Pr} refl (args .s .now) (loop .at) (sym (is-mark .ensures) ∙ c .before .if1 .taken)) (omega arith), listed-none)
+    (going-full _ _ _ _ _ (loop .inv .1) (mine-at Predicates Pr (args .s .now) (loop .at) refl (sym (is-mark .ensures) ∙ c .before .if1 .taken)) (omega arith), listed _ (loop .inv .0) (loop .inv .1 .turns))
 
 read-predicate-requires : tie.Need-read-predicate-requires Inv-loop μ-loop
 read-predicate-requires c κs =
     let args = c .before .before .before .before .before .before .before .args in
     let loop = c .before .before .before .before .loop in
     let is-mark = c .before .before .is-mark in
-    mark-there Predicates (args .s .now) _ (mine-at Predicates {m = Pr} refl (args .s .now) (loop .at) (sym (is-mark .ensures) ∙ c .before .if1 .taken))
+    mark-there Predicates (args .s .now) _ (mine-at Predicates Pr (args .s .now) (loop .at) refl (sym (is-mark .ensures) ∙ c .before .if1 .taken))
 
 enum-told : tie.Need-enum-told Inv-loop μ-loop
 enum-told c = search needs
@@ -48,7 +49,7 @@ returns-2 c =
     let is-mark = c .before .before .before .before .before .is-mark in
     let if1 = c .before .before .before .before .if1 in
     let read-predicate = c .before .before .read-predicate in
-    (going-bad _ _ _ _ _ (loop .inv .1) (mine-at Predicates {m = Pr} refl (args .s .now) (loop .at) (sym (is-mark .ensures) ∙ if1 .taken)) (omega arith) (read-predicate .ensures) (c .enum-told .given .1), listed-bad (c .enum-told .given .1))
+    (going-bad _ _ _ _ _ (loop .inv .1) (mine-at Predicates Pr (args .s .now) (loop .at) refl (sym (is-mark .ensures) ∙ if1 .taken)) (omega arith) (read-predicate .ensures) (c .enum-told .given .1), listed _ (loop .inv .0) (loop .inv .1 .turns))
 
 enum-known-g : tie.Need-enum-known-g Inv-loop μ-loop
 enum-known-g c = search needs
@@ -72,10 +73,7 @@ loop-again c =
     let is-mark = c .before .before .before .before .before .before .is-mark in
     let if1 = c .before .before .before .before .before .if1 in
     let read-predicate = c .before .before .before .read-predicate in
-    (simp length-set (loop .inv .0), going-next _ _ _ _ _ (loop .inv .1) (mine-at Predicates {m = Pr} refl (args .s .now) (loop .at) (sym (is-mark .ensures) ∙ if1 .taken)) (omega arith) (read-predicate .ensures) (c .before .g .given .1) (take-more (loop .bytes) (loop .n) _ (let e = loop .inv .0 in omega arith)))
-
-cast-run-end : tie.Need-cast-run-end Inv-loop μ-loop
-cast-run-end c = let t = c .before .before .before .loop .inv .1 .turns in omega arith
+    (simp length-set (loop .inv .0), going-next _ _ _ _ _ (loop .inv .1) (mine-at Predicates Pr (args .s .now) (loop .at) refl (sym (is-mark .ensures) ∙ if1 .taken)) (omega arith) (read-predicate .ensures) (c .before .g .given .1) (take-more (loop .bytes) (loop .n) _ (let e = loop .inv .0 in omega arith)))
 
 run-end-requires : tie.Need-run-end-requires Inv-loop μ-loop
 run-end-requires c κs = c .before .before .before .loop .inv .1 .inside
@@ -85,7 +83,7 @@ returns-3 c =
     let args = c .before .before .before .before .before .before .before .args in
     let loop = c .before .before .before .before .loop in
     let is-mark = c .before .before .is-mark in
-    (going-end _ _ _ _ _ (loop .inv .1) (not-mine-at Predicates {m = Pr} refl (args .s .now) (loop .at) (sym (is-mark .ensures) ∙ c .before .if1 .left)) (λ k. take k (loop .bytes)) (loop .n) refl (c .run-end .ensures), let t = loop .inv .1 .turns in let b = stops-count Predicates (loop .n) (args .s .now) _ (c .run-end .ensures) in listed _ (loop .inv .0) (omega arith))
+    (going-end _ _ _ _ _ (loop .inv .1) (not-mine-at Predicates Pr (args .s .now) (loop .at) sole-predicates (sym (is-mark .ensures) ∙ c .before .if1 .left)) refl (c .run-end .ensures), listed _ (loop .inv .0) (loop .inv .1 .turns))
 
 pub read-predicates-spec : {M : Type 1} → statement M
 read-predicates-spec =
@@ -104,6 +102,5 @@ read-predicates-spec =
     add-n
     loop-less
     loop-again
-    cast-run-end
     run-end-requires
     returns-3)

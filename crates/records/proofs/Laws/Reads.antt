@@ -18,7 +18,7 @@ use Rattle.book.specs.declared.fault.Fault.{Fault}
 use Rattle.book.specs.declared.fault.Fault.the-variants.{PastEnd, OutOfRange, Clash}
 use Rattle.book.specs.declared.mark.Phase.the-variants.{Body}
 use Rattle.book.specs.declared.range.Range.{Range}
-use Rattle.book.specs.declared.range.Range.the-variants.{Below, AtMost, Argument, HeadArgument}
+use Rattle.book.specs.declared.range.Range.the-variants.{Below, AtMost, Argument, NoWildcard}
 use Rattle.book.proofs.Laws.Trip.{call-known, call-inv}
 use Rattle.book.proofs.Laws.Got.{byte-inv}
 use Rattle.records.specs.declared.field.Found.{Found}
@@ -36,9 +36,9 @@ argument-is x h =
     (λ e. or-right (eqb x 254) (eq-eqb x 255 (let n : x ≡ 254 → ⊥ = eqb-false x 254 e in omega arith))))
     (λ t. or-case (eqb x 254) (eqb x 255) t (λ e. let q = eqb-true x 254 e in le-leb 254 x (omega arith)) (λ e. let q = eqb-true x 255 e in le-leb 254 x (omega arith))))
 
-pub head-argument-is : (x : ℕ) → x ≤ 255 → (leb x 15 || leb 255 x) ≡ allows HeadArgument x
+pub no-wildcard-is : (x : ℕ) → x ≤ 255 → (leb x 15 || leb 255 x) ≡ allows NoWildcard x
 unfolding allows
-head-argument-is x h =
+no-wildcard-is x h =
     ap (λ (b : Bool). leb x 15 || b)
     (same (leb 255 x) (eqb x 255) (λ t. let l = leb-true 255 x t in eq-eqb x 255 (omega arith)) (λ e. let q = eqb-true x 255 e in le-leb 255 x (omega arith)))
 
@@ -229,7 +229,7 @@ call-below r ar s at {g} {c} w {next} {n} e =
     let u : Reads s (Next next n) (λ k. c) (call r ar (drop at s)) = subst (λ (q : Found). Reads s q (λ k. c) (call r ar (drop at s))) e w in
     ltb-true (c .pred) (length ar) (call-known r ar c (call-inv r ar (drop at s) c (drop next s) (sym (u .is)) .1))
 
-module _ (ar s : List ℕ) (ms : List Mode) (at : ℕ) {g : Found} {c : Call} (w : Reads s g (λ n. c) (call HeadArgument ar (drop at s))) where
+module _ (ar s : List ℕ) (ms : List Mode) (at : ℕ) {g : Found} {c : Call} (w : Reads s g (λ n. c) (call NoWildcard ar (drop at s))) where
   pub head-bad : {f : ℕ → Call} {v : Fault} {p : ℕ} → g ≡ Bad v p → Reads s g f (headFields ar ms (drop at s))
   unfolding headFields
   head-bad {f} e = then-bad _ w {h = f} e

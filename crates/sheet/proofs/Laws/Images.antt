@@ -8,8 +8,7 @@ use lib.ListN.{length, take, drop, length-append}
 use lib.Seq.{take-at, drop-at, getD-at}
 use Rattle.masks.specs.Lists.{joined}
 use Rattle.book.specs.Encode.{run}
-use Rattle.ordering.specs.Adorn.{Table}
-use Rattle.tables.specs.Table.{entry}
+use Rattle.book.specs.Table.{Table, entry}
 use Rattle.tables.specs.Image.{row, rows}
 use Rattle.choices.specs.Plan.{Row, encQuery, encRow}
 use Rattle.printing.specs.Sheet.{field, line, listing, none·, constraintLine, queryLine, orderLine}

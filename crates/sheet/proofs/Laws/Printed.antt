@@ -19,6 +19,7 @@ use Rattle.printing.specs.Sheet.{field, line, none·, constraintLines, roundsLi
 use Rattle.sheet.specs.Records.{listedIn, lineIn, linesIn, judgedOrders}
 use Rattle.masks.proofs.Laws.Logic.{byBool}
 use Rattle.masks.proofs.Laws.Outcome.{Sized}
+use Rattle.book.specs.Limits.{longestTable, longestPlan}
 use Rattle.book.proofs.Laws.Answer.{number-some}
 use Rattle.book.proofs.Laws.Trip.{judge-inv}
 use Rattle.tables.proofs.Laws.Image.{table-length}
@@ -28,20 +29,20 @@ use Rattle.sheet.proofs.Laws.Images.{lines-rows, lines-orders, line-que
 
 -- ---- the analysis and the planning of any bytes
 
-pub analysis-sized : (s : List ℕ) → Sized 0 1536 (table.analysis s)
+pub analysis-sized : (s : List ℕ) → Sized 0 longestTable (table.analysis s)
 unfolding onBook
 analysis-sized s = go (judge s) refl
   where
-    go : (j : Judged) → judge s ≡ j → Sized 0 1536 (ofJudged table.analysed j)
+    go : (j : Judged) → judge s ≡ j → Sized 0 longestTable (ofJudged table.analysed j)
     go (fault f at) e = number-some f
     go (book B) e = (omega arith, table-length B (judge-inv s B e .1))
 
 -- "QO, n, n places" is there
-pub planning-sized : (s : List ℕ) → Sized 3 53259 (plan.planning s)
+pub planning-sized : (s : List ℕ) → Sized 3 longestPlan (plan.planning s)
 unfolding onBook plan.image
 planning-sized s = go (judge s) refl
   where
-    go : (j : Judged) → judge s ≡ j → Sized 3 53259 (ofJudged plan.planned j)
+    go : (j : Judged) → judge s ≡ j → Sized 3 longestPlan (ofJudged plan.planned j)
     go (fault f at) e = number-some f
     go (book B) e =
         byBool (isSome (firstGood (final B) (B .query) nothing))

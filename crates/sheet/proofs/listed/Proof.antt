@@ -7,20 +7,11 @@ use Rattle.sheet.proofs.Laws.Lines.{listed-length}
 use Rattle.sheet.proofs.listed.Statement.{statement}
 use Rattle.sheet.proofs.listed.Tie as tie
 
-add-least : tie.Need-add-least
-add-least c = search needs
-
 shared-slice-read-least : tie.Need-shared-slice-read-least
 shared-slice-read-least c = search needs
 
 cast-least : tie.Need-cast-least
 cast-least c = omega (arith, c .shared-slice-known2 .given (2 + c .before .before .args .lead))
-
-sub-least : tie.Need-sub-least
-sub-least c = search needs
-
-sub-least-2 : tie.Need-sub-least-2
-sub-least-2 c = search needs
 
 least-requires : tie.Need-least-requires
 least-requires c κs = search needs
@@ -34,10 +25,10 @@ pub listed-spec : {M : Type 1} → statement M
 listed-spec =
     tie.close
     (tie.spec
-    add-least
+    (λ c. search needs)
     shared-slice-read-least
     cast-least
-    sub-least
-    sub-least-2
+    (λ c. search needs)
+    (λ c. search needs)
     least-requires
     returns)

@@ -7,20 +7,11 @@ use Rattle.sheet.proofs.Laws.Lines.{room-newline, wrote-line, listed-mo
 use Rattle.sheet.proofs.put_line.Statement.{statement}
 use Rattle.sheet.proofs.put_line.Tie as tie
 
-add-from : tie.Need-add-from
-add-from c = search needs
-
 listed-requires : tie.Need-listed-requires
 listed-requires c κs = search needs
 
 put-byte-requires : tie.Need-put-byte-requires
 put-byte-requires c κs = search needs
-
-add-put-fields : tie.Need-add-put-fields
-add-put-fields c = search needs
-
-sub-put-fields : tie.Need-sub-put-fields
-sub-put-fields c = search needs
 
 part-put-fields-start : tie.Need-part-put-fields-start
 part-put-fields-start c = search needs
@@ -46,9 +37,6 @@ listed-ends c =
 
 add-put-listing : tie.Need-add-put-listing
 add-put-listing c = let m = listed-ends c in omega arith
-
-sub-put-listing : tie.Need-sub-put-listing
-sub-put-listing c = search needs
 
 part-put-listing-start : tie.Need-part-put-listing-start
 part-put-listing-start c = search needs
@@ -86,16 +74,16 @@ pub put-line-spec : {M : Type 1} → statement M
 put-line-spec =
     tie.close
     (tie.spec
-    add-from
+    (λ c. search needs)
     listed-requires
     put-byte-requires
-    add-put-fields
-    sub-put-fields
+    (λ c. search needs)
+    (λ c. search needs)
     part-put-fields-start
     part-put-fields-end
     put-fields-requires
     add-put-listing
-    sub-put-listing
+    (λ c. search needs)
     part-put-listing-start
     part-put-listing-end
     put-listing-requires

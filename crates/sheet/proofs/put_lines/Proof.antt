@@ -18,15 +18,6 @@ abbrev μ-loop : tie.MeasureT-loop
 loop-holds : tie.Need-loop-holds Inv-loop μ-loop
 loop-holds c = lining-start (c .before .before .before .pre .0) (c .before .before .before .pre .1) refl
 
-add-loop : tie.Need-add-loop Inv-loop μ-loop
-add-loop c = search needs
-
-sub-loop : tie.Need-sub-loop Inv-loop μ-loop
-sub-loop c = search needs
-
-sub-put-line : tie.Need-sub-put-line Inv-loop μ-loop
-sub-put-line c = search needs
-
 part-put-line-start : tie.Need-part-put-line-start Inv-loop μ-loop
 part-put-line-start c = search needs
 
@@ -37,12 +28,6 @@ put-line-requires : tie.Need-put-line-requires Inv-loop μ-loop
 put-line-requires c κs =
     let k = c .before .before .before in
     lining-asks (k .loop .inv) (omega arith) (from (k .loop .i) (k .before .before .before .before .args .image .now))
-
-add-i : tie.Need-add-i Inv-loop μ-loop
-add-i c = search needs
-
-sub-listed : tie.Need-sub-listed Inv-loop μ-loop
-sub-listed c = search needs
 
 part-listed-start : tie.Need-part-listed-start Inv-loop μ-loop
 part-listed-start c = search needs
@@ -92,14 +77,14 @@ put-lines-spec =
     Inv-loop
     μ-loop
     loop-holds
-    add-loop
-    sub-loop
-    sub-put-line
+    (λ c. search needs)
+    (λ c. search needs)
+    (λ c. search needs)
     part-put-line-start
     part-put-line-end
     put-line-requires
-    add-i
-    sub-listed
+    (λ c. search needs)
+    (λ c. search needs)
     part-listed-start
     part-listed-end
     listed-requires

@@ -12,6 +12,7 @@ use Rattle.choices.specs.Plan.{planning}
 use Rattle.printing.specs.Sheet.{refusalLine}
 use Rattle.sheet.specs.Records.{lineIn, linesIn, judgedOrders}
 use Rattle.masks.proofs.Laws.Outcome.{Told, refusal-told, result-told}
+use Rattle.book.specs.Limits.{longestPlan}
 use Rattle.writing.proofs.Laws.Wrote.{wrote-as, wrote-append, room-first, room-second}
 use Rattle.sheet.proofs.Laws.Lines.{listed-most, from}
 use Rattle.sheet.proofs.Laws.Printed.{planning-sized, ordersIn, planLines, planning-lines}
@@ -23,15 +24,15 @@ use Rattle.sheet.proofs.put_orders.Tie as tie
 refused : (c : tie.Then1) → let p = c .before .before .before .plan .result in refusalLine (p .number) (p .value) ≡ judgedOrders (judge (c .before .before .before .before .before .before .before .args .book .now))
 refused c =
     let s = c .before .before .before .before .before .before .before .args .book .now in
-    ap planLines (sym (refusal-told 3 53259 (planning s) (planning-sized s) (c .before .before .before .plan .ensures) (length-replicate {A = ℕ} 53259 0) (c .if1 .taken)))
+    ap planLines (sym (refusal-told 3 longestPlan (planning s) (planning-sized s) (c .before .before .before .plan .ensures) (length-replicate {A = ℕ} longestPlan 0) (c .if1 .taken)))
     ∙ planning-lines s
 
 -- ---- or it has a result, whose image has the lines
 
-found : (c : tie.Else1) → Told 3 53259 (planning (c .before .before .before .before .before .before .before .args .book .now)) (c .before .before .before .plan .result) (c .before .before .before .plan .last .1 .0)
+found : (c : tie.Else1) → Told 3 longestPlan (planning (c .before .before .before .before .before .before .before .args .book .now)) (c .before .before .before .plan .result) (c .before .before .before .plan .last .1 .0)
 found c =
     let s = c .before .before .before .before .before .before .before .args .book .now in
-    result-told 3 53259 (planning s) (planning-sized s) (c .before .before .before .plan .ensures) (length-replicate {A = ℕ} 53259 0) (c .if1 .left)
+    result-told 3 longestPlan (planning s) (planning-sized s) (c .before .before .before .plan .ensures) (length-replicate {A = ℕ} longestPlan 0) (c .if1 .left)
 
 abbrev image : tie.Else1 → List ℕ
 image c = take (c .before .before .before .plan .result .value) (c .before .before .before .plan .last .1 .0)

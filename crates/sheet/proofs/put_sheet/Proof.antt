@@ -13,6 +13,7 @@ use Rattle.tables.specs.Image.{analysis}
 use Rattle.printing.specs.Sheet.{field, line, none·, refusalLine, judgedSheet}
 use Rattle.sheet.specs.Records.{linesIn, judgedOrders}
 use Rattle.masks.proofs.Laws.Outcome.{Told, refusal-told, result-told}
+use Rattle.book.specs.Limits.{longestTable}
 use Rattle.writing.proofs.Laws.Wrote.{wrote-as, wrote-append, room-first, room-second}
 use Rattle.printing.proofs.Laws.Length.{judged-length}
 use Rattle.sheet.proofs.Laws.Printed.{analysis-sized, tableLines, analysis-lines}
@@ -25,15 +26,15 @@ refused : (c : tie.Then1) → let p = c .before .before .before .analyse .result
 refused c =
     let s = c .before .before .before .before .before .before .args .book .now in
     ap (λ (o : Outcome). tableLines o (judgedOrders (judge s)))
-    (sym (refusal-told 0 1536 (analysis s) (analysis-sized s) (c .before .before .before .analyse .ensures) (length-replicate {A = ℕ} 1536 0) (c .if1 .taken)))
+    (sym (refusal-told 0 longestTable (analysis s) (analysis-sized s) (c .before .before .before .analyse .ensures) (length-replicate {A = ℕ} longestTable 0) (c .if1 .taken)))
     ∙ analysis-lines s
 
 -- ---- or it has a result, whose image has the lines
 
-found : (c : tie.Else1) → Told 0 1536 (analysis (c .before .before .before .before .before .before .args .book .now)) (c .before .before .before .analyse .result) (c .before .before .before .analyse .last .1 .0)
+found : (c : tie.Else1) → Told 0 longestTable (analysis (c .before .before .before .before .before .before .args .book .now)) (c .before .before .before .analyse .result) (c .before .before .before .analyse .last .1 .0)
 found c =
     let s = c .before .before .before .before .before .before .args .book .now in
-    result-told 0 1536 (analysis s) (analysis-sized s) (c .before .before .before .analyse .ensures) (length-replicate {A = ℕ} 1536 0) (c .if1 .left)
+    result-told 0 longestTable (analysis s) (analysis-sized s) (c .before .before .before .analyse .ensures) (length-replicate {A = ℕ} longestTable 0) (c .if1 .left)
 
 abbrev image : tie.Else1 → List ℕ
 image c = take (c .before .before .before .analyse .result .value) (c .before .before .before .analyse .last .1 .0)

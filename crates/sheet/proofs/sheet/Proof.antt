@@ -2,7 +2,7 @@
 -- where there is room. Assumes nothing.
 use mathlib.Core.Path.{_≡_, sym, ap, _∙_}
 use mathlib.Core.List.{List}
-use Prim.Native.Nat.{ℕ, _≤_}
+use Prim.Native.Nat.{ℕ, suc, _≤_}
 use native.Mathlib.Omega.{arith}
 use lib.ListN.{length, take, length-replicate, length-take}
 use lib.Seq.{length-take-le, sets}
@@ -10,14 +10,15 @@ use borrow.Author.Needs.{needs}
 use Rattle.book.specs.Format.{judge}
 use Rattle.printing.specs.Sheet.{judgedSheet, sheet}
 use Rattle.masks.proofs.Laws.Outcome.{room-enough, answers-short, answers-done}
+use Rattle.book.specs.Limits.{longest, longestSheet}
 use Rattle.writing.proofs.Laws.Wrote.{wrote-as, wrote-length, wrote-front, Front, front}
 use Rattle.printing.proofs.Laws.Length.{sheet-length}
 use Rattle.sheet.proofs.sheet.Statement.{statement}
 use Rattle.sheet.proofs.sheet.Tie as tie
 
 -- the bytes that are judged
-judges : (c : tie.After-least) → Front 6963 (c .least .result) (c .before .before .before .args .book .now)
-judges c = front 6963 (c .before .before .before .args .book .now) (omega (arith, c .least .ensures, length-take 6963 (c .before .before .before .args .book .now)))
+judges : (c : tie.After-least) → Front (suc longest) (c .least .result) (c .before .before .before .args .book .now)
+judges c = front (suc longest) (c .before .before .before .args .book .now) (omega (arith, c .least .ensures, length-take (suc longest) (c .before .before .before .args .book .now)))
 
 -- what is printed of them is there
 there : (c : tie.After-put-sheet) → (c .put-sheet .result ≤ length (c .put-sheet .last .0)) × (take (c .put-sheet .result) (c .put-sheet .last .0) ≡ sheet (c .before .before .before .before .before .before .args .book .now))
@@ -26,7 +27,7 @@ there c =
     let s = c .before .before .before .before .before .before .args .book .now in
     let w = wrote-as (ap (λ (l : List ℕ). judgedSheet (judge l)) (judges (c .before .before .before) .is)) (c .put-sheet .ensures) in
     let l = sheet-length s in
-    let z = length-replicate {A = ℕ} 164392 0 in
+    let z = length-replicate {A = ℕ} longestSheet 0 in
     (omega (arith, w .ends, wrote-length w), wrote-front w (omega arith))
 
 size : (c : tie.After-put-sheet) → c .put-sheet .result ≡ length (sheet (c .before .before .before .before .before .before .args .book .now))

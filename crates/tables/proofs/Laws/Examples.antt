@@ -6,8 +6,9 @@ use Prim.Native.Nat.{ℕ}
 use Rattle.masks.specs.Mask.{within}
 use Rattle.masks.specs.Constraint.{admits, drops, least, written, minimise}
 use Rattle.book.specs.Book.{Call, Mode, Clause, Book}
+use Rattle.book.specs.Table.{Table}
 use Rattle.book.proofs.Laws.Examples.{k1-book}
-use Rattle.ordering.specs.Adorn.{Table, nothing, isBound, patternOf, bindVar, bindAll, bindHead, headBound, ready, after}
+use Rattle.ordering.specs.Adorn.{nothing, isBound, patternOf, bindVar, bindAll, bindHead, headBound, ready, after}
 use Rattle.ordering.specs.Orders.{find, without, each, ordersOf, count, orders}
 use Rattle.ordering.specs.Turns as turns
 use Rattle.ordering.specs.Good.{at, goodClause}

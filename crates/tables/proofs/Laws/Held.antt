@@ -16,11 +16,10 @@ use Rattle.masks.proofs.Laws.Logic.{byBool}
 use Rattle.masks.proofs.Laws.Lists.{values-cong, getD-values}
 use Rattle.book.specs.Limits.{maxPredicates}
 use Rattle.book.specs.Book.{Mode}
-use Rattle.book.specs.Held.{hasIn, masksIn, modeBytes, modeAt, modesOf, StoredMode, modeSize}
+use Rattle.book.specs.Held.{hasIn, masksIn, modeBytes, modeAt, modesOf, StoredMode, modeSize, modesSize}
+use Rattle.book.specs.Table.{Table, entryIn, tableIn, Low}
 use Rattle.book.proofs.Laws.Held.{modesOf-joined}
 use Rattle.book.proofs.Laws.Windows.{getD-window}
-use Rattle.ordering.specs.Adorn.{Table}
-use Rattle.ordering.specs.Held.{entryIn, tableIn, Low}
 use Rattle.writing.proofs.Laws.Chunks.{Chunks}
 use Rattle.tables.proofs.Laws.Modes.{modeOf-joined}
 use Rattle.tables.specs.Table.{modeOf, firstNeed, firstNeeds}
@@ -78,13 +77,13 @@ pub record Filling (modes : List ℕ) (p : ℕ) (needs : List ℕ) : Type 0 wher
   pub table : tableIn needs p ≡ firstNeeds (modesOf modes maxPredicates) p
   pub low : Low needs
 
-entry-zeros : (p : ℕ) → p < maxPredicates → entryIn (replicate 1408 0) p ≡ []
+entry-zeros : (p : ℕ) → p < maxPredicates → entryIn (replicate modesSize 0) p ≡ []
 entry-zeros p h =
-    let e : getD (modeBytes (replicate 1408 0) p) 1 0 ≡ 0 =
-    getD-window (p * modeSize) modeSize 1 (replicate 1408 0) (omega arith) ∙ getD-replicate {A = ℕ} 1408 (p * modeSize + 1) 0 0 (omega arith) in
-    ap (λ (k : ℕ). take k (drop 2 (modeBytes (replicate 1408 0) p))) e
+    let e : getD (modeBytes (replicate modesSize 0) p) 1 0 ≡ 0 =
+    getD-window (p * modeSize) modeSize 1 (replicate modesSize 0) (omega arith) ∙ getD-replicate {A = ℕ} modesSize (p * modeSize + 1) 0 0 (omega arith) in
+    ap (λ (k : ℕ). take k (drop 2 (modeBytes (replicate modesSize 0) p))) e
 
-pub filling-start : (modes : List ℕ) → Filling modes 0 (replicate 1408 0)
+pub filling-start : (modes : List ℕ) → Filling modes 0 (replicate modesSize 0)
 unfolding tableIn firstNeeds
 filling-start modes = record { table = refl; low = λ p h. ap (inRange allPatterns) (entry-zeros p h) ∙ (unfold inRange in refl) }
 

@@ -11,11 +11,11 @@ use borrow.Author.Tests.{leb-true}
 use Rattle.masks.specs.Limits.{maxMasks, allPatterns}
 use Rattle.masks.specs.Lists.{joined}
 use Rattle.masks.specs.Constraint.{inRange}
-use Rattle.book.specs.Limits.{maxPredicates}
+use Rattle.book.specs.Limits.{maxPredicates, longestTable}
 use Rattle.book.specs.Book.{Book}
 use Rattle.book.specs.Encode.{WellFormed}
-use Rattle.ordering.specs.Adorn.{Table}
-use Rattle.tables.specs.Table.{entry, final}
+use Rattle.book.specs.Table.{Table, entry}
+use Rattle.tables.specs.Table.{final}
 use Rattle.tables.specs.Image.{row, rows, image}
 use Rattle.masks.proofs.Laws.Chains.{at-most-twenty}
 use Rattle.masks.proofs.Laws.Constraint.{inRange-mono, written-inRange}
@@ -47,7 +47,7 @@ module _ (B : Book) (w : WellFormed B) where
     final-few = at-most-twenty (2 ^ getD (B .arities) p 0) (entry (final B) p) (patterns-few p) (final-proper B w .written· p h)
 
   -- no table has a longer image
-  pub table-length : length (image B) ≤ 1536
+  pub table-length : length (image B) ≤ longestTable
   unfolding image
   table-length =
       let n = length (B .arities) in

@@ -12,7 +12,7 @@ use Rattle.masks.specs.Lists.{any, all}
 use Rattle.masks.proofs.Laws.Logic.{and-intro, and-left, and-right}
 use Rattle.masks.proofs.Laws.Lists.{any-append, all-append, any-at}
 use Rattle.book.specs.Book.{Clause}
-use Rattle.ordering.specs.Adorn.{Table}
+use Rattle.book.specs.Table.{Table}
 use Rattle.ordering.specs.Good.{goodClause}
 use Rattle.tables.specs.Calls.{calls, touched}
 use Rattle.tables.specs.Table.{own, defined, good}

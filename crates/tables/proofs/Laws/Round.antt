@@ -13,15 +13,15 @@ use Rattle.masks.proofs.Laws.Logic.{and-left, and-right}
 use Rattle.masks.proofs.Laws.Lists.{all-mono, all-same, length-values, getD-values}
 use Rattle.masks.proofs.Laws.Mask.{within-refl}
 use Rattle.masks.proofs.Laws.Constraint.{Up, admits-written-up, written-cong}
-use Rattle.book.specs.Book.{Clause}
-use Rattle.ordering.specs.Adorn.{Table}
+use Rattle.book.specs.Book.{Clause, Book}
+use Rattle.book.specs.Table.{Table, entry, tableIn}
+use Rattle.book.specs.Sets.{callsBelow}
 use Rattle.ordering.specs.Good.{goodClause}
-use Rattle.ordering.specs.Held.{tableIn, callsBelow}
 use Rattle.ordering.proofs.Laws.Held.{outside, callsBelow-outside, tableIn-cut}
 use Rattle.ordering.proofs.Laws.Adorn.{More, more-refl}
 use Rattle.ordering.proofs.Laws.Good.{good-clause-mono, clause-same}
 use Rattle.tables.specs.Calls.{calls, touched}
-use Rattle.tables.specs.Table.{entry, own, defined, good, next, step}
+use Rattle.tables.specs.Table.{own, defined, good, next, step}
 
 -- ---- tables
 
@@ -49,15 +49,16 @@ good-more T U h cs p a = good-mono T U h cs p a a (within-refl a)
 
 -- ---- who calls whom
 
-module _ (T U : Table) (x : ℕ → Bool) (agree : (q : ℕ) → x q ≡ false → entry T q ≡ entry U q) (cs : List Clause) (p : ℕ) where
-  pub good-same : touched x cs p ≡ false → (a : ℕ) → good T cs p a ≡ good U cs p a
+module _ (T U : Table) (x : ℕ → Bool) (agree : (q : ℕ) → x q ≡ false → entry T q ≡ entry U q) where
+  pub good-same : (cs : List Clause) (p : ℕ) → touched x cs p ≡ false → (a : ℕ) → good T cs p a ≡ good U cs p a
   unfolding touched good calls
-  good-same n a = all-same (λ c. goodClause T c a) (λ c. goodClause U c a) (calls x) (λ c e. clause-same T U x agree c a e) (own cs p) n
+  good-same cs p n a = all-same (λ c. goodClause T c a) (λ c. goodClause U c a) (calls x) (λ c e. clause-same T U x agree c a e) (own cs p) n
 
   -- so where no clause of p calls what changed, a round gives p what the round before gave it
-  pub next-same : defined cs p ≡ true → touched x cs p ≡ false → (k : ℕ) → next T cs k p ≡ next U cs k p
+  pub next-same : (B : Book) (p : ℕ) → defined (B .clauses) p ≡ true → touched x (B .clauses) p ≡ false → next B T p ≡ next B U p
   unfolding next
-  next-same d n k = rw d (written-cong (good T cs p) (good U cs p) (2 ^ k) (λ a l. good-same n a))
+  next-same B p d n =
+      rw d (written-cong (good T (B .clauses) p) (good U (B .clauses) p) (2 ^ getD (B .arities) p 0) (λ a l. good-same (B .clauses) p n a))
 
 -- clauses that call predicates below n only touch none that is not
 touched-inside : (n : ℕ) (cs : List Clause) (p : ℕ) → all (λ c. callsBelow n (c .body)) cs ≡ true → touched (outside n) cs p ≡ false
@@ -76,24 +77,27 @@ good-cut table n m h cs t p a = good-same (tableIn table m) (tableIn table n) (o
 
 -- ---- the table after a round
 
-module _ (ar : List ℕ) (cs : List Clause) (T : Table) where
-  pub step-length : length (step ar cs T) ≡ length ar
+module _ (B : Book) (T : Table) where
+  pub step-length : length (step B T) ≡ length (B .arities)
   unfolding step
-  step-length = length-values (λ p. next T cs (getD ar p 0) p) (length ar)
+  step-length = length-values (next B T) (length (B .arities))
 
-  module _ (p : ℕ) (h : p < length ar) where
-    pub step-at : entry (step ar cs T) p ≡ next T cs (getD ar p 0) p
+  module _ (p : ℕ) (h : p < length (B .arities)) where
+    pub step-at : entry (step B T) p ≡ next B T p
     unfolding step
-    step-at = getD-values (λ p. next T cs (getD ar p 0) p) [] (length ar) p h
+    step-at = getD-values (next B T) [] (length (B .arities)) p h
 
-    pub step-defined : defined cs p ≡ true → entry (step ar cs T) p ≡ written (good T cs p) (2 ^ getD ar p 0)
+    pub step-defined : defined (B .clauses) p ≡ true → entry (step B T) p ≡ written (good T (B .clauses) p) (2 ^ getD (B .arities) p 0)
     unfolding next
     step-defined d = step-at ∙ rw d
 
-    pub step-outside : defined cs p ≡ false → entry (step ar cs T) p ≡ entry T p
+    pub step-outside : defined (B .clauses) p ≡ false → entry (step B T) p ≡ entry T p
     unfolding next
     step-outside d = step-at ∙ rw d
 
     -- "gets exactly the patterns good"
-    pub step-admits : defined cs p ≡ true → (a : ℕ) → a < 2 ^ getD ar p 0 → admits (entry (step ar cs T) p) a ≡ good T cs p a
-    step-admits d a l = ap (λ (c : List ℕ). admits c a) (step-defined d) ∙ admits-written-up (good T cs p) (good-up T cs p) (2 ^ getD ar p 0) a l
+    pub step-admits : defined (B .clauses) p ≡ true → (a : ℕ) → a < 2 ^ getD (B .arities) p 0
+        → admits (entry (step B T) p) a ≡ good T (B .clauses) p a
+    step-admits d a l =
+        ap (λ (c : List ℕ). admits c a) (step-defined d)
+        ∙ admits-written-up (good T (B .clauses) p) (good-up T (B .clauses) p) (2 ^ getD (B .arities) p 0) a l

@@ -22,9 +22,9 @@ use Rattle.masks.proofs.Laws.Constraint.{sameMasks-true, sameMasks-refl, canoni
 use Rattle.book.specs.Limits.{maxPredicates}
 use Rattle.book.specs.Book.{Book}
 use Rattle.book.specs.Encode.{WellFormed}
-use Rattle.ordering.specs.Adorn.{Table}
+use Rattle.book.specs.Table.{Table, entry}
 use Rattle.ordering.proofs.Laws.Adorn.{More, more-refl}
-use Rattle.tables.specs.Table.{entry, modeOf, firstNeed, firstNeeds, start, defined, good, step, table, sameTable, settled, sumBelow, patternsOf, seek, rounds, final}
+use Rattle.tables.specs.Table.{modeOf, firstNeed, firstNeeds, start, defined, good, step, table, sameTable, settled, sumBelow, patternsOf, seek, rounds, final}
 use Rattle.tables.proofs.Laws.Sums.{sum-le, sum-stuck, sum-most, howMany, howMany-le, howMany-most, howMany-stuck}
 use Rattle.tables.proofs.Laws.Valid.{arity-low, masks-low, defined-apart}
 use Rattle.tables.proofs.Laws.Round.{past-none, more-trans, good-up, good-more, step-length, step-defined, step-outside}
@@ -94,7 +94,7 @@ trivial-admits a = or-left (within 0 a) false (within-zero a)
 
 module _ (B : Book) where
   abbrev after : Table → Table
-  after T = step (B .arities) (B .clauses) T
+  after T = step B T
 
   -- every pattern that X admits of a predicate with clauses is good under X
   abbrev pub Closed : Table → Type 0
@@ -105,10 +105,10 @@ module _ (B : Book) where
   pub step-proper : (T : Table) → Proper B T → Proper B (after T)
   step-proper T t =
       record {
-        long = step-length (B .arities) (B .clauses) T;
+        long = step-length B T;
         written· = λ p h. byBool (defined (B .clauses) p)
-            (λ d. rw (step-defined (B .arities) (B .clauses) T p h d) (written-isWritten (good T (B .clauses) p) (2 ^ getD (B .arities) p 0)))
-            (λ d. rw (step-outside (B .arities) (B .clauses) T p h d) (t .written· p h));
+            (λ d. rw (step-defined B T p h d) (written-isWritten (good T (B .clauses) p) (2 ^ getD (B .arities) p 0)))
+            (λ d. rw (step-outside B T p h d) (t .written· p h));
       }
 
   -- MONOTONE, for a whole table
@@ -116,20 +116,20 @@ module _ (B : Book) where
   step-mono T U f p a e =
       byRange p (length (B .arities))
       (λ h. byBool (defined (B .clauses) p)
-      (λ d. rw (step-defined (B .arities) (B .clauses) U p h d)
+      (λ d. rw (step-defined B U p h d)
       (written-mono (good T (B .clauses) p) (good U (B .clauses) p) (2 ^ getD (B .arities) p 0) (λ x l. good-more T U f (B .clauses) p x) a
-      (rw (step-defined (B .arities) (B .clauses) T p h d) at e)))
-      (λ d. rw (step-outside (B .arities) (B .clauses) U p h d) (f p a (rw (step-outside (B .arities) (B .clauses) T p h d) at e))))
-      (λ h. past-none (after T) p a (omega (arith, step-length (B .arities) (B .clauses) T)) e)
+      (rw (step-defined B T p h d) at e)))
+      (λ d. rw (step-outside B U p h d) (f p a (rw (step-outside B T p h d) at e))))
+      (λ h. past-none (after T) p a (omega (arith, step-length B T)) e)
 
   -- a round that takes nothing away changes nothing
   step-stuck : (T : Table) → Proper B T → More (after T) T → mass B T ≤ mass B (after T) → after T ≡ T
   unfolding mass weight
-  step-stuck T t f m = ext-getD [] (after T) T (step-length (B .arities) (B .clauses) T ∙ sym (t .long)) here
+  step-stuck T t f m = ext-getD [] (after T) T (step-length B T ∙ sym (t .long)) here
     where
       here : (p : ℕ) → p < length (after T) → entry (after T) p ≡ entry T p
       here p l =
-          let h : p < length (B .arities) = omega (arith, step-length (B .arities) (B .clauses) T) in
+          let h : p < length (B .arities) = omega (arith, step-length B T) in
           let n : ℕ = 2 ^ getD (B .arities) p 0 in
           byBool (defined (B .clauses) p)
           (λ d.
@@ -138,7 +138,7 @@ module _ (B : Book) where
           let c : howMany (admits (entry (after T) p)) n ≡ howMany (admits (entry T p)) n = rw d at w in
           canonical n (entry (after T) p) (entry T p) (step-proper T t .written· p h) (t .written· p h)
           (howMany-stuck (admits (entry (after T) p)) (admits (entry T p)) n (f p) (omega arith)))
-          (λ d. step-outside (B .arities) (B .clauses) T p h d)
+          (λ d. step-outside B T p h d)
 
   settled-step : (k : ℕ) → settled B k ≡ true → after (table B k) ≡ table B k
   unfolding settled table
@@ -214,8 +214,8 @@ module _ (B : Book) where
         byRange p (length (B .arities))
         (λ h. byBool (defined (B .clauses) p)
         (λ d. rw (start-at p h, defined-apart B w p d) (trivial-admits a))
-        (λ d. rw (step-outside (B .arities) (B .clauses) (start B) p h d) at e))
-        (λ h. past-none (after (start B)) p a (omega (arith, step-length (B .arities) (B .clauses) (start B))) e)
+        (λ d. rw (step-outside B (start B) p h d) at e))
+        (λ h. past-none (after (start B)) p a (omega (arith, step-length B (start B))) e)
 
     pub tables-fall : (k : ℕ) → More (table B (suc k)) (table B k)
     unfolding table
@@ -247,7 +247,7 @@ module _ (B : Book) where
     unfolding rounds
     rounds-settled = seek-settled (patternsOf B) 0 (mass-most B (table B 0))
 
-    pub final-fixed : step (B .arities) (B .clauses) (final B) ≡ final B
+    pub final-fixed : step B (final B) ≡ final B
     unfolding final
     final-fixed = settled-step (rounds B) rounds-settled
 
@@ -266,7 +266,7 @@ module _ (B : Book) where
     final-closed p d a e =
         byRange p (length (B .arities))
         (λ h. written-sound (good (final B) (B .clauses) p) (good-up (final B) (B .clauses) p) (2 ^ getD (B .arities) p 0) a
-        (subst (λ (c : List ℕ). admits c a ≡ true) (step-defined (B .arities) (B .clauses) (final B) p h d)
+        (subst (λ (c : List ℕ). admits c a ≡ true) (step-defined B (final B) p h d)
         (subst (λ (W : Table). admits (entry W p) a ≡ true) (sym final-fixed) e)))
         (λ h. let l = final-proper .long in past-none (final B) p a (omega arith) e)
 
@@ -280,11 +280,11 @@ module _ (B : Book) where
         go ih =
             byRange p (length (B .arities))
             (λ h. byBool (defined (B .clauses) p)
-            (λ d. rw (step-defined (B .arities) (B .clauses) (table B k) p h d)
+            (λ d. rw (step-defined B (table B k) p h d)
             (written-mono (admits (entry X p)) (good (table B k) (B .clauses) p) (2 ^ getD (B .arities) p 0)
             (λ y l g. good-more X (table B k) ih (B .clauses) p y (f p d y g)) a
             (subst (λ (c : List ℕ). admits c a ≡ true) (sym (written-admits (2 ^ getD (B .arities) p 0) (entry X p) (x .written· p h))) e)))
-            (λ d. rw (step-outside (B .arities) (B .clauses) (table B k) p h d) (ih p a e)))
+            (λ d. rw (step-outside B (table B k) p h d) (ih p a e)))
             (λ h. let l = x .long in past-none X p a (omega arith) e)
 
     pub greatest : (X : Table) → Proper B X → More X (start B) → Closed X → More X (final B)
@@ -315,31 +315,31 @@ unfolding table
 going-start B = record { now = refl; before = λ j l. absurd (omega arith) }
 
 module _ (B : Book) (k : ℕ) (T : Table) (g : Going B k T) where
-  settled-now : (b : Bool) → sameTable (step (B .arities) (B .clauses) T) T ≡ b → settled B k ≡ b
+  settled-now : (b : Bool) → sameTable (step B T) T ≡ b → settled B k ≡ b
   unfolding settled table
-  settled-now b e = subst (λ (W : Table). sameTable (step (B .arities) (B .clauses) W) W ≡ b) (g .now) e
+  settled-now b e = subst (λ (W : Table). sameTable (step B W) W ≡ b) (g .now) e
 
   -- the new table differs: on with it
-  pub going-next : (step (B .arities) (B .clauses) T ≡ T → ⊥) → Going B (suc k) (step (B .arities) (B .clauses) T)
+  pub going-next : (step B T ≡ T → ⊥) → Going B (suc k) (step B T)
   unfolding table
   going-next ne =
       record {
-        now = ap (step (B .arities) (B .clauses)) (g .now);
+        now = ap (step B) (g .now);
         before = λ j l. byBool (eqb j k)
-            (λ t. ap (settled B) (eqb-true j k t) ∙ settled-now false (false-of (λ e. ne (sameTable-true (step (B .arities) (B .clauses) T) T e))))
+            (λ t. ap (settled B) (eqb-true j k t) ∙ settled-now false (false-of (λ e. ne (sameTable-true (step B T) T e))))
             (λ t. let other : j ≡ k → ⊥ = eqb-false j k t in g .before j (omega arith));
       }
 
   module _ (w : WellFormed B) where
-    pub going-less : (step (B .arities) (B .clauses) T ≡ T → ⊥) → k < rounds B
+    pub going-less : (step B T ≡ T → ⊥) → k < rounds B
     going-less ne =
         byRange k (rounds B) (λ l. l)
         (λ l. clash (rounds-settled B w) (going-next ne .before (rounds B) (omega arith)))
 
     -- it does not: done
-    pub going-rounds : step (B .arities) (B .clauses) T ≡ T → k ≡ rounds B
-    going-rounds e = rounds-unique B w k (settled-now true (true-sameTable (step (B .arities) (B .clauses) T) T e)) (g .before)
+    pub going-rounds : step B T ≡ T → k ≡ rounds B
+    going-rounds e = rounds-unique B w k (settled-now true (true-sameTable (step B T) T e)) (g .before)
 
-    pub going-final : step (B .arities) (B .clauses) T ≡ T → T ≡ final B
+    pub going-final : step B T ≡ T → T ≡ final B
     unfolding final
     going-final e = g .now ∙ ap (table B) (going-rounds e)

@@ -13,14 +13,14 @@ use Rattle.masks.specs.Lists.{any, all}
 use Rattle.masks.specs.Constraint.{inRange}
 use Rattle.masks.proofs.Laws.Logic.{clash, and-left, and-right, or-case}
 use Rattle.masks.proofs.Laws.Lists.{all-mono, all-at}
-use Rattle.book.specs.Book.{Call, Mode, Clause, Book}
+use Rattle.book.specs.Book.{Call, noCall, Mode, Clause, Book}
 use Rattle.book.specs.Format.{allows, hasMode}
 use Rattle.book.specs.Encode.{callFits, modeFits, clauseFits, WellFormed}
-use Rattle.book.specs.declared.range.Range.the-variants.{Argument, HeadArgument}
+use Rattle.book.specs.Sets.{callsBelow}
+use Rattle.book.specs.declared.range.Range.the-variants.{Argument, NoWildcard}
 use Rattle.book.proofs.Laws.Trip.{call-known, call-size, mode-range, clause-head, clause-free, clause-goals}
 use Rattle.book.proofs.Laws.Bound.{arities-at}
 use Rattle.ordering.specs.Good.{at}
-use Rattle.ordering.specs.Held.{callsBelow}
 use Rattle.tables.specs.Table.{modeOf, defined}
 use Rattle.tables.proofs.Laws.Modes.{modeOf-all, mode-none}
 
@@ -35,7 +35,7 @@ body-known ar ms c t = calls-known ar (c .body) (clause-goals ar ms c t)
 
 head-known : (ar : List ℕ) (ms : List Mode) (c : Clause) → clauseFits ar ms c ≡ true → c .head .pred < length ar
 unfolding allows
-head-known ar ms c t = ltb-true (c .head .pred) (length ar) (call-known HeadArgument ar (c .head) (clause-head ar ms c t))
+head-known ar ms c t = ltb-true (c .head .pred) (length ar) (call-known NoWildcard ar (c .head) (clause-head ar ms c t))
 
 defined-fits : (ar : List ℕ) (ms : List Mode) (cs : List Clause) → all (clauseFits ar ms) cs ≡ true → (p : ℕ) → defined cs p ≡ true
     → (p < length ar) × (hasMode ms p ≡ false)
@@ -53,7 +53,7 @@ defined-fits ar ms (c ∷ cs) t p d =
 module _ (ar : List ℕ) (body : List Call) (t : all (callFits Argument ar) body ≡ true) (p : ℕ) (h : p < length body) where
   goal-fits : callFits Argument ar (at body p) ≡ true
   unfolding at
-  goal-fits = all-at (callFits Argument ar) (record { pred = 0; args = [] }) body p h t
+  goal-fits = all-at (callFits Argument ar) noCall body p h t
 
   pub goal-known : at body p .pred < length ar
   unfolding allows

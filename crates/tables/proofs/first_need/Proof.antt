@@ -2,9 +2,9 @@
 use mathlib.Core.Path.{refl, sym, ap, _∙_}
 use borrow.Author.Tests.{not-true, not-false}
 use borrow.Author.Needs.{needs}
-use Rattle.ordering.specs.Held.{entryIn}
 use Rattle.masks.specs.Held.{masksOf}
 use Rattle.masks.specs.Constraint.{inRange, minimise}
+use Rattle.book.specs.Table.{entryIn}
 use Rattle.tables.proofs.Laws.Held.{first-none, first-some}
 use Rattle.writing.proofs.Laws.Wrote.{front}
 use Rattle.masks.proofs.Laws.Constraint.{written-inRange, minimise-isWritten}

@@ -4,8 +4,8 @@ use Prim.Native.Nat.{ℕ, _-_, _≤_}
 use native.Mathlib.Omega.{arith}
 use borrow.Author.Needs.{needs}
 use Rattle.tables.specs.Table.{firstNeeds}
-use Rattle.ordering.specs.Held.{tableIn}
 use Rattle.book.specs.Held.{modesOf}
+use Rattle.book.specs.Table.{tableIn}
 use Rattle.tables.proofs.Laws.Held.{Filling, filling-start, filling-next}
 use Rattle.tables.proofs.first_table.Statement.{statement}
 use Rattle.tables.proofs.first_table.Tie as tie

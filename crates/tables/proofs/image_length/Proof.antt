@@ -4,8 +4,8 @@ use Prim.Native.Nat.{_-_}
 use native.Mathlib.Omega.{arith}
 use lib.ListN.{length}
 use borrow.Author.Needs.{needs}
+use Rattle.book.specs.Table.{entryIn, tableIn}
 use Rattle.tables.specs.Image.{row, rows}
-use Rattle.ordering.specs.Held.{entryIn, tableIn}
 use Rattle.tables.proofs.Laws.Held.{rows-chunks}
 use Rattle.writing.proofs.Laws.Chunks.{Measuring, measuring-start, measuring-next, measuring-end}
 use Rattle.tables.proofs.image_length.Statement.{statement}

@@ -3,8 +3,8 @@ use mathlib.Core.Path.{ap}
 use Prim.Native.Nat.{_-_}
 use native.Mathlib.Omega.{arith}
 use lib.ListN.{length}
+use Rattle.book.specs.Table.{entryIn, tableIn}
 use Rattle.tables.specs.Image.{row, rows}
-use Rattle.ordering.specs.Held.{entryIn, tableIn}
 use Rattle.tables.proofs.Laws.Held.{rows-chunks}
 use Rattle.writing.proofs.Laws.Chunks.{Writing, writing-start, writing-length, writing-room, writing-next, writing-end}
 use Rattle.writing.proofs.Laws.Wrote.{wrote-as}

@@ -13,6 +13,7 @@ use Rattle.book.specs.Book.{Call, Clause}
 use Rattle.book.specs.Encode.{run, encPredicate, encMode, encSubgoal, encClause}
 use Rattle.book.specs.Held.{callOf, modeSize, hasIn, masksIn, modeBytes, modeAt, modesOf, clauseAt, clausesOf}
 use Rattle.book.specs.declared.clause.Call as call
+use Rattle.book.proofs.Laws.Held.{blank}
 use Rattle.writing.proofs.Laws.Wrote.{front}
 use Rattle.writing.proofs.Laws.Chunks.{Chunks}
 
@@ -70,7 +71,7 @@ module _ (body : List call.Call) where
   subgoalsTo i = run encSubgoal (map callOf (take i body))
 
   abbrev pub callAt : ℕ → Call
-  callAt i = callOf (getD body i (record { pred = 0; n = 0; args = [] }))
+  callAt i = callOf (getD body i blank)
 
   abbrev pub subgoalAt : ℕ → List ℕ
   subgoalAt i = encSubgoal (callAt i)
@@ -79,7 +80,7 @@ module _ (body : List call.Call) where
   subgoals-chunks n =
       elements-chunks (λ (l : List call.Call). run encSubgoal (map callOf l)) (λ (c : call.Call). encSubgoal (callOf c)) refl
       (λ xs x. ap (run encSubgoal) (map-append callOf xs (x ∷ [])) ∙ run-snoc encSubgoal (map callOf xs) (callOf x))
-      body (record { pred = 0; n = 0; args = [] }) maxSubgoals n
+      body blank maxSubgoals n
 
 module _ (modes : List ℕ) where
   abbrev pub modesTo : ℕ → List ℕ

@@ -3,6 +3,7 @@ use mathlib.Core.Path.{_≡_}
 use native.Mathlib.Omega.{arith}
 use lib.ListN.{length, length-take}
 use borrow.Author.Needs.{needs}
+use Rattle.book.specs.Held.{countIn}
 use Rattle.book.proofs.clause.arguments.Statement.{statement}
 use Rattle.book.proofs.clause.arguments.Tie as tie
 
@@ -16,7 +17,7 @@ returns : tie.Need-returns
 returns c =
     let s = c .before .before .args .c in
     let e : length (s .args) ≡ 6 = search needs in
-    let l = length-take (s .n) (s .args) in
+    let l = length-take (countIn (s .n)) (s .args) in
     (omega arith, omega arith)
 
 pub arguments-spec : {M : Type 1} → statement M

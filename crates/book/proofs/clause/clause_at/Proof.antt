@@ -22,12 +22,6 @@ no-call-requires c κs = search needs
 loop-holds : tie.Need-loop-holds Inv-loop μ-loop
 loop-holds c = let s = c .before .args in reading-start (s .rules .now) (s .k) _ refl
 
-add-call-of : tie.Need-add-call-of Inv-loop μ-loop
-add-call-of c = search needs
-
-add-call-of-2 : tie.Need-add-call-of-2 Inv-loop μ-loop
-add-call-of-2 c = search needs
-
 mul-call-of : tie.Need-mul-call-of Inv-loop μ-loop
 mul-call-of c = search needs
 
@@ -42,12 +36,6 @@ mul-body c = search needs
 
 array-set-from-body : tie.Need-array-set-from-body Inv-loop μ-loop
 array-set-from-body c = search needs
-
-add-j : tie.Need-add-j Inv-loop μ-loop
-add-j c = search needs
-
-loop-less : tie.Need-loop-less Inv-loop μ-loop
-loop-less c = search needs
 
 loop-again : tie.Need-loop-again Inv-loop μ-loop
 loop-again c =
@@ -81,15 +69,15 @@ clause-at-spec =
     mul-at
     no-call-requires
     loop-holds
-    add-call-of
-    add-call-of-2
+    (λ c. search needs)
+    (λ c. search needs)
     mul-call-of
     element-copy-out-call-of
     call-of-requires
     mul-body
     array-set-from-body
-    add-j
-    loop-less
+    (λ c. search needs)
+    (λ c. search needs)
     loop-again
     head-at-requires
     subgoals-at-requires

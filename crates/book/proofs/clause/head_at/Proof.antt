@@ -7,9 +7,6 @@ use Rattle.book.proofs.clause.head_at.Tie as tie
 mul-call-of : tie.Need-mul-call-of
 mul-call-of c = search needs
 
-add-call-of : tie.Need-add-call-of
-add-call-of c = search needs
-
 mul-call-of-2 : tie.Need-mul-call-of-2
 mul-call-of-2 c = search needs
 
@@ -28,7 +25,7 @@ head-at-spec =
     tie.close
     (tie.spec
     mul-call-of
-    add-call-of
+    (λ c. search needs)
     mul-call-of-2
     element-copy-out-call-of
     call-of-requires

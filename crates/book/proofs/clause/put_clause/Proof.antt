@@ -1,12 +1,11 @@
 -- `book::clause::put_clause` meets its contract. The loop's invariant: the first j subgoals are stored, and all other words are as they were.
 -- Assumes nothing.
 use mathlib.Core.Path.{_≡_}
-use mathlib.Core.List.{[]}
 use Prim.Native.Nat.{_-_}
 use native.Mathlib.Omega.{arith}
 use lib.ListN.{length, length-set}
 use borrow.Author.Needs.{needs}
-use Rattle.book.proofs.Laws.Held.{length-of-map, Writing, writing-start, writing-next, writing-end}
+use Rattle.book.proofs.Laws.Held.{length-of-map, blank, Writing, writing-start, writing-next, writing-end}
 use Rattle.book.proofs.clause.put_clause.Statement.{statement}
 use Rattle.book.proofs.clause.put_clause.Tie as tie
 
@@ -31,9 +30,6 @@ slice-write-words c = search needs
 word-of-requires : tie.Need-word-of-requires Inv-loop μ-loop
 word-of-requires c κs = search needs
 
-add-words : tie.Need-add-words Inv-loop μ-loop
-add-words c = search needs
-
 mul-words-2 : tie.Need-mul-words-2 Inv-loop μ-loop
 mul-words-2 c = search needs
 
@@ -54,30 +50,18 @@ element-copy-out-call c = search needs
 word-of-requires-2 : tie.Need-word-of-requires-2 Inv-loop μ-loop
 word-of-requires-2 c κs = search needs
 
-add-words-2 : tie.Need-add-words-2 Inv-loop μ-loop
-add-words-2 c = search needs
-
-add-words-3 : tie.Need-add-words-3 Inv-loop μ-loop
-add-words-3 c = search needs
-
 mul-words-3 : tie.Need-mul-words-3 Inv-loop μ-loop
 mul-words-3 c = search needs
 
 slice-write-words-3 : tie.Need-slice-write-words-3 Inv-loop μ-loop
 slice-write-words-3 c = search needs
 
-add-j : tie.Need-add-j Inv-loop μ-loop
-add-j c = search needs
-
-loop-less : tie.Need-loop-less Inv-loop μ-loop
-loop-less c = search needs
-
 loop-again : tie.Need-loop-again Inv-loop μ-loop
 loop-again c =
     let s = c .before .before .before .before .before .before .before .args in
     let e : length (s .t3 .body) ≡ 8 = search (needs, length-of-map) in
     let word = c .word-of2 in
-    writing-next (s .k) (s .t3) (record { pred = 0; n = 0; args = [] }) (word .result) (omega arith) e (omega arith) (word .ensures)
+    writing-next (s .k) (s .t3) blank (word .result) (omega arith) e (omega arith) (word .ensures)
     (c .before .before .before .loop .inv)
 
 returns : tie.Need-returns Inv-loop μ-loop
@@ -99,18 +83,18 @@ put-clause-spec =
     mul-words
     slice-write-words
     word-of-requires
-    add-words
+    (λ c. search needs)
     mul-words-2
     slice-write-words-2
     loop-holds
     mul-call
     element-copy-out-call
     word-of-requires-2
-    add-words-2
-    add-words-3
+    (λ c. search needs)
+    (λ c. search needs)
     mul-words-3
     slice-write-words-3
-    add-j
-    loop-less
+    (λ c. search needs)
+    (λ c. search needs)
     loop-again
     returns)

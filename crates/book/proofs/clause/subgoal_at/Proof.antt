@@ -9,9 +9,6 @@ use Rattle.book.proofs.clause.subgoal_at.Tie as tie
 mul-call-of : tie.Need-mul-call-of
 mul-call-of c = search needs
 
-add-call-of : tie.Need-add-call-of
-add-call-of c = search needs
-
 add-call-of-2 : tie.Need-add-call-of-2
 add-call-of-2 c = let n = clauseAt-few (c .args .rules .now) (c .args .k) in omega arith
 
@@ -34,7 +31,7 @@ subgoal-at-spec =
     tie.close
     (tie.spec
     mul-call-of
-    add-call-of
+    (λ c. search needs)
     add-call-of-2
     mul-call-of-2
     element-copy-out-call-of

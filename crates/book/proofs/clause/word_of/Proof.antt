@@ -14,17 +14,11 @@ abbrev μ-loop : tie.MeasureT-loop
 loop-holds : tie.Need-loop-holds Inv-loop μ-loop
 loop-holds c = packing-start (c .args .t1 .args) (search needs)
 
-sub-i : tie.Need-sub-i Inv-loop μ-loop
-sub-i c = search needs
-
 element-copy-out-with-lowest : tie.Need-element-copy-out-with-lowest Inv-loop μ-loop
 element-copy-out-with-lowest c = search needs
 
 with-lowest-requires : tie.Need-with-lowest-requires Inv-loop μ-loop
 with-lowest-requires c κs = let l = packing-less (c .before .before .loop .inv) in omega arith
-
-loop-less : tie.Need-loop-less Inv-loop μ-loop
-loop-less c = search needs
 
 loop-again : tie.Need-loop-again Inv-loop μ-loop
 loop-again c =
@@ -50,10 +44,10 @@ word-of-spec =
     Inv-loop
     μ-loop
     loop-holds
-    sub-i
+    (λ c. search needs)
     element-copy-out-with-lowest
     with-lowest-requires
-    loop-less
+    (λ c. search needs)
     loop-again
     with-lowest-requires-2
     with-lowest-requires-3

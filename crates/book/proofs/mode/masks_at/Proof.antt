@@ -29,9 +29,6 @@ held-requires c κs = search needs
 add-end : tie.Need-add-end
 add-end c = let n = c .held .ensures in omega arith
 
-sub-result : tie.Need-sub-result
-sub-result c = search needs
-
 part-result-start : tie.Need-part-result-start
 part-result-start c = search needs
 
@@ -54,7 +51,7 @@ masks-at-spec =
     cast-held
     held-requires
     add-end
-    sub-result
+    (λ c. search needs)
     part-result-start
     part-result-end
     returns)

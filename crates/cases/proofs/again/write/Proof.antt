@@ -1,11 +1,12 @@
 -- `cases::again::write` meets its contract. Modes that are all zeros are none. Assumes nothing.
 use borrow.Author.Needs.{needs}
+use Rattle.book.specs.Held.{modesSize}
 use Rattle.book.proofs.Laws.Held.{modeAt-zeros}
 use Rattle.cases.proofs.again.write.Statement.{statement}
 use Rattle.cases.proofs.again.write.Tie as tie
 
 read-book-requires : tie.Need-read-book-requires
-read-book-requires c κs = modeAt-zeros 1408
+read-book-requires c κs = modeAt-zeros modesSize
 
 write-book-requires : tie.Need-write-book-requires
 write-book-requires c κs = search needs

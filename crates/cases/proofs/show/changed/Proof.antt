@@ -1,6 +1,7 @@
 -- `cases::show::changed` meets its contract. The places left fall. Assumes nothing.
-use Prim.Native.Nat.{_-_}
+use Prim.Native.Nat.{suc, _-_}
 use borrow.Author.Needs.{needs}
+use Rattle.book.specs.Limits.{longestSheet}
 use Rattle.cases.proofs.show.changed.Statement.{statement}
 use Rattle.cases.proofs.show.changed.Tie as tie
 
@@ -8,7 +9,7 @@ abbrev Inv-loop : tie.InvT-loop
 Inv-loop at out i₀ i = Unit {0}
 
 abbrev μ-loop : tie.MeasureT-loop
-μ-loop at out i₀ i = 164393 - i
+μ-loop at out i₀ i = suc longestSheet - i
 
 loop-holds : tie.Need-loop-holds Inv-loop μ-loop
 loop-holds c = search needs
@@ -18,12 +19,6 @@ element-copy-out-if1 c = search needs
 
 returns : tie.Need-returns Inv-loop μ-loop
 returns c = search needs
-
-add-i : tie.Need-add-i Inv-loop μ-loop
-add-i c = search needs
-
-loop-less : tie.Need-loop-less Inv-loop μ-loop
-loop-less c = search needs
 
 loop-again : tie.Need-loop-again Inv-loop μ-loop
 loop-again c = search needs
@@ -40,7 +35,7 @@ changed-spec =
     loop-holds
     element-copy-out-if1
     returns
-    add-i
-    loop-less
+    (λ c. search needs)
+    (λ c. search needs)
     loop-again
     returns-2)

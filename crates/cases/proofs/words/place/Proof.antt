@@ -17,9 +17,6 @@ loop-holds c = search needs
 until-requires : tie.Need-until-requires Inv-loop μ-loop
 until-requires c κs = search needs
 
-sub-same : tie.Need-sub-same Inv-loop μ-loop
-sub-same c = search needs
-
 part-same-start : tie.Need-part-same-start Inv-loop μ-loop
 part-same-start c = search needs
 
@@ -31,15 +28,6 @@ same-requires c κs = search needs
 
 returns : tie.Need-returns Inv-loop μ-loop
 returns c = search needs
-
-add-at : tie.Need-add-at Inv-loop μ-loop
-add-at c = search needs
-
-add-k : tie.Need-add-k Inv-loop μ-loop
-add-k c = search needs
-
-loop-less : tie.Need-loop-less Inv-loop μ-loop
-loop-less c = search needs
 
 loop-again : tie.Need-loop-again Inv-loop μ-loop
 loop-again c = search needs
@@ -55,13 +43,13 @@ place-spec =
     μ-loop
     loop-holds
     until-requires
-    sub-same
+    (λ c. search needs)
     part-same-start
     part-same-end
     same-requires
     returns
-    add-at
-    add-k
-    loop-less
+    (λ c. search needs)
+    (λ c. search needs)
+    (λ c. search needs)
     loop-again
     returns-2)

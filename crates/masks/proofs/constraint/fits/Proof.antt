@@ -33,12 +33,6 @@ returns c =
     (ap (λ (m : List ℕ). admits m (s .pattern)) (sym whole)
     ∙ admits-at (s .masks .now) (length (s .masks .now)) (s .pattern) (l .i) (rw whole (omega arith)) (c .if1 .taken))
 
-add-i : tie.Need-add-i Inv-loop μ-loop
-add-i c = search needs
-
-loop-less : tie.Need-loop-less Inv-loop μ-loop
-loop-less c = search needs
-
 loop-again : tie.Need-loop-again Inv-loop μ-loop
 loop-again c =
     let s = c .before .before .before .before .args in
@@ -60,7 +54,7 @@ fits-spec =
     loop-holds
     shared-slice-read-m
     returns
-    add-i
-    loop-less
+    (λ c. search needs)
+    (λ c. search needs)
     loop-again
     returns-2)

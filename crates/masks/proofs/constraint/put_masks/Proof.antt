@@ -42,12 +42,6 @@ slice-write-out c =
     let l = c .before .before .loop .inv .1 in
     omega arith
 
-add-i : tie.Need-add-i Inv-loop μ-loop
-add-i c = search needs
-
-loop-less : tie.Need-loop-less Inv-loop μ-loop
-loop-less c = search needs
-
 loop-again : tie.Need-loop-again Inv-loop μ-loop
 loop-again c =
     let count = c .before .before .before .count in
@@ -77,8 +71,8 @@ put-masks-spec =
     element-copy-out-out
     add-out
     slice-write-out
-    add-i
-    loop-less
+    (λ c. search needs)
+    (λ c. search needs)
     loop-again
     same-length
     returns)

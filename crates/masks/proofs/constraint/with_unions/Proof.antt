@@ -32,12 +32,6 @@ with-member-requires c κs =
     let s = c .before .before .before .before .args in
     union-below (s .m) (s .masks .now) (l .i) (c .before .before .before .before .pre .0) (c .before .before .before .before .pre .1) (omega arith)
 
-add-i : tie.Need-add-i Inv-loop μ-loop
-add-i c = search needs
-
-loop-less : tie.Need-loop-less Inv-loop μ-loop
-loop-less c = search needs
-
 loop-again : tie.Need-loop-again Inv-loop μ-loop
 loop-again c =
     let l = c .before .before .before .loop in
@@ -60,7 +54,7 @@ with-unions-spec =
     loop-holds
     shared-slice-read-with-member
     with-member-requires
-    add-i
-    loop-less
+    (λ c. search needs)
+    (λ c. search needs)
     loop-again
     returns)

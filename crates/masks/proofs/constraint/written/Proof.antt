@@ -60,9 +60,6 @@ module _ (c : tie.In-outer Inv-inner μ-inner Inv-outer μ-outer) where
 cast-m : tie.Need-cast-m Inv-inner μ-inner Inv-outer μ-outer
 cast-m c = let l = low c in omega arith
 
-sub-rest : tie.Need-sub-rest Inv-inner μ-inner Inv-outer μ-outer
-sub-rest c = search needs
-
 inner-holds : tie.Need-inner-holds Inv-inner μ-inner Inv-outer μ-outer
 inner-holds c = (omega arith, unfold admits in refl)
 
@@ -159,7 +156,7 @@ written-spec =
     μ-outer
     outer-holds
     cast-m
-    sub-rest
+    (λ c. search needs)
     inner-holds
     array-read-kept
     outer-less

@@ -24,12 +24,6 @@ add-caller-requires c κs =
     let known = c .before .before .before .pre .1 in
     (omega arith, known .heads k (omega arith), known .bodies k (omega arith))
 
-add-k : tie.Need-add-k Inv-loop μ-loop
-add-k c = search needs
-
-loop-less : tie.Need-loop-less Inv-loop μ-loop
-loop-less c = search needs
-
 loop-again : tie.Need-loop-again Inv-loop μ-loop
 loop-again c = gathering-next (c .before .before .before .loop .inv) (omega arith) (c .add-caller .ensures)
 
@@ -45,7 +39,7 @@ callers-spec =
     loop-holds
     cast-add-caller
     add-caller-requires
-    add-k
-    loop-less
+    (λ c. search needs)
+    (λ c. search needs)
     loop-again
     returns)

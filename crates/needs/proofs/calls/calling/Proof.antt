@@ -28,9 +28,6 @@ low c =
 cast-q : tie.Need-cast-q Inv-loop μ-loop
 cast-q c = let l = low c in omega arith
 
-sub-rest : tie.Need-sub-rest Inv-loop μ-loop
-sub-rest c = search needs
-
 mul-set : tie.Need-mul-set Inv-loop μ-loop
 mul-set c = let l = low c in omega arith
 
@@ -60,7 +57,7 @@ calling-spec =
     μ-loop
     loop-holds
     cast-q
-    sub-rest
+    (λ c. search needs)
     mul-set
     element-copy-out-set
     loop-less

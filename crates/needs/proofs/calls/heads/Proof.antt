@@ -2,7 +2,8 @@
 use Prim.Native.Nat.{_-_}
 use native.Mathlib.Omega.{arith}
 use borrow.Author.Needs.{needs}
-use Rattle.needs.proofs.Laws.Calls.{head-low, Heading, heading-start, heading-next, heading-end}
+use Rattle.book.proofs.Laws.Sets.{head-low}
+use Rattle.needs.proofs.Laws.Calls.{Heading, heading-start, heading-next, heading-end}
 use Rattle.needs.proofs.calls.heads.Statement.{statement}
 use Rattle.needs.proofs.calls.heads.Tie as tie
 
@@ -27,12 +28,6 @@ with-member-requires c κs =
     let l = head-low (c .before .before .loop .k) (h .result) (c .before .before .before .pre .1) (omega arith) (h .ensures) in
     omega arith
 
-add-k : tie.Need-add-k Inv-loop μ-loop
-add-k c = search needs
-
-loop-less : tie.Need-loop-less Inv-loop μ-loop
-loop-less c = search needs
-
 loop-again : tie.Need-loop-again Inv-loop μ-loop
 loop-again c =
     let h = c .before .head-at in
@@ -51,7 +46,7 @@ heads-spec =
     cast-head-at
     head-at-requires
     with-member-requires
-    add-k
-    loop-less
+    (λ c. search needs)
+    (λ c. search needs)
     loop-again
     returns)

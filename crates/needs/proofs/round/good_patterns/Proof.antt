@@ -19,46 +19,49 @@ Inv-loop arity rules own table set₀ rest₀ set rest = Over (Tried rules arity
 abbrev μ-loop : tie.MeasureT-loop
 μ-loop arity rules own table set₀ rest₀ set rest = rest
 
-mul-set : tie.Need-mul-set Inv-loop μ-loop
-mul-set c = search needs
-
-array-read-set : tie.Need-array-read-set Inv-loop μ-loop
-array-read-set c = search needs
+of-arity-requires : tie.Need-of-arity-requires Inv-loop μ-loop
+of-arity-requires c κs = c .pre .0
 
 loop-holds : tie.Need-loop-holds Inv-loop μ-loop
-loop-holds c = over-start (Tried (c .args .rules .now) (c .args .arity) (c .args .own) (c .args .table .now) _) 64 (c .args .own) (search needs) (tried-start (c .args .rules .now) (c .args .arity) (c .args .own) (c .args .table .now) (c .pre .0))
+loop-holds c =
+    let s = c .before .args in
+    over-start (Tried (s .rules .now) (s .arity) (s .own) (s .table .now) _) 64 (s .own) (search needs)
+    (tried-start (s .rules .now) (s .arity) (s .own) (s .table .now) (c .of-arity .result) (c .of-arity .ensures))
 
 -- in a turn: k is the lowest clause of those left
 module _ (c : tie.In-loop Inv-loop μ-loop) where
+  abbrev own : ℕ
+  own = c .before .before .before .args .own
+
+  abbrev rest : ℕ
+  rest = c .before .loop .rest
+
   abbrev tried : ℕ → ℕ → Type 0
-  tried = Tried (c .before .before .args .rules .now) (c .before .before .args .arity) (c .before .before .args .own) (c .before .before .args .table .now)
+  tried = let s = c .before .before .before .args in Tried (s .rules .now) (s .arity) own (s .table .now)
 
   abbrev k : ℕ
-  k = trailingZeros 64 (c .before .loop .rest)
+  k = trailingZeros 64 rest
 
-  abbrev skip : (i : ℕ) → bitAt (c .before .before .args .own) i ≡ false → tried (c .before .loop .set) i → tried (c .before .loop .set) (suc i)
-  skip = tried-skip (c .before .before .args .rules .now) (c .before .before .args .arity) (c .before .before .args .own) (c .before .before .args .table .now) (c .before .loop .set)
+  abbrev skip : (i : ℕ) → bitAt own i ≡ false → tried (c .before .loop .set) i → tried (c .before .loop .set) (suc i)
+  skip = let s = c .before .before .before .args in tried-skip (s .rules .now) (s .arity) own (s .table .now) (c .before .loop .set)
 
   low : k < 64
-  low = over-lowest (tried (c .before .loop .set)) 64 (c .before .before .args .own) (c .before .loop .rest) skip (c .before .loop .inv) (c .loop-test .taken) .small
+  low = over-lowest (tried (c .before .loop .set)) 64 own rest skip (c .before .loop .inv) (c .loop-test .taken) .small
 
-  member : bitAt (c .before .before .args .own) k ≡ true
-  member = over-member (tried (c .before .loop .set)) 64 (c .before .before .args .own) (c .before .loop .rest) skip (c .before .loop .inv) (c .loop-test .taken)
+  member : bitAt own k ≡ true
+  member = over-member (tried (c .before .loop .set)) 64 own rest skip (c .before .loop .inv) (c .loop-test .taken)
 
   here : tried (c .before .loop .set) k
-  here = over-here (tried (c .before .loop .set)) 64 (c .before .before .args .own) (c .before .loop .rest) skip (c .before .loop .inv) (c .loop-test .taken)
+  here = over-here (tried (c .before .loop .set)) 64 own rest skip (c .before .loop .inv) (c .loop-test .taken)
 
-  next : (set : ℕ) → tried set (suc k) → Over (tried set) 64 (c .before .before .args .own) (bitAnd (c .before .loop .rest) (c .before .loop .rest - 1))
-  next set = over-next (tried (c .before .loop .set)) 64 (c .before .before .args .own) (c .before .loop .rest) skip (c .before .loop .inv) (c .loop-test .taken) (tried set)
+  next : (set : ℕ) → tried set (suc k) → Over (tried set) 64 own (bitAnd rest (rest - 1))
+  next set = over-next (tried (c .before .loop .set)) 64 own rest skip (c .before .loop .inv) (c .loop-test .taken) (tried set)
 
 cast-k : tie.Need-cast-k Inv-loop μ-loop
 cast-k c = let l = low c in omega arith
 
-sub-rest : tie.Need-sub-rest Inv-loop μ-loop
-sub-rest c = search needs
-
 good-lanes-requires : tie.Need-good-lanes-requires Inv-loop μ-loop
-good-lanes-requires c κs = let l = low c in (omega arith, c .before .before .pre .1 (k c) l (member c), c .before .before .pre .2)
+good-lanes-requires c κs = let l = low c in (omega arith, c .before .before .before .pre .1 (k c) l (member c), c .before .before .before .pre .2)
 
 loop-less : tie.Need-loop-less Inv-loop μ-loop
 loop-less c = others-less (c .before .before .loop .rest) (c .before .loop-test .taken)
@@ -66,12 +69,14 @@ loop-less c = others-less (c .before .before .loop .rest) (c .before .loop-test 
 loop-again : tie.Need-loop-again Inv-loop μ-loop
 loop-again c =
     let d = c .before in
-    let s = d .before .before .args in
-    next d _ (tried-next (s .rules .now) (s .arity) (s .own) (s .table .now) (d .before .loop .set) (k d) (c .good-lanes .result) (member d) (c .good-lanes .ensures) (here d))
+    let s = d .before .before .before .args in
+    next d _
+    (tried-next (s .rules .now) (s .arity) (s .own) (s .table .now) (d .before .before .before .pre .0) (d .before .loop .set) (k d) (c .good-lanes .result) (member d) (c .good-lanes .ensures)
+    (here d))
 
 returns : tie.Need-returns Inv-loop μ-loop
 returns c =
-    let s = c .before .before .args in
+    let s = c .before .before .before .args in
     let l = c .before .loop in
     over-end (Tried (s .rules .now) (s .arity) (s .own) (s .table .now) (l .set)) 64 (s .own) (l .rest)
     (tried-skip (s .rules .now) (s .arity) (s .own) (s .table .now) (l .set)) (l .inv) (c .loop-test .left)
@@ -82,11 +87,10 @@ good-patterns-spec =
     (tie.spec
     Inv-loop
     μ-loop
-    mul-set
-    array-read-set
+    of-arity-requires
     loop-holds
     cast-k
-    sub-rest
+    (λ c. search needs)
     good-lanes-requires
     loop-less
     loop-again

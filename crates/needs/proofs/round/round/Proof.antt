@@ -1,6 +1,6 @@
 -- `needs::round::round` meets its contract. The loop goes over the predicates due; its invariant: those passed have what the round gives them, the
 -- others what they had, and those marked are the ones whose constraint is another. Assumes nothing.
-use mathlib.Core.Path.{ap₂, _≡_, sym, ap, _∙_}
+use mathlib.Core.Path.{_≡_, ap, _∙_}
 use mathlib.Core.Bool.{true, false}
 use mathlib.Core.List.{List}
 use Prim.Native.Nat.{suc, _^_, ℕ, _-_, _≤_, _<_}
@@ -9,15 +9,14 @@ use native.Mathlib.Omega.{arith}
 use lib.Bits.{bitAnd}
 use lib.Count.{trailingZeros}
 use lib.ListN.{getD}
-use borrow.Author.Tests.{not-true, not-false}
 use borrow.Author.Needs.{needs}
-use Rattle.masks.specs.Constraint.{sameMasks}
+use Rattle.masks.specs.Constraint.{written}
 use Rattle.masks.specs.Held.{masksOf}
 use Rattle.masks.specs.Set.{bitAt}
 use Rattle.masks.proofs.Laws.Held.{masksOf-packed}
 use Rattle.masks.proofs.Laws.Members.{others-less, Over, over-start, over-end, over-lowest, over-member, over-here, over-next}
 use Rattle.needs.proofs.Laws.AtRound.{rounding-end}
-use Rattle.needs.proofs.Laws.Rounding.{given-arity, given-callable, gets, Rounding, rounding-start, rounding-skip, rounding-same, rounding-new}
+use Rattle.needs.proofs.Laws.Rounding.{given-arity, given-callable, given-written, Rounding, rounding-start, rounding-skip, rounding-same, rounding-new}
 use Rattle.needs.proofs.round.round.Statement.{statement}
 use Rattle.needs.proofs.round.round.Tie as tie
 
@@ -73,64 +72,72 @@ module _ (c : tie.In-loop Inv-loop μ-loop) where
   arity-few : getD arities p 0 ≤ 6
   arity-few = let r = c .before .before .pre in given-arity (r .0) arities rules own (r .1) p (r .3 .defined· p member)
 
+  few : 2 ^ getD arities p 0 ≤ 64
+  few = pow-le-pow-right (omega arith) arity-few
+
 cast-p : tie.Need-cast-p Inv-loop μ-loop
 cast-p c = let l = low c in omega arith
-
-sub-rest : tie.Need-sub-rest Inv-loop μ-loop
-sub-rest c = search needs
 
 cast-q : tie.Need-cast-q Inv-loop μ-loop
 cast-q c = let l = low c in omega arith
 
-element-copy-out-next-need : tie.Need-element-copy-out-next-need Inv-loop μ-loop
-element-copy-out-next-need c = let l = low c in omega arith
+element-copy-out-good-patterns : tie.Need-element-copy-out-good-patterns Inv-loop μ-loop
+element-copy-out-good-patterns c = let l = low c in omega arith
 
-mul-next-need : tie.Need-mul-next-need Inv-loop μ-loop
-mul-next-need c = let l = low (c .before) in omega arith
+mul-good-patterns : tie.Need-mul-good-patterns Inv-loop μ-loop
+mul-good-patterns c = let l = low (c .before) in omega arith
 
-element-copy-out-next-need-2 : tie.Need-element-copy-out-next-need-2 Inv-loop μ-loop
-element-copy-out-next-need-2 c = let l = low (c .before) in omega arith
+element-copy-out-good-patterns-2 : tie.Need-element-copy-out-good-patterns-2 Inv-loop μ-loop
+element-copy-out-good-patterns-2 c = let l = low (c .before) in omega arith
 
-next-need-requires : tie.Need-next-need-requires Inv-loop μ-loop
-next-need-requires c κs =
+good-patterns-requires : tie.Need-good-patterns-requires Inv-loop μ-loop
+good-patterns-requires c κs =
     let d = c .before .before .before .before in
     let r = d .before .before .pre in
     (arity-few d, given-callable (r .0) (arities d) (rules d) (own d) (r .1) (p d) (low d), search (r .2, here d .low))
 
-mode-at-requires : tie.Need-mode-at-requires Inv-loop μ-loop
-mode-at-requires c κs = let l = low (c .before .before .before .before .before .before .before) in omega arith
+masks-at-requires : tie.Need-masks-at-requires Inv-loop μ-loop
+masks-at-requires c κs = let l = low (c .before .before .before .before .before .before .before) in omega arith
 
-same-requires : tie.Need-same-requires Inv-loop μ-loop
-same-requires c κs = search needs
+element-copy-out-admitted : tie.Need-element-copy-out-admitted Inv-loop μ-loop
+element-copy-out-admitted c = let l = low (c .before .before .before .before .before .before .before .before) in omega arith
+
+admitted-requires : tie.Need-admitted-requires Inv-loop μ-loop
+admitted-requires c κs =
+    let d = c .before .before .before .before .before .before .before .before .before in
+    (arity-few d, rw (c .before .masks-at .ensures) (d .before .before .pre .2 (p d) (low d)))
+
+written-requires : tie.Need-written-requires Inv-loop μ-loop
+written-requires c κs = search needs
 
 put-mode-requires : tie.Need-put-mode-requires Inv-loop μ-loop
-put-mode-requires c κs = let l = low (c .before .before .before .before .before .before .before .before .before .before .before) in omega arith
+put-mode-requires c κs = let l = low (c .before .before .before .before .before .before .before .before .before .before .before .before .before) in omega arith
 
 with-member-requires : tie.Need-with-member-requires Inv-loop μ-loop
-with-member-requires c κs = let l = low (c .before .before .before .before .before .before .before .before .before .before .before .before) in omega arith
+with-member-requires c κs = let l = low (c .before .before .before .before .before .before .before .before .before .before .before .before .before .before) in omega arith
 
 loop-less : tie.Need-loop-less Inv-loop μ-loop
-loop-less c = others-less (c .before .before .before .before .before .before .before .before .before .before .before .before .before .before .loop .rest) (c .before .before .before .before .before .before .before .before .before .before .before .before .before .loop-test .taken)
+loop-less c = let d = c .before .before .before .before .before .before .before .before .before .before .before .before .before .before .before in others-less (d .before .loop .rest) (d .loop-test .taken)
 
 loop-again : tie.Need-loop-again Inv-loop μ-loop
 loop-again c =
-    let d = c .before .before .before .before .before .before .before .before .before .before .before .before .before in
-    let gives = ap masksOf (c .before .before .before .before .before .before .before .before .next-need .ensures) ∙ masksOf-packed (gets (arities d) (rules d) (own d) (old d) (due d) (p d)) in
-    let h : 2 ^ getD (arities d) (p d) 0 ≤ 64 = pow-le-pow-right (omega arith) (arity-few d) in
-    let differ = sym (ap₂ sameMasks gives (c .before .before .before .before .before .mode-at .ensures)) ∙ sym (c .before .before .before .before .same .ensures) ∙ not-true _ (c .before .before .before .if1 .taken) in
+    let d = c .before .before .before .before .before .before .before .before .before .before .before .before .before .before .before in
+    let gives = ap masksOf (c .before .before .before .written .ensures) ∙ masksOf-packed (written (bitAt (c .before .before .before .before .before .before .before .before .before .before .good-patterns .result)) 64) in
     next d _ _
-    (rounding-new (arities d) (rules d) (own d) (old d) (due d) (d .before .loop .new .needs) (d .before .loop .changed) (p d) (member d) (here d) h differ
-    gives (c .before .put-mode .ensures) (c .with-member .ensures))
+    (rounding-new (arities d) (rules d) (own d) (old d) (due d) (d .before .loop .new .needs) (d .before .loop .changed) (p d) (member d) (here d) (few d)
+    (c .before .before .before .before .before .before .before .before .before .before .good-patterns .ensures) (rw (← c .before .before .before .before .before .before .before .masks-at .ensures) (c .before .before .before .before .before .admitted .ensures)) (c .before .before .before .before .if1 .taken) gives (c .before .put-mode .ensures) (c .with-member .ensures))
 
 loop-less-2 : tie.Need-loop-less-2 Inv-loop μ-loop
-loop-less-2 c = others-less (c .before .before .before .before .before .before .before .before .before .before .before .loop .rest) (c .before .before .before .before .before .before .before .before .before .before .loop-test .taken)
+loop-less-2 c = let d = c .before .before .before .before .before .before .before .before .before .before .before in others-less (d .before .loop .rest) (d .loop-test .taken)
 
 loop-again-2 : tie.Need-loop-again-2 Inv-loop μ-loop
 loop-again-2 c =
-    let d = c .before .before .before .before .before .before .before .before .before .before in
-    let gives = ap masksOf (c .before .before .before .before .before .next-need .ensures) ∙ masksOf-packed (gets (arities d) (rules d) (own d) (old d) (due d) (p d)) in
-    let equal = sym (ap₂ sameMasks gives (c .before .before .mode-at .ensures)) ∙ sym (c .before .same .ensures) ∙ not-false _ (c .if1 .left) in
-    next d _ _ (rounding-same (arities d) (rules d) (own d) (old d) (due d) (d .before .loop .new .needs) (d .before .loop .changed) (p d) (member d) (here d) equal)
+    let d = c .before .before .before .before .before .before .before .before .before .before .before in
+    let r = d .before .before .pre in
+    next d _ _
+    (rounding-same (arities d) (rules d) (own d) (old d) (due d) (d .before .loop .new .needs) (d .before .loop .changed) (p d) (member d) (here d) (few d)
+    (c .before .before .before .before .before .before .good-patterns .ensures) (rw (← c .before .before .before .masks-at .ensures) (c .before .admitted .ensures))
+    (given-written (r .0) (arities d) (rules d) (own d) (r .1) (old d) (r .3) (p d) (member d)) (c .if1 .left))
 
 returns : tie.Need-returns Inv-loop μ-loop
 returns c =
@@ -148,14 +155,16 @@ round-spec =
     μ-loop
     loop-holds
     cast-p
-    sub-rest
+    (λ c. search needs)
     cast-q
-    element-copy-out-next-need
-    mul-next-need
-    element-copy-out-next-need-2
-    next-need-requires
-    mode-at-requires
-    same-requires
+    element-copy-out-good-patterns
+    mul-good-patterns
+    element-copy-out-good-patterns-2
+    good-patterns-requires
+    masks-at-requires
+    element-copy-out-admitted
+    admitted-requires
+    written-requires
     put-mode-requires
     with-member-requires
     loop-less

@@ -14,14 +14,8 @@ abbrev μ-loop : tie.MeasureT-loop
 loop-holds : tie.Need-loop-holds Inv-loop μ-loop
 loop-holds c = search needs
 
-sub-left : tie.Need-sub-left Inv-loop μ-loop
-sub-left c = search needs
-
 returns : tie.Need-returns Inv-loop μ-loop
 returns c = search needs
-
-sub-write : tie.Need-sub-write Inv-loop μ-loop
-sub-write c = search needs
 
 part-write-start : tie.Need-part-write-start Inv-loop μ-loop
 part-write-start c = search needs
@@ -38,9 +32,6 @@ failed-requires c κs = search needs
 returns-2 : tie.Need-returns-2 Inv-loop μ-loop
 returns-2 c = search needs
 
-sub-count : tie.Need-sub-count Inv-loop μ-loop
-sub-count c = search needs
-
 part-count-start : tie.Need-part-count-start Inv-loop μ-loop
 part-count-start c = search needs
 
@@ -49,12 +40,6 @@ part-count-end c = search needs
 
 count-requires : tie.Need-count-requires Inv-loop μ-loop
 count-requires c κs = search needs
-
-add-n : tie.Need-add-n Inv-loop μ-loop
-add-n c = search needs
-
-loop-less : tie.Need-loop-less Inv-loop μ-loop
-loop-less c = search needs
 
 loop-again : tie.Need-loop-again Inv-loop μ-loop
 loop-again c = search needs
@@ -69,19 +54,19 @@ write-output-spec =
     Inv-loop
     μ-loop
     loop-holds
-    sub-left
+    (λ c. search needs)
     returns
-    sub-write
+    (λ c. search needs)
     part-write-start
     part-write-end
     write-requires
     failed-requires
     returns-2
-    sub-count
+    (λ c. search needs)
     part-count-start
     part-count-end
     count-requires
-    add-n
-    loop-less
+    (λ c. search needs)
+    (λ c. search needs)
     loop-again
     returns-3)

@@ -22,9 +22,6 @@ loop-holds c = members-start (search needs) (c .before .pre .1)
 cast-k : tie.Need-cast-k Inv-loop μ-loop
 cast-k c = let l = members-low (c .before .loop .inv) (c .loop-test .taken) in omega arith
 
-sub-rest : tie.Need-sub-rest Inv-loop μ-loop
-sub-rest c = search needs
-
 put-row-requires : tie.Need-put-row-requires Inv-loop μ-loop
 put-row-requires c κs = let m = c .before .before .loop .inv in let l = members-low m (c .before .loop-test .taken) in (l, c .before .before .before .before .pre .0 _ l (members-member m (c .before .loop-test .taken)), members-room m (c .before .loop-test .taken))
 
@@ -49,7 +46,7 @@ put-clauses-spec =
     μ-loop
     loop-holds
     cast-k
-    sub-rest
+    (λ c. search needs)
     put-row-requires
     loop-less
     loop-again

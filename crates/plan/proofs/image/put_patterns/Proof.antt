@@ -21,9 +21,6 @@ loop-holds c = members-start (search needs) (c .before .pre .1)
 cast-a : tie.Need-cast-a Inv-loop μ-loop
 cast-a c = let l = members-low (c .before .loop .inv) (c .loop-test .taken) in omega arith
 
-sub-rest : tie.Need-sub-rest Inv-loop μ-loop
-sub-rest c = search needs
-
 put-clauses-requires : tie.Need-put-clauses-requires Inv-loop μ-loop
 put-clauses-requires c κs = (c .before .before .before .before .pre .0, members-room (c .before .before .loop .inv) (c .before .loop-test .taken))
 
@@ -48,7 +45,7 @@ put-patterns-spec =
     μ-loop
     loop-holds
     cast-a
-    sub-rest
+    (λ c. search needs)
     put-clauses-requires
     loop-less
     loop-again

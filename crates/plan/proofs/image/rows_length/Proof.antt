@@ -19,9 +19,6 @@ loop-holds c = adding-start (c .args .rules .now) (c .args .own) (search needs)
 cast-k : tie.Need-cast-k Inv-loop μ-loop
 cast-k c = let l = adding-low (c .before .loop .inv) (c .loop-test .taken) in omega arith
 
-sub-rest : tie.Need-sub-rest Inv-loop μ-loop
-sub-rest c = search needs
-
 subgoals-at-requires : tie.Need-subgoals-at-requires Inv-loop μ-loop
 subgoals-at-requires c κs = let l = adding-low (c .before .loop .inv) (c .loop-test .taken) in omega arith
 
@@ -51,7 +48,7 @@ rows-length-spec =
     μ-loop
     loop-holds
     cast-k
-    sub-rest
+    (λ c. search needs)
     subgoals-at-requires
     add-total
     add-total-2

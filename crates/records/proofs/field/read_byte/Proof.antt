@@ -6,9 +6,6 @@ use Rattle.records.proofs.Laws.Reads.{byte-past, byte-out, byte-in}
 use Rattle.records.proofs.field.read_byte.Statement.{statement}
 use Rattle.records.proofs.field.read_byte.Tie as tie
 
-add-next : tie.Need-add-next
-add-next c = search needs
-
 returns : tie.Need-returns
 returns c = byte-past _ _ _ (c .before .before .pre) (omega arith)
 
@@ -26,4 +23,4 @@ returns-3 c = byte-out _ _ _ (omega arith) (sym (c .before .in-range .ensures) �
 
 pub read-byte-spec : {M : Type 1} → statement M
 read-byte-spec =
-    tie.close (tie.spec add-next returns shared-slice-read-x in-range-requires returns-2 returns-3)
+    tie.close (tie.spec (λ c. search needs) returns shared-slice-read-x in-range-requires returns-2 returns-3)

@@ -1,6 +1,9 @@
 -- `records::field::read_call` meets its contract. A fault of the predicate is the call's; else its arity says how many arguments decide. Assumes nothing.
+use mathlib.Core.Path.{_≡_}
 use native.Mathlib.Omega.{arith}
+use lib.ListN.{getD}
 use borrow.Author.Needs.{needs}
+use Rattle.book.specs.Held.{countIn}
 use Rattle.records.proofs.Laws.Reads.{call-bad, call-next, predicate-known, next-inside}
 use Rattle.book.proofs.Laws.Bound.{arities-at}
 use Rattle.records.proofs.field.read_call.Statement.{statement}
@@ -50,7 +53,9 @@ returns-2 c =
     let args = c .before .before .before .before .before .before .before .before .before .before .args in
     let read-byte = c .before .before .before .before .before .before .before .read-byte in
     let g = c .before .before .before .before .before .g in
-    call-next _ _ _ (args .at) (read-byte .ensures) (g .given .1) (c .before .read-bytes .ensures)
+    let few = arities-at (args .ar .now) (c .before .before .before .before .before .before .before .before .before .before .pre .1 .fit) (g .given .0 .1 .0) in
+    let e : countIn (getD (args .ar .now) (g .given .0 .1 .0) 0) ≡ getD (args .ar .now) (g .given .0 .1 .0) 0 = omega arith in
+    rw e (call-next _ _ _ (args .at) (read-byte .ensures) (g .given .1) (c .before .read-bytes .ensures))
 
 pub read-call-spec : {M : Type 1} → statement M
 read-call-spec =

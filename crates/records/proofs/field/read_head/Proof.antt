@@ -5,9 +5,6 @@ use Rattle.records.proofs.Laws.Reads.{fields-read}
 use Rattle.records.proofs.field.read_head.Statement.{statement}
 use Rattle.records.proofs.field.read_head.Tie as tie
 
-add-read-owner : tie.Need-add-read-owner
-add-read-owner c = search needs
-
 read-owner-requires : tie.Need-read-owner-requires
 read-owner-requires c κs = search needs
 
@@ -21,4 +18,4 @@ returns c =
     rw (c .in-record .ensures) (fields-read (headFields _ _) _ _ (pre .0) (read-owner .ensures))
 
 pub read-head-spec : {M : Type 1} → statement M
-read-head-spec = tie.close (tie.spec add-read-owner read-owner-requires in-record-requires returns)
+read-head-spec = tie.close (tie.spec (λ c. search needs) read-owner-requires in-record-requires returns)

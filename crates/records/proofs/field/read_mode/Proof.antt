@@ -5,9 +5,6 @@ use Rattle.records.proofs.Laws.Reads.{fields-read}
 use Rattle.records.proofs.field.read_mode.Statement.{statement}
 use Rattle.records.proofs.field.read_mode.Tie as tie
 
-add-read-alternatives : tie.Need-add-read-alternatives
-add-read-alternatives c = search needs
-
 read-alternatives-requires : tie.Need-read-alternatives-requires
 read-alternatives-requires c κs = search needs
 
@@ -23,4 +20,4 @@ returns c =
 pub read-mode-spec : {M : Type 1} → statement M
 read-mode-spec =
     tie.close
-    (tie.spec add-read-alternatives read-alternatives-requires in-record-requires returns)
+    (tie.spec (λ c. search needs) read-alternatives-requires in-record-requires returns)

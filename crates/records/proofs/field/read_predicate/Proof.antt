@@ -4,9 +4,6 @@ use Rattle.records.proofs.Laws.Reads.{predicate-reads}
 use Rattle.records.proofs.field.read_predicate.Statement.{statement}
 use Rattle.records.proofs.field.read_predicate.Tie as tie
 
-add-read-byte : tie.Need-add-read-byte
-add-read-byte c = search needs
-
 read-byte-requires : tie.Need-read-byte-requires
 read-byte-requires c κs = search needs
 
@@ -20,4 +17,4 @@ returns c =
 
 pub read-predicate-spec : {M : Type 1} → statement M
 read-predicate-spec =
-    tie.close (tie.spec add-read-byte read-byte-requires in-record-requires returns)
+    tie.close (tie.spec (λ c. search needs) read-byte-requires in-record-requires returns)

@@ -4,9 +4,6 @@ use Rattle.records.proofs.Laws.Reads.{subgoal-reads}
 use Rattle.records.proofs.field.read_subgoal.Statement.{statement}
 use Rattle.records.proofs.field.read_subgoal.Tie as tie
 
-add-read-call : tie.Need-add-read-call
-add-read-call c = search needs
-
 read-call-requires : tie.Need-read-call-requires
 read-call-requires c κs = search needs
 
@@ -21,4 +18,4 @@ returns c =
 
 pub read-subgoal-spec : {M : Type 1} → statement M
 read-subgoal-spec =
-    tie.close (tie.spec add-read-call read-call-requires in-record-requires returns)
+    tie.close (tie.spec (λ c. search needs) read-call-requires in-record-requires returns)

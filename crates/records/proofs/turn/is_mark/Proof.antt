@@ -5,9 +5,6 @@ use Rattle.records.proofs.Laws.Turns.{leads-short, leads-other, leads-s
 use Rattle.records.proofs.turn.is_mark.Statement.{statement}
 use Rattle.records.proofs.turn.is_mark.Tie as tie
 
-sub-if1 : tie.Need-sub-if1
-sub-if1 c = search needs
-
 returns : tie.Need-returns
 returns c = leads-short _ (c .before .args .at) _ (c .if1 .taken)
 
@@ -21,9 +18,6 @@ returns-2 : tie.Need-returns-2
 returns-2 c =
     let args = c .before .before .before .before .args in
     leads-other (args .s .now) (args .at) _ (omega arith) (c .if2 .taken)
-
-add-result : tie.Need-add-result
-add-result c = search needs
 
 shared-slice-read-result : tie.Need-shared-slice-read-result
 shared-slice-read-result c = search needs
@@ -41,12 +35,12 @@ pub is-mark-spec : {M : Type 1} → statement M
 is-mark-spec =
     tie.close
     (tie.spec
-    sub-if1
+    (λ c. search needs)
     returns
     shared-slice-read-if2
     element-copy-out-if2
     returns-2
-    add-result
+    (λ c. search needs)
     shared-slice-read-result
     element-copy-out-result
     returns-3)

@@ -27,7 +27,7 @@ returns c =
     let pre = c .before .before .before .before .before .before .pre in
     let mark-at = c .before .before .before .before .mark-at in
     let turned = c .before .before .before .turn in
-    stops-no (args .p) (args .s .now) (args .at) pre _ (args .n) (sym (turned .ensures ∙ ap (turn (args .p)) (mark-at .ensures)) ∙ c .before .t .given .1)
+    stops-no (args .p) (args .s .now) (args .at) pre _ 0 (sym (turned .ensures ∙ ap (turn (args .p)) (mark-at .ensures)) ∙ c .before .t .given .1)
 
 returns-2 : tie.Need-returns-2
 returns-2 c =
@@ -35,7 +35,7 @@ returns-2 c =
     let pre = c .before .before .before .before .before .pre in
     let mark-at = c .before .before .before .mark-at in
     let turned = c .before .before .turn in
-    stops-over (args .p) (args .s .now) (args .at) pre _ (args .n) (sym (turned .ensures ∙ ap (turn (args .p)) (mark-at .ensures)) ∙ c .enum-told .given .1)
+    stops-over (args .p) (args .s .now) (args .at) pre _ 0 (sym (turned .ensures ∙ ap (turn (args .p)) (mark-at .ensures)) ∙ c .enum-told .given .1)
 
 returns-3 : tie.Need-returns-3
 returns-3 c =
@@ -43,7 +43,7 @@ returns-3 c =
     let pre = c .before .before .before .before .before .pre in
     let mark-at = c .before .before .before .mark-at in
     let turned = c .before .before .turn in
-    stops-mine (args .p) (args .s .now) (args .at) pre _ (args .n) (sym (turned .ensures ∙ ap (turn (args .p)) (mark-at .ensures)) ∙ c .enum-told2 .given .1)
+    stops-mine (args .p) (args .s .now) (args .at) pre _ 0 (sym (turned .ensures ∙ ap (turn (args .p)) (mark-at .ensures)) ∙ c .enum-told2 .given .1)
 
 pub run-end-spec : {M : Type 1} → statement M
 run-end-spec =

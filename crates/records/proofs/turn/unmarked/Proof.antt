@@ -5,9 +5,6 @@ use Rattle.records.proofs.Laws.Turns.{unmarked-end, unmarked-half, unma
 use Rattle.records.proofs.turn.unmarked.Statement.{statement}
 use Rattle.records.proofs.turn.unmarked.Tie as tie
 
-sub-left : tie.Need-sub-left
-sub-left c = search needs
-
 returns : tie.Need-returns
 returns c = unmarked-end _ (c .before .args .at) (omega arith)
 
@@ -18,4 +15,4 @@ returns-3 : tie.Need-returns-3
 returns-3 c = unmarked-other _ (c .before .before .args .at) (omega arith)
 
 pub unmarked-spec : {M : Type 1} → statement M
-unmarked-spec = tie.close (tie.spec sub-left returns returns-2 returns-3)
+unmarked-spec = tie.close (tie.spec (λ c. search needs) returns returns-2 returns-3)

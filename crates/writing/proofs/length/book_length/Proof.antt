@@ -21,23 +21,11 @@ mul-result c = search needs
 modes-length-requires : tie.Need-modes-length-requires
 modes-length-requires c κs = search needs
 
-add-result : tie.Need-add-result
-add-result c = search needs
-
 clauses-length-requires : tie.Need-clauses-length-requires
 clauses-length-requires c κs = search needs
 
-add-result-2 : tie.Need-add-result-2
-add-result-2 c = search needs
-
-add-result-3 : tie.Need-add-result-3
-add-result-3 c = search needs
-
 body-length-requires : tie.Need-body-length-requires
 body-length-requires c κs = search needs
-
-add-result-4 : tie.Need-add-result-4
-add-result-4 c = search needs
 
 returns : tie.Need-returns
 returns c =
@@ -58,10 +46,10 @@ book-length-spec =
     clause-at-requires
     mul-result
     modes-length-requires
-    add-result
+    (λ c. search needs)
     clauses-length-requires
-    add-result-2
-    add-result-3
+    (λ c. search needs)
+    (λ c. search needs)
     body-length-requires
-    add-result-4
+    (λ c. search needs)
     returns)

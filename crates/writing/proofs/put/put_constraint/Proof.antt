@@ -30,9 +30,6 @@ put-byte-requires-2 c κs = search needs
 put-masks-requires : tie.Need-put-masks-requires
 put-masks-requires c κs = room-second (masksOf (c .before .before .before .before .before .before .before .before .before .before .before .args .c)) (wrote-append (c .before .before .before .before .before .before .before .before .put-byte .ensures) (c .before .before .before .put-byte2 .ensures)) (c .before .before .before .before .before .before .before .before .before .before .before .pre)
 
-add-result : tie.Need-add-result
-add-result c = search needs
-
 same-length : tie.Need-same-length
 same-length c = search needs
 
@@ -53,6 +50,6 @@ put-constraint-spec =
     cast-put-byte
     put-byte-requires-2
     put-masks-requires
-    add-result
+    (λ c. search needs)
     same-length
     returns)

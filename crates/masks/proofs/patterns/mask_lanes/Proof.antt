@@ -1,4 +1,4 @@
--- `lanes::mask_lanes` meets its contract. The loop goes over the bits of the mask; its invariant: w has the lanes whose pattern has those passed.
+-- `masks::patterns::mask_lanes` meets its contract. The loop goes over the bits of the mask; its invariant: w has the lanes whose pattern has those passed.
 -- Assumes nothing.
 use mathlib.Core.Path.{_≡_}
 use mathlib.Core.Bool.{true, false}
@@ -6,12 +6,11 @@ use Prim.Native.Nat.{ℕ, suc, _<_}
 use native.Mathlib.Omega.{arith}
 use lib.Count.{trailingZeros}
 use borrow.Author.Needs.{needs}
 use Rattle.masks.specs.Set.{bitAt}
 use Rattle.masks.proofs.Laws.Members.{others-less, Over, over-start, over-end, over-member, over-here, over-next}
-use Rattle.lanes.proofs.Laws.Words.{member-below}
-use Rattle.lanes.proofs.Laws.Steps.{Masked, masked-start, masked-skip, masked-next, masked-end}
-use Rattle.lanes.proofs.mask_lanes.Statement.{statement}
-use Rattle.lanes.proofs.mask_lanes.Tie as tie
+use Rattle.masks.proofs.Laws.Patterns.{member-below, Masked, masked-start, masked-skip, masked-next, masked-end}
+use Rattle.masks.proofs.patterns.mask_lanes.Statement.{statement}
+use Rattle.masks.proofs.patterns.mask_lanes.Tie as tie
 
 abbrev Inv-loop : tie.InvT-loop
 Inv-loop mask words w₀ m₀ w m = Over (Masked mask words w) 8 mask m
@@ -53,9 +52,6 @@ mul-w c = let l = low c in omega arith
 element-copy-out-w : tie.Need-element-copy-out-w Inv-loop μ-loop
 element-copy-out-w c = let l = low c in omega arith
 
-sub-m : tie.Need-sub-m Inv-loop μ-loop
-sub-m c = search needs
-
 loop-less : tie.Need-loop-less Inv-loop μ-loop
 loop-less c = others-less (c .before .before .loop .m) (c .before .loop-test .taken)
 
@@ -86,7 +82,7 @@ mask-lanes-spec =
     cast-i
     mul-w
     element-copy-out-w
-    sub-m
+    (λ c. search needs)
     loop-less
     loop-again
     returns)

@@ -1,10 +1,10 @@
--- `needs::calls::own_clauses` meets its contract. The loop's invariant: each predicate's set has its own of the first k clauses. Assumes nothing.
+-- `book::clause::own_clauses` meets its contract. The loop's invariant: each predicate's set has its own of the first k clauses. Assumes nothing.
 use Prim.Native.Nat.{_-_}
 use native.Mathlib.Omega.{arith}
 use borrow.Author.Needs.{needs}
-use Rattle.needs.proofs.Laws.Calls.{head-low, Owning, owning-start, owning-next, owning-end}
-use Rattle.needs.proofs.calls.own_clauses.Statement.{statement}
-use Rattle.needs.proofs.calls.own_clauses.Tie as tie
+use Rattle.book.proofs.Laws.Sets.{head-low, Owning, owning-start, owning-next, owning-end}
+use Rattle.book.proofs.clause.own_clauses.Statement.{statement}
+use Rattle.book.proofs.clause.own_clauses.Tie as tie
 
 abbrev Inv-loop : tie.InvT-loop
 Inv-loop clauses rules own₀ k₀ own k = Owning rules clauses k own
@@ -43,12 +43,6 @@ array-write-own c =
     let d = c .before .before in
     head-low (d .before .before .loop .k) (d .head-at .result) (d .before .before .before .pre .1) (omega arith) (d .head-at .ensures)
 
-add-k : tie.Need-add-k Inv-loop μ-loop
-add-k c = search needs
-
-loop-less : tie.Need-loop-less Inv-loop μ-loop
-loop-less c = search needs
-
 loop-again : tie.Need-loop-again Inv-loop μ-loop
 loop-again c =
     let d = c .before .before in
@@ -73,7 +67,7 @@ own-clauses-spec =
     with-member-requires
     mul-own
     array-write-own
-    add-k
-    loop-less
+    (λ c. search needs)
+    (λ c. search needs)
     loop-again
     returns)

@@ -1,9 +1,9 @@
--- `closing::move_clause` meets its contract. Clause `from` is stored at `to`; where they are the same, the array is as it was. Assumes nothing.
+-- `book::clause::move_clause` meets its contract. Clause `from` is stored at `to`; where they are the same, the array is as it was. Assumes nothing.
 use mathlib.Core.Path.{refl, sym, ap, subst}
 use native.Mathlib.Omega.{arith}
 use Rattle.book.specs.Held.{clauseAt, StoredClause}
-use Rattle.closing.proofs.move_clause.Statement.{statement}
-use Rattle.closing.proofs.move_clause.Tie as tie
+use Rattle.book.proofs.clause.move_clause.Statement.{statement}
+use Rattle.book.proofs.clause.move_clause.Tie as tie
 
 clause-at-requires : tie.Need-clause-at-requires
 clause-at-requires c κs = omega arith
