@@ -199,7 +199,7 @@ clause ar ms acc s =
     andThen (many Body (subgoal ar) maxSubgoals [] t) (λ body u.
     got (record { head = h; body = body }) u))
 
--- "QU", and the subgoals of the query
+-- "QU: the query", and its subgoals
 unfoldable pub query : List ℕ → List ℕ → Got (List Call)
 query ar s = many Query (subgoal ar) maxSubgoals [] (drop 2 s)
 

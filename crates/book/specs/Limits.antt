@@ -15,17 +15,17 @@ maxSubgoals = 8
 abbrev pub longest : ℕ
 longest = 6962
 
--- "a buffer of 1,536 bytes always suffices" for the image of a table
-abbrev pub longestTable : ℕ
-longestTable = 1536
+abbrev pub shortest : ℕ
+shortest = 2
 
 -- "The longest plan is 53,259 bytes."
 abbrev pub longestPlan : ℕ
 longestPlan = 53259
 
--- no printed sheet is longer: a line has at most three times as many bytes as the record it comes from, and the rounds take at most seven
+-- two sizes that follow. No image of a table is longer: for each of 64 predicates a mark, its number, n and 20 masks
+abbrev pub longestTable : ℕ
+longestTable = 1536
+
+-- no printed sheet is: a line has at most three times as many bytes as the record it comes from, and the rounds take at most seven
 abbrev pub longestSheet : ℕ
 longestSheet = 164392
-
-abbrev pub shortest : ℕ
-shortest = 2

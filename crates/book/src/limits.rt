@@ -31,12 +31,12 @@ pub const CLAUSE_SIZE: usize = 10;
 // The room of 64 clauses and of the query, which stands after them.
 pub const RULES_SIZE: usize = 650;
 
-// The longest book, image of a table, plan and printed sheet.
+// The longest book, plan, image of a table and printed sheet.
 pub const LONGEST: usize = 6962;
 
-pub const LONGEST_TABLE: usize = 1536;
-
 pub const LONGEST_PLAN: usize = 53259;
+
+pub const LONGEST_TABLE: usize = 1536;
 
 pub const LONGEST_SHEET: usize = 164392;
 
