@@ -1,32 +1,21 @@
--- How the code holds a book: small things by value, and the whole in arrays of bytes and words. Assumes nothing.
+-- How the code holds a book: in arrays of bytes and words. Assumes nothing.
 use mathlib.Core.Path.{_≡_}
 use mathlib.Core.Bool.{Bool, not, cond}
-use mathlib.Core.List.{List, [], _∷_, _++_, map}
-use Prim.Native.Nat.{ℕ, zero, suc, _+_, _*_, _/_, _%_, _^_, min}
+use mathlib.Core.List.{List, [], _∷_, _++_}
+use Prim.Native.Nat.{ℕ, zero, suc, _+_, _*_, _/_, _%_, _^_, min, _<_}
 use lib.Dec.{eqb}
 use lib.ListN.{getD, take, drop}
 use Rattle.masks.specs.Limits.{maxArity}
 use Rattle.masks.specs.Lists.{values}
+use Rattle.masks.specs.Set.{bitAt}
 use Rattle.book.specs.Limits.{maxPredicates, maxClauses, maxSubgoals}
 use Rattle.book.specs.Book.{Call, Mode, Clause, Book}
-use Rattle.book.specs.declared.clause.Call as call
-use Rattle.book.specs.declared.clause.Clause as clause
 
--- ---- by value
+-- ---- clauses
 
 -- the number of a call's arguments, in the byte that holds it: at most six, so the three lowest bits. The five above them say nothing.
 abbrev pub countIn : ℕ → ℕ
 countIn byte = byte % 8
-
--- the arguments of a call: so many of its array
-abbrev pub callOf : call.Call → Call
-callOf c = record { pred = c .pred; args = take (countIn (c .n)) (c .args) }
-
--- the subgoals of a clause: the first n of its array
-abbrev pub clauseOf : clause.Clause → Clause
-clauseOf c = record { head = callOf (c .head); body = map callOf (take (c .n) (c .body)) }
-
--- ---- in arrays
 
 -- byte i of a word, the lowest first
 abbrev pub byteOf : ℕ → ℕ → ℕ
@@ -60,6 +49,8 @@ pub record StoredClause (rules after : List ℕ) (k : ℕ) (c : Clause) : Type 0
   pub is : clauseAt after k ≡ c
   pub others : (i : ℕ) → (i ≡ k → ⊥) → clauseAt after i ≡ clauseAt rules i
 
+-- ---- modes
+
 -- k bytes from a place on
 abbrev pub window : ℕ → ℕ → List ℕ → List ℕ
 window at k l = take k (drop at l)
@@ -80,6 +71,10 @@ masksIn b = take (getD b 1 0) (drop 2 b)
 
 abbrev pub modeBytes : List ℕ → ℕ → List ℕ
 modeBytes modes p = window (p * modeSize) modeSize modes
+
+-- a set of predicates: those that have MO
+abbrev pub HaveMode : List ℕ → ℕ → Type 0
+HaveMode modes set = (p : ℕ) → p < maxPredicates → bitAt set p ≡ hasIn (modeBytes modes p)
 
 -- the MO of predicate p, if it has one, and those of the first n predicates
 unfoldable pub modeAt : List ℕ → ℕ → List Mode

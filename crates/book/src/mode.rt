@@ -3,13 +3,17 @@
 use crate::clause::held;
 use crate::limits::MODE_SIZE;
 use crate::limits::MODES_SIZE;
-use masks::constraint::Constraint;
+use crate::limits::PREDICATES;
+use masks::constraint::put_masks;
+use masks::constraint::with_member;
 use masks::limits::MAX_MASKS;
 ghost use mathlib.Core.Path.{_≡_};
-ghost use Prim.Native.Nat.{_<_};
-ghost use Rattle.masks.specs.Held.{masksOf};
+ghost use Prim.Native.Nat.{_<_, _≤_};
+ghost use lib.ListN.{length};
+ghost use Rattle.masks.specs.Limits.{maxMasks};
+ghost use Rattle.masks.specs.Set.{members};
 ghost use Rattle.book.specs.Limits.{maxPredicates};
-ghost use Rattle.book.specs.Held.{hasIn, masksIn, modeBytes, StoredMode};
+ghost use Rattle.book.specs.Held.{hasIn, masksIn, modeBytes, HaveMode, StoredMode};
 
 // Predicate p has `MO`.
 pub fn has_mode(modes: &[u8; MODES_SIZE], p: u8) -> bool
@@ -18,6 +22,21 @@ pub fn has_mode(modes: &[u8; MODES_SIZE], p: u8) -> bool
 {
     let at = p as usize * MODE_SIZE;
     modes[at] != 0
+}
+
+// The predicates that have `MO`, as a set.
+pub fn with_mode(modes: &[u8; MODES_SIZE]) -> u64
+    ensures { λ r. ⌜ HaveMode (now (modes .entry)) r ⌝ }
+{
+    let mut set: u64 = 0;
+    let mut p: u8 = 0;
+    while p < PREDICATES {
+        if has_mode(modes, p) {
+            set = with_member(set, p);
+        }
+        p += 1;
+    }
+    set
 }
 
 // The masks of predicate p where they stand, as given; where it has no `MO`, they say nothing.
@@ -32,37 +51,14 @@ pub fn masks_at(modes: &[u8; MODES_SIZE], p: u8) -> &[u8]
     &bytes[start..end]
 }
 
-// The same masks by value.
-pub fn mode_at(modes: &[u8; MODES_SIZE], p: u8) -> Constraint
-    requires { ⌜ p < maxPredicates ⌝ }
-    ensures { λ r. ⌜ masksOf r ≡ masksIn (modeBytes (now (modes .entry)) p) ⌝ }
-{
-    let at = p as usize * MODE_SIZE;
-    let bytes: &[u8] = modes;
-    let mut masks = [0u8; MAX_MASKS];
-    let mut i: usize = 0;
-    while i < MAX_MASKS {
-        masks[i] = bytes[at + 2 + i];
-        i += 1;
-    }
-    Constraint {
-        n: bytes[at + 1],
-        masks,
-    }
-}
-
-// Gives predicate p `MO` with these masks.
-pub fn put_mode(modes: &mut [u8; MODES_SIZE], p: u8, c: Constraint)
-    requires { ⌜ p < maxPredicates ⌝ }
-    ensures { λ _. ⌜ StoredMode (now (modes .entry)) (now (modes .exit)) p (masksOf c) ⌝ }
+// Gives predicate p `MO` with the masks of a set.
+pub fn put_mode(modes: &mut [u8; MODES_SIZE], p: u8, masks: u64)
+    requires { ⌜ (p < maxPredicates) × (length (members masks) ≤ maxMasks) ⌝ }
+    ensures { λ _. ⌜ StoredMode (now (modes .entry)) (now (modes .exit)) p (members masks) ⌝ }
 {
     let at = p as usize * MODE_SIZE;
     let bytes: &mut [u8] = modes;
     bytes[at] = 1;
-    bytes[at + 1] = c.n;
-    let mut i: usize = 0;
-    while i < MAX_MASKS {
-        bytes[at + 2 + i] = c.masks[i];
-        i += 1;
-    }
+    let end = put_masks(bytes, at + 2, masks);
+    bytes[at + 1] = (end - at - 2) as u8;
 }

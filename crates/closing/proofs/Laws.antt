@@ -4,6 +4,7 @@ pub mod Modes
 pub mod Valid
 pub mod Final
 pub mod Parts
+pub mod Refused
 pub mod Lacked
 pub mod Outcome
 pub mod Moding

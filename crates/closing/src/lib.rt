@@ -2,35 +2,53 @@
 // it where bit p is set.
 use book::clause::head_at;
 use book::clause::move_clause;
+use book::clause::predicate;
 use book::limits::MAX_PREDICATES;
 use book::limits::MODES_SIZE;
 use book::limits::NO_CALL;
 use book::limits::PREDICATES;
 use book::limits::RULES_SIZE;
-use book::mode::mode_at;
 use book::mode::put_mode;
 use masks::constraint::has_member;
 use masks::reply::Reply;
 use needs::settle;
+use reading::Reading;
 use reading::read_book;
-use writing::write_book;
+use reading::read_only;
+use writing::write_given;
 ghost use Prim.Native.Nat.{_+_, _≤_};
 ghost use Rattle.masks.specs.Outcome.{Answers};
 ghost use Rattle.masks.specs.Set.{bitAt, Holds};
 ghost use Rattle.book.specs.Limits.{maxClauses};
 ghost use Rattle.book.specs.Sets.{Known};
 ghost use Rattle.closing.specs.Close.{closing};
-ghost use Rattle.closing.specs.Held.{ModesClosed, ClausesKept};
+ghost use Rattle.closing.specs.Held.{Lacking, Few, ModesClosed, ClausesKept};
 
 // The closed book, written into the output: the chosen predicates without their clauses, each with its final constraint as `MO`. 8 with the lowest
-// chosen number that the book lacks.
+// chosen number that the book lacks; where it seems to lack one, no room is lent for its clauses.
 pub fn close(book: &[u8], set: u64, out: &mut [u8]) -> Reply
     ensures { λ r. ⌜ Answers (closing set (now (book .entry))) (now (out .entry)) r (now (out .exit)) ⌝ }
 {
-    let mut arities = [0u8; MAX_PREDICATES];
-    let mut modes = [0u8; MODES_SIZE];
-    let mut rules = [NO_CALL; RULES_SIZE];
-    let b = read_book(book, &mut arities, &mut modes, &mut rules);
+    if !lists(book, set) {
+        let b = read_only(book);
+        let r = lacking(b, set);
+        if r.number != 0 {
+            return r;
+        }
+    }
+    close_over(book, set, out)
+}
+
+// The highest chosen predicate has its record where a book lists it: predicates come first, three bytes each. It is a hint, which no promise rests on.
+fn lists(book: &[u8], set: u64) -> bool {
+    let at = 3 * (63 - u64::leading_zeros(set | 1) as usize);
+    at < book.len() && book[at] == b'P'
+}
+
+// What a book is refused with once it is read: its fault, or 8; else 0.
+fn lacking(b: Reading, set: u64) -> Reply
+    ensures { λ r. ⌜ Lacking b set r ⌝ }
+{
     if b.reply.number != 0 {
         return b.reply;
     }
@@ -38,10 +56,36 @@ pub fn close(book: &[u8], set: u64, out: &mut [u8]) -> Reply
     if beyond != 0 {
         return Reply::refused(8, b.preds as u64 + u64::trailing_zeros(beyond) as u64);
     }
-    let d = settle(b.preds, &arities, &modes, b.clauses, &rules);
-    close_modes(&mut modes, set, &d.table.needs);
+    b.reply
+}
+
+// What `close` answers, with room for all of the book.
+fn close_over(book: &[u8], set: u64, out: &mut [u8]) -> Reply
+    ensures { λ r. ⌜ Answers (closing set (now (book .entry))) (now (out .entry)) r (now (out .exit)) ⌝ }
+{
+    let mut arities = [0u8; MAX_PREDICATES];
+    let mut modes = [0u8; MODES_SIZE];
+    let mut rules = [NO_CALL; RULES_SIZE];
+    let b = read_book(book, &mut arities, &mut modes, &mut rules);
+    let r = lacking(b, set);
+    if r.number != 0 {
+        return r;
+    }
+    let mut own = [0u64; MAX_PREDICATES];
+    let mut table = [0u64; MAX_PREDICATES];
+    let mut admits = [0u64; MAX_PREDICATES];
+    settle(
+        b.preds,
+        &modes,
+        b.clauses,
+        &rules,
+        &mut own,
+        &mut table,
+        &mut admits,
+    );
+    close_modes(&mut modes, set, &table);
     let n = keep_clauses(&mut rules, b.clauses, set);
-    write_book(b.preds, &arities, &modes, n, &rules, out)
+    write_given(b.preds, &arities, &modes, b.with_mode | set, n, &rules, out)
 }
 
 // The chosen numbers from n on, counted from n.
@@ -51,16 +95,16 @@ fn chosen_from(set: u64, n: u8) -> u64
     if n < PREDICATES { set >> n } else { 0 }
 }
 
-// Gives each chosen predicate `MO` with its constraint in a table.
-fn close_modes(modes: &mut [u8; MODES_SIZE], set: u64, table: &[u8; MODES_SIZE])
+// Gives each chosen predicate `MO` with its constraint in a table, of at most 20 masks.
+fn close_modes(modes: &mut [u8; MODES_SIZE], set: u64, table: &[u64; MAX_PREDICATES])
+    requires { ⌜ Few (bitAt set) (now table) ⌝ }
     ensures { λ _. ⌜ ModesClosed (bitAt set) (now (table .entry)) (now (modes .entry)) (now (modes .exit)) ⌝ }
 {
     let mut rest = set;
     while rest != 0 {
         let p = u64::trailing_zeros(rest) as u8;
         rest = rest & (rest - 1);
-        let c = mode_at(table, p);
-        put_mode(modes, p, c);
+        put_mode(modes, p, table[p as usize]);
     }
 }
 
@@ -72,8 +116,8 @@ fn keep_clauses(rules: &mut [u64; RULES_SIZE], clauses: u8, set: u64) -> u8
     let mut n: u8 = 0;
     let mut k: u8 = 0;
     while k < clauses {
-        let h = head_at(rules, k as usize);
-        if !has_member(set, h.pred) {
+        let p = predicate(head_at(rules, k as usize));
+        if !has_member(set, p) {
             move_clause(rules, k as usize, n as usize);
             n += 1;
         }

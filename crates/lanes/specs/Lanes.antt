@@ -1,6 +1,6 @@
 -- 64 lanes in a word: lane a of a word is its bit a, and stands for head pattern a. Assumes nothing.
 use mathlib.Core.Path.{_≡_}
-use mathlib.Core.Bool.{Bool, false, cond}
+use mathlib.Core.Bool.{cond}
 use mathlib.Core.List.{List, map}
 use Prim.Native.Nat.{ℕ}
 use Rattle.masks.specs.Set.{bitAt}
@@ -12,7 +12,6 @@ use Rattle.ordering.specs.Adorn.{Bound, after}
 unfoldable pub lane : ℕ → List ℕ → Bound
 lane a vars = map (λ w. bitAt w a) vars
 
--- the subgoal is taken in the lanes of r, and elsewhere all is as it was; where that bound no variable, none moved
-pub record Binds (s : Call) (r : ℕ) (before then : List ℕ) (moved : Bool) : Type 0 where
+-- the subgoal is taken in the lanes of r, and elsewhere all is as it was
+pub record Binds (s : Call) (r : ℕ) (before then : List ℕ) : Type 0 where
   pub lanes : EachLane (λ a. lane a then ≡ cond (bitAt r a) (after (lane a before) s) (lane a before))
-  pub still : moved ≡ false → then ≡ before

@@ -1,15 +1,16 @@
 // The head patterns under which a clause is good, all 64 at once: lane a of a word is its bit a, and stands for head pattern a.
-use book::clause::Call;
+use book::clause::argument;
 use book::clause::arguments;
 use book::clause::head_at;
+use book::clause::predicate;
 use book::clause::subgoal_at;
 use book::clause::subgoals_at;
 use book::limits::LAST_VARIABLE;
 use book::limits::LITERAL;
-use book::limits::MODES_SIZE;
+use book::limits::MAX_PREDICATES;
+use book::limits::MAX_SUBGOALS;
 use book::limits::RULES_SIZE;
 use book::limits::VARIABLES;
-use book::mode::masks_at;
 use masks::limits::MAX_ARGUMENTS;
 use masks::patterns::ALL;
 use masks::patterns::COLUMNS;
@@ -20,73 +21,86 @@ ghost use Prim.Native.Nat.{_<_, _≤_};
 ghost use Rattle.masks.specs.Set.{bitAt};
 ghost use Rattle.masks.specs.Patterns.{EachLane, Agrees};
 ghost use Rattle.book.specs.Limits.{maxPredicates, maxClauses};
-ghost use Rattle.book.specs.Held.{callOf, clauseAt};
-ghost use Rattle.book.specs.Table.{tableIn, Low};
-ghost use Rattle.book.specs.Sets.{callsBelow};
+ghost use Rattle.book.specs.Held.{callIn, clauseAt};
+ghost use Rattle.book.specs.Table.{tableIn};
+ghost use Rattle.book.specs.Sets.{callable};
 ghost use Rattle.ordering.specs.Adorn.{isBound, patternOf, headBound, ready};
 ghost use Rattle.ordering.specs.Good.{firstGood, isSome, goodClause};
 ghost use Rattle.lanes.specs.Lanes.{lane, Binds};
-ghost use Rattle.lanes.specs.Passes.{Passed};
+ghost use Rattle.lanes.specs.Passes.{Passed, Placed};
 
-// What a pass over the subgoals comes to: the lanes in which each was ready in its turn, and whether any variable became bound.
+// What a pass over the subgoals comes to: the lanes in which each was ready in its turn, and whether any was placed in a lane where it was not.
 pub struct Pass {
     pub good: u64,
     pub moved: bool,
 }
 
 // The head patterns under which clause k is good, bit a for pattern a.
-pub fn good_lanes<'a>(rules: &'a [u64; RULES_SIZE], k: usize, table: &'a [u8; MODES_SIZE]) -> u64
-    requires { ⌜ (k ≤ maxClauses) × (callsBelow maxPredicates (clauseAt (now rules) k .body) ≡ true) × Low (now table) ⌝ }
+pub fn good_lanes<'a>(
+    rules: &'a [u64; RULES_SIZE],
+    k: usize,
+    table: &'a [u64; MAX_PREDICATES],
+) -> u64
+    requires { ⌜ (k ≤ maxClauses) × (callable (clauseAt (now rules) k .body) ≡ true) ⌝ }
     ensures { λ r. ⌜ EachLane (λ a. bitAt r a ≡ goodClause (tableIn (now (table .entry)) maxPredicates) (clauseAt (now (rules .entry)) k) a) ⌝ }
 {
-    let head = head_at(rules, k);
-    let mut vars = head_lanes(head);
+    let mut vars = head_lanes(head_at(rules, k));
     body_lanes(rules, k, table, &mut vars)
 }
 
 // The lanes in which the subgoals of clause k have a good order, with these variables bound at the start. Passes go over the subgoals as they stand,
-// each of which is placed in the lanes in which it is ready; a pass that binds nothing is the last, and so is the one that has as many before it as
-// there are other subgoals.
+// each of which is placed in the lanes in which it is ready. A pass is the last where every lane is good, where nothing was placed, and where it has as
+// many before it as there are other subgoals.
 fn body_lanes<'a>(
     rules: &'a [u64; RULES_SIZE],
     k: usize,
-    table: &'a [u8; MODES_SIZE],
+    table: &'a [u64; MAX_PREDICATES],
     vars: &mut [u64; VARIABLES],
 ) -> u64
-    requires { ⌜ (k ≤ maxClauses) × (callsBelow maxPredicates (clauseAt (now rules) k .body) ≡ true) × Low (now table) ⌝ }
+    requires { ⌜ (k ≤ maxClauses) × (callable (clauseAt (now rules) k .body) ≡ true) ⌝ }
     ensures { λ r. ⌜ EachLane (λ a. bitAt r a ≡ isSome (firstGood (tableIn (now (table .entry)) maxPredicates) (clauseAt (now (rules .entry)) k .body) (lane a (now (vars .entry))))) ⌝ }
 {
     let n = subgoals_at(rules, k);
+    let mut placed = [0u64; MAX_SUBGOALS];
     let mut passes: usize = 1;
     loop {
-        let p = one_pass(rules, k, table, vars);
-        if !p.moved || n <= passes {
+        let p = one_pass(rules, k, table, vars, &mut placed);
+        if p.good == ALL || !p.moved || n <= passes {
             return p.good;
         }
         passes += 1;
     }
 }
 
-// One pass over the subgoals of clause k.
+// One pass over the subgoals of clause k. Those that are placed in every lane are passed over.
 fn one_pass<'a>(
     rules: &'a [u64; RULES_SIZE],
     k: usize,
-    table: &'a [u8; MODES_SIZE],
+    table: &'a [u64; MAX_PREDICATES],
     vars: &mut [u64; VARIABLES],
+    placed: &mut [u64; MAX_SUBGOALS],
 ) -> Pass
-    requires { ⌜ (k ≤ maxClauses) × (callsBelow maxPredicates (clauseAt (now rules) k .body) ≡ true) × Low (now table) ⌝ }
+    requires { ⌜ (k ≤ maxClauses) × (callable (clauseAt (now rules) k .body) ≡ true) × Placed (tableIn (now table) maxPredicates) (clauseAt (now rules) k .body) (now vars) (now placed) ⌝ }
     ensures { λ r. ⌜ Passed (tableIn (now (table .entry)) maxPredicates) (clauseAt (now (rules .entry)) k .body) (now (vars .entry)) (now (vars .exit)) r ⌝ }
+    ensures { λ r. ⌜ Placed (tableIn (now (table .entry)) maxPredicates) (clauseAt (now (rules .entry)) k .body) (now (vars .exit)) (now (placed .exit)) ⌝ }
 {
+    let words: &mut [u64] = placed;
     let n = subgoals_at(rules, k);
     let mut good = ALL;
     let mut moved = false;
     let mut j: usize = 0;
     while j < n {
-        let s = subgoal_at(rules, k, j);
-        let r = ready_lanes(s, table, vars);
-        good = good & r;
-        if bind_lanes(s, r, vars) {
-            moved = true;
+        let before = words[j];
+        if before != ALL {
+            let s = subgoal_at(rules, k, j);
+            let r = ready_lanes(s, table, vars);
+            let now = before | r;
+            good = good & now;
+            if now != before {
+                words[j] = now;
+                bind_lanes(s, r, vars);
+                moved = true;
+            }
         }
         j += 1;
     }
@@ -94,14 +108,14 @@ fn one_pass<'a>(
 }
 
 // What is bound at the start: lane a is for head pattern a.
-fn head_lanes(head: Call) -> [u64; VARIABLES]
-    ensures { λ r. ⌜ EachLane (λ a. lane a r ≡ headBound (callOf head .args) a) ⌝ }
+fn head_lanes(head: u64) -> [u64; VARIABLES]
+    ensures { λ r. ⌜ EachLane (λ a. lane a r ≡ headBound (callIn head .args) a) ⌝ }
 {
     let n = arguments(head);
     let mut vars = [0u64; VARIABLES];
     let mut i: usize = 0;
     while i < n {
-        let v = head.args[i];
+        let v = argument(head, i);
         if v <= LAST_VARIABLE {
             let w = v as usize;
             vars[w] = vars[w] | COLUMNS[i];
@@ -112,24 +126,24 @@ fn head_lanes(head: Call) -> [u64; VARIABLES]
 }
 
 // The lanes in which the call can be made.
-fn ready_lanes(s: Call, table: &[u8; MODES_SIZE], vars: &[u64; VARIABLES]) -> u64
-    requires { ⌜ (callOf s .pred < maxPredicates) × Low (now table) ⌝ }
-    ensures { λ r. ⌜ EachLane (λ a. bitAt r a ≡ ready (tableIn (now (table .entry)) maxPredicates) (lane a (now (vars .entry))) (callOf s)) ⌝ }
+fn ready_lanes(s: u64, table: &[u64; MAX_PREDICATES], vars: &[u64; VARIABLES]) -> u64
+    requires { ⌜ callIn s .pred < maxPredicates ⌝ }
+    ensures { λ r. ⌜ EachLane (λ a. bitAt r a ≡ ready (tableIn (now (table .entry)) maxPredicates) (lane a (now (vars .entry))) (callIn s)) ⌝ }
 {
     let words = pattern_lanes(s, vars);
-    fit_lanes(masks_at(table, s.pred), &words)
+    let p = predicate(s) as usize;
+    fit_lanes(table[p], &words)
 }
 
 // Word i: the lanes whose pattern has bit i.
-fn pattern_lanes(s: Call, vars: &[u64; VARIABLES]) -> [u64; MAX_ARGUMENTS]
-    ensures { λ r. ⌜ EachLane (λ a. Agrees r a (patternOf (lane a (now (vars .entry))) (callOf s .args))) ⌝ }
+fn pattern_lanes(s: u64, vars: &[u64; VARIABLES]) -> [u64; MAX_ARGUMENTS]
+    ensures { λ r. ⌜ EachLane (λ a. Agrees r a (patternOf (lane a (now (vars .entry))) (callIn s .args))) ⌝ }
 {
     let n = arguments(s);
     let mut words = [0u64; MAX_ARGUMENTS];
     let mut i: usize = 0;
     while i < n {
-        let v = s.args[i];
-        words[i] = arg_lanes(v, vars);
+        words[i] = arg_lanes(argument(s, i), vars);
         i += 1;
     }
     words
@@ -149,25 +163,18 @@ fn arg_lanes(v: u8, vars: &[u64; VARIABLES]) -> u64
     0
 }
 
-// The variables of the subgoal are bound in the lanes of r. Says whether that bound any.
-fn bind_lanes(s: Call, r: u64, vars: &mut [u64; VARIABLES]) -> bool
-    ensures { λ m. ⌜ Binds (callOf s) r (now (vars .entry)) (now (vars .exit)) m ⌝ }
+// The variables of the subgoal are bound in the lanes of r.
+fn bind_lanes(s: u64, r: u64, vars: &mut [u64; VARIABLES])
+    ensures { λ _. ⌜ Binds (callIn s) r (now (vars .entry)) (now (vars .exit)) ⌝ }
 {
     let n = arguments(s);
-    let mut moved = false;
     let mut i: usize = 0;
     while i < n {
-        let v = s.args[i];
+        let v = argument(s, i);
         if v <= LAST_VARIABLE {
             let w = v as usize;
-            let old = vars[w];
-            let new = old | r;
-            vars[w] = new;
-            if new != old {
-                moved = true;
-            }
+            vars[w] = vars[w] | r;
         }
         i += 1;
     }
-    moved
 }

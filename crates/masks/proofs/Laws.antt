@@ -6,12 +6,12 @@ pub mod Mask
 pub mod Constraint
 pub mod Chains
 pub mod Lattice
-pub mod Held
 pub mod Set
-pub mod Kept
 pub mod Outcome
 pub mod Joining
 pub mod Examples
 pub mod Members
 pub mod Words
 pub mod Patterns
+pub mod Sets
+pub mod Kept

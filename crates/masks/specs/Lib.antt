@@ -1,10 +1,9 @@
--- What a reader has to believe of this crate: the numbers, tests over lists, a mask, a constraint and the two ways of combining it, how the
--- code holds them, a set in a word, 64 patterns side by side, the outcome of an operation, and the outcome of the two operations here.
+-- What a reader has to believe of this crate: the numbers, tests over lists, a mask, a constraint and the two ways of combining it, a set
+-- in a word, 64 patterns side by side, the outcome of an operation, and the outcome of the two operations here.
 pub mod Limits
 pub mod Lists
 pub mod Mask
 pub mod Constraint
-pub mod Held
 pub mod Set
 pub mod Patterns
 pub mod Outcome

@@ -1,7 +1,9 @@
-// Constraints by value, a pattern tried against one, and the written form of a list or a set of masks.
+// Constraints: a pattern tried against a list of masks, and the written form of a list or a set of masks.
 //
-// A set of masks is held in a word: mask m is in it where bit m is set.
-use crate::limits::MAX_MASKS;
+// A set of masks is held in a word: mask m is in it where bit m is set. A constraint in written form is held so: its masks are the members, rising.
+use crate::patterns::ALL;
+use crate::patterns::COLUMNS;
+use crate::patterns::mask_lanes;
 ghost use mathlib.Core.Path.{_≡_};
 ghost use mathlib.Core.Bool.{true, _||_};
 ghost use mathlib.Core.List.{map};
@@ -12,14 +14,7 @@ ghost use lib.Seq.{sets};
 ghost use Rattle.masks.specs.Limits.{maxArity, allPatterns};
 ghost use Rattle.masks.specs.Lists.{has};
 ghost use Rattle.masks.specs.Constraint.{admits, inRange, written, minimise};
-ghost use Rattle.masks.specs.Held.{masksOf, packed};
-ghost use Rattle.masks.specs.Set.{bitAt, Holds};
-
-// A constraint's masks are the first n of the array.
-pub struct Constraint {
-    pub n: u8,
-    pub masks: [u8; MAX_MASKS],
-}
+ghost use Rattle.masks.specs.Set.{bitAt, Holds, members};
 
 // "A pattern .. fits a constraint when it fits at least one alternative." Its masks are lent where they stand.
 pub fn fits(masks: &[u8], pattern: u8) -> bool
@@ -34,57 +29,73 @@ pub fn fits(masks: &[u8], pattern: u8) -> bool
     false
 }
 
-// How many masks a constraint has. A count above the array's length, which no function here makes, means all of it.
-pub fn count(c: Constraint) -> usize
-    ensures { λ r. ⌜ r ≡ length (masksOf c) ⌝ }
-{
-    let n = c.n as usize;
-    if n < MAX_MASKS { n } else { MAX_MASKS }
-}
-
-// The written form of a list of masks in any order, with repeats.
-pub fn minimised(masks: &[u8]) -> Constraint
+// The masks of a list in any order, with repeats, in written form.
+pub fn minimised(masks: &[u8]) -> u64
     requires { ⌜ inRange allPatterns (now masks) ≡ true ⌝ }
-    ensures { λ r. ⌜ r ≡ packed (minimise (now (masks .entry))) ⌝ }
+    ensures { λ r. ⌜ members r ≡ minimise (now (masks .entry)) ⌝ }
 {
     written(with_unions(0, 0, masks))
 }
 
-// The written form of the masks of a set: "a mask is dropped at the first other one contained in it". They are taken from the lowest up. Where any
-// other is contained in a mask, so is one that is kept, and that one is smaller: so it is enough to look among those kept so far.
-pub fn written(set: u64) -> Constraint
-    ensures { λ r. ⌜ r ≡ packed (written (bitAt set) allPatterns) ⌝ }
+// The masks of a set in written form: "a mask is dropped at the first other one contained in it". They are taken from the lowest up. Where any other is
+// contained in a mask, so is one that is kept, and that one is smaller: so it is enough to look among those kept so far.
+pub fn written(set: u64) -> u64
+    ensures { λ r. ⌜ members r ≡ written (bitAt set) allPatterns ⌝ }
 {
-    let mut masks = [0u8; MAX_MASKS];
-    let mut n: usize = 0;
+    let mut kept: u64 = 0;
     let mut rest = set;
     'outer: while rest != 0 {
         let m = u64::trailing_zeros(rest) as u8;
         rest = rest & (rest - 1);
-        'inner: for k in 0..n {
-            let kept = masks[k];
-            if kept & m == kept {
+        let mut others = kept;
+        'inner: while others != 0 {
+            let k = u64::trailing_zeros(others) as u8;
+            others = others & (others - 1);
+            if k & m == k {
                 continue 'outer;
             }
         }
-        masks[n] = m;
-        n += 1;
+        kept = with_member(kept, m);
     }
-    let count = n as u8;
-    Constraint { n: count, masks }
+    kept
 }
 
-// Writes the masks of a constraint into the output from `at` on.
-pub fn put_masks(out: &mut [u8], at: usize, c: Constraint)
-    requires { ⌜ at + length (masksOf c) ≤ length (now out) ⌝ }
-    ensures { λ _. ⌜ now (out .exit) ≡ sets (now (out .entry)) at (masksOf c) ⌝ }
+// The same for what a round leaves, a set of up to 64 patterns. The lowest that is left contains no other, and with it goes all that contains it.
+pub fn least(set: u64) -> u64
+    ensures { λ r. ⌜ members r ≡ written (bitAt set) allPatterns ⌝ }
 {
-    let n = count(c);
-    let mut i: usize = 0;
-    while i < n {
-        out[at + i] = c.masks[i];
-        i += 1;
+    let mut kept: u64 = 0;
+    let mut rest = set;
+    while rest != 0 {
+        let m = u64::trailing_zeros(rest) as u8;
+        kept = with_member(kept, m);
+        rest = rest & (mask_lanes(m, &COLUMNS) ^ ALL);
     }
+    kept
+}
+
+// How many masks a set has.
+pub fn count(set: u64) -> usize
+    ensures { λ r. ⌜ r ≡ length (members set) ⌝ }
+    ensures { λ r. ⌜ r ≤ allPatterns ⌝ }
+{
+    u64::count_ones(set) as usize
+}
+
+// Writes the masks of a set, rising, into the output from `at` on; the place after them.
+pub fn put_masks(out: &mut [u8], at: usize, set: u64) -> usize
+    requires { ⌜ at + length (members set) ≤ length (now out) ⌝ }
+    ensures { λ r. ⌜ now (out .exit) ≡ sets (now (out .entry)) at (members set) ⌝ }
+    ensures { λ r. ⌜ r ≡ at + length (members set) ⌝ }
+{
+    let mut p = at;
+    let mut rest = set;
+    while rest != 0 {
+        out[p] = u64::trailing_zeros(rest) as u8;
+        rest = rest & (rest - 1);
+        p += 1;
+    }
+    p
 }
 
 // A set of masks, and besides them the union of m with each mask of a list.

@@ -1,12 +1,11 @@
-// Patterns and constraints. Here are the two public operations, the choice and the joint of two constraints, and what they call; constraints by
-// value and their written form are in `constraint`, all patterns tried at once in `patterns`, the answer that every operation gives in `reply`, the
+// Patterns and constraints. Here are the two public operations, the choice and the joint of two constraints, and what they call; constraints as sets
+// of masks and their written form are in `constraint`, all patterns tried at once in `patterns`, the answer that every operation gives in `reply`, the
 // numbers in `limits`.
 pub mod constraint;
 pub mod limits;
 pub mod patterns;
 pub mod reply;
 
-use crate::constraint::Constraint;
 use crate::limits::MAX_ARITY;
 use crate::limits::MAX_MASKS;
 use crate::reply::Reply;
@@ -14,7 +13,7 @@ ghost use mathlib.Core.Path.{_≡_};
 ghost use mathlib.Core.Bool.{true};
 ghost use Rattle.masks.specs.Limits.{allPatterns};
 ghost use Rattle.masks.specs.Constraint.{inRange, choice, joint};
-ghost use Rattle.masks.specs.Held.{packed};
+ghost use Rattle.masks.specs.Set.{members};
 ghost use Rattle.masks.specs.Outcome.{Answers};
 ghost use Rattle.masks.specs.Joining.{listFault, fault, combined, joining};
 
@@ -87,9 +86,9 @@ fn list_fault(masks: &[u8], limit: u8) -> u32
 }
 
 // Two lists of masks, in any order, combined one way or the other.
-fn combine(way: Way, first: &[u8], second: &[u8]) -> Constraint
+fn combine(way: Way, first: &[u8], second: &[u8]) -> u64
     requires { ⌜ (inRange allPatterns (now first) ≡ true) × (inRange allPatterns (now second) ≡ true) ⌝ }
-    ensures { λ r. ⌜ r ≡ packed (combined way (now (first .entry)) (now (second .entry))) ⌝ }
+    ensures { λ r. ⌜ members r ≡ combined way (now (first .entry)) (now (second .entry)) ⌝ }
 {
     match way {
         Way::Choice => choice_of(first, second),
@@ -98,18 +97,18 @@ fn combine(way: Way, first: &[u8], second: &[u8]) -> Constraint
 }
 
 // The choice: the masks of both.
-fn choice_of(first: &[u8], second: &[u8]) -> Constraint
+fn choice_of(first: &[u8], second: &[u8]) -> u64
     requires { ⌜ (inRange allPatterns (now first) ≡ true) × (inRange allPatterns (now second) ≡ true) ⌝ }
-    ensures { λ r. ⌜ r ≡ packed (choice (now (first .entry)) (now (second .entry))) ⌝ }
+    ensures { λ r. ⌜ members r ≡ choice (now (first .entry)) (now (second .entry)) ⌝ }
 {
     let set = constraint::with_unions(0, 0, first);
     constraint::written(constraint::with_unions(set, 0, second))
 }
 
 // The joint: the union of each mask of one with each of the other.
-fn joint_of(first: &[u8], second: &[u8]) -> Constraint
+fn joint_of(first: &[u8], second: &[u8]) -> u64
     requires { ⌜ (inRange allPatterns (now first) ≡ true) × (inRange allPatterns (now second) ≡ true) ⌝ }
-    ensures { λ r. ⌜ r ≡ packed (joint (now (first .entry)) (now (second .entry))) ⌝ }
+    ensures { λ r. ⌜ members r ≡ joint (now (first .entry)) (now (second .entry)) ⌝ }
 {
     let mut set: u64 = 0;
     let mut i: usize = 0;

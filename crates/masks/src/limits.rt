@@ -8,6 +8,3 @@ pub const MAX_ARGUMENTS: usize = 6;
 
 // The masks of a constraint: no 21 subsets of six positions avoid containing one another.
 pub const MAX_MASKS: usize = 20;
-
-// The patterns of six positions: every mask is below this.
-pub const ALL_PATTERNS: u8 = 64;

@@ -2,13 +2,11 @@
 // things side by side, each with a pattern of its own, bit a is lane a.
 use crate::limits::MAX_ARGUMENTS;
 ghost use mathlib.Core.Path.{_≡_};
-ghost use mathlib.Core.Bool.{true, _&&_};
-ghost use Prim.Native.Nat.{ℕ, _<_, _≤_, _^_};
-ghost use lib.Dec.{ltb};
-ghost use Rattle.masks.specs.Limits.{maxArity, allPatterns};
+ghost use Prim.Native.Nat.{ℕ, _<_};
+ghost use Rattle.masks.specs.Limits.{allPatterns};
 ghost use Rattle.masks.specs.Mask.{within};
-ghost use Rattle.masks.specs.Constraint.{admits, inRange};
-ghost use Rattle.masks.specs.Set.{bitAt, Holds};
+ghost use Rattle.masks.specs.Constraint.{admits};
+ghost use Rattle.masks.specs.Set.{bitAt, members};
 ghost use Rattle.masks.specs.Patterns.{EachLane, Agrees};
 
 // All lanes.
@@ -24,48 +22,29 @@ pub const COLUMNS: [u64; MAX_ARGUMENTS] = [
     0xFFFF_FFFF_0000_0000,
 ];
 
-// The patterns of each arity, as a set.
-const PATTERNS: [u64; 7] = [
-    0x1,
-    0x3,
-    0xF,
-    0xFF,
-    0xFFFF,
-    0xFFFF_FFFF,
-    0xFFFF_FFFF_FFFF_FFFF,
-];
-
-// The patterns of an arity that fit the constraint with these masks, as a set; `constraint::written` turns it back.
-pub fn admitted(masks: &[u8], arity: u8) -> u64
-    requires { ⌜ (arity ≤ maxArity) × (inRange allPatterns (now masks) ≡ true) ⌝ }
-    ensures { λ r. ⌜ Holds r (λ a. ltb a (2 ^ arity) && admits (now (masks .entry)) a) ⌝ }
+// The patterns that fit the constraint with these masks, as a set; `constraint::least` turns it back.
+pub fn admitted(masks: u64) -> u64
+    ensures { λ r. ⌜ EachLane (λ a. bitAt r a ≡ admits (members masks) a) ⌝ }
 {
-    of_arity(arity) & fit_lanes(masks, &COLUMNS)
-}
-
-// All patterns of an arity, as a set.
-pub fn of_arity(arity: u8) -> u64
-    requires { ⌜ arity ≤ maxArity ⌝ }
-    ensures { λ r. ⌜ Holds r (λ a. ltb a (2 ^ arity)) ⌝ }
-{
-    PATTERNS[arity as usize]
+    fit_lanes(masks, &COLUMNS)
 }
 
 // The lanes whose pattern fits the constraint with these masks. Word i has the lanes whose pattern has bit i.
-pub fn fit_lanes(masks: &[u8], words: &[u64; MAX_ARGUMENTS]) -> u64
-    requires { ⌜ inRange allPatterns (now masks) ≡ true ⌝ }
-    ensures { λ r. ⌜ EachLane (λ a. (p : ℕ) → Agrees (now (words .entry)) a p → bitAt r a ≡ admits (now (masks .entry)) p) ⌝ }
+pub fn fit_lanes(masks: u64, words: &[u64; MAX_ARGUMENTS]) -> u64
+    ensures { λ r. ⌜ EachLane (λ a. (p : ℕ) → Agrees (now (words .entry)) a p → bitAt r a ≡ admits (members masks) p) ⌝ }
 {
     let mut r: u64 = 0;
-    for i in 0..masks.len() {
-        let m = masks[i];
+    let mut rest = masks;
+    while rest != 0 {
+        let m = u64::trailing_zeros(rest) as u8;
+        rest = rest & (rest - 1);
         r = r | mask_lanes(m, words);
     }
     r
 }
 
 // The lanes whose pattern has all the bits of the mask. Each turn takes the lowest bit that is left.
-fn mask_lanes(mask: u8, words: &[u64; MAX_ARGUMENTS]) -> u64
+pub fn mask_lanes(mask: u8, words: &[u64; MAX_ARGUMENTS]) -> u64
     requires { ⌜ mask < allPatterns ⌝ }
     ensures { λ r. ⌜ EachLane (λ a. (p : ℕ) → Agrees (now (words .entry)) a p → bitAt r a ≡ within mask p) ⌝ }
 {

@@ -20,8 +20,8 @@ someIn set f zero = false
 someIn set f (suc n) = someIn set f n || cond (bitAt set n) (f n) false
 
 -- a set of predicates for each predicate: of the first n clauses' those that call it
-abbrev pub Calling : List ℕ → ℕ → List ℕ → Type 0
-Calling rules n callers = (q : ℕ) → q < maxPredicates → Holds (getD callers q 0) (touched (eqb q) (clausesOf rules n))
+pub record Calling (rules : List ℕ) (n : ℕ) (callers : List ℕ) : Type 0 where
+  pub each : (q : ℕ) → q < maxPredicates → Holds (getD callers q 0) (touched (eqb q) (clausesOf rules n))
 
 -- one clause more: its head's predicate calls those of its subgoals
 abbrev pub Added : List ℕ → ℕ → List ℕ → List ℕ → Type 0

@@ -1,80 +1,92 @@
 // One round of the analysis.
 use book::limits::MAX_PREDICATES;
-use book::limits::MODES_SIZE;
 use book::limits::RULES_SIZE;
-use book::mode::masks_at;
-use book::mode::put_mode;
-use book::table::Table;
 use lanes::good_lanes;
+use masks::constraint::least;
 use masks::constraint::with_member;
-use masks::constraint::written;
-use masks::patterns::admitted;
-use masks::patterns::of_arity;
-ghost use mathlib.Core.Bool.{_&&_};
-ghost use Prim.Native.Nat.{_^_, _≤_};
-ghost use lib.Dec.{ltb};
-ghost use Rattle.masks.specs.Limits.{maxArity};
-ghost use Rattle.masks.specs.Set.{Holds};
-ghost use Rattle.book.specs.Table.{Low};
+ghost use mathlib.Core.Path.{_≡_};
+ghost use lib.ListN.{length};
+ghost use Rattle.book.specs.Limits.{maxPredicates};
 ghost use Rattle.book.specs.Sets.{Callable};
-ghost use Rattle.needs.specs.Round.{allGood, Ready, Rounds};
+ghost use Rattle.needs.specs.Round.{Stays, Ready, Rounds, Compares, Renewed};
 
-// A table after a round, and the predicates whose constraint is another one than before.
-pub struct After {
-    pub table: Table,
-    pub changed: u64,
-}
-
-// "A round reads only the table before it": it takes the table by value, builds a new one and compares both, and the old one stays intact. Only
-// the predicates due are looked at; the others have in the old table what they get. Both are compared by the patterns that they admit: where these are
-// the same, so are the masks.
+// "A round reads only the table before it": it takes the table by value, as the patterns that each constraint admits, builds a new one in the room
+// lent, which holds the same, and compares both; the old one stays intact. Only the predicates due are looked at; the others have in the old table
+// what they get. The predicates whose constraint is another one than before, none where both tables are the same.
 pub fn round<'a>(
-    arities: &'a [u8; MAX_PREDICATES],
     rules: &'a [u64; RULES_SIZE],
     own: &'a [u64; MAX_PREDICATES],
-    old: Table,
+    table: &'a [u64; MAX_PREDICATES],
+    old: [u64; MAX_PREDICATES],
     due: u64,
-) -> After
-    requires { ⌜ Ready (now arities) (now rules) (now own) (old .needs) due ⌝ }
-    ensures { λ r. ⌜ Rounds (now (arities .entry)) (now (rules .entry)) (now (own .entry)) (old .needs) due (r .table .needs) (r .changed) ⌝ }
+    new: &mut [u64; MAX_PREDICATES],
+) -> u64
+    requires { ⌜ Ready (now rules) (now own) (now table) old due × (now new ≡ old) ⌝ }
+    ensures { λ r. ⌜ Rounds (now (rules .entry)) (now (own .entry)) (now (table .entry)) old due (now (new .exit)) r ⌝ }
 {
-    let mut new = old;
+    let words: &mut [u64] = new;
     let mut changed: u64 = 0;
     let mut rest = due;
     while rest != 0 {
         let p = u64::trailing_zeros(rest) as u8;
         rest = rest & (rest - 1);
         let q = p as usize;
-        let good = good_patterns(arities[q], rules, own[q], &old.needs);
-        let had = admitted(masks_at(&old.needs, p), arities[q]);
-        if good != had {
-            let c = written(good);
-            put_mode(&mut new.needs, p, c);
+        let good = good_patterns(rules, own[q], table, old[q]);
+        if good != old[q] {
+            words[q] = good;
             changed = with_member(changed, p);
         }
     }
-    After {
-        table: new,
-        changed,
-    }
+    if same(&old, words) { 0 } else { changed }
 }
 
-// "A predicate's pattern is good when all its clauses are good under it": those patterns, as a set.
+// "A predicate's pattern is good when all its clauses are good under it": those patterns of a set, with the clauses in another. Where none is left,
+// the other clauses are passed over.
 fn good_patterns<'a>(
-    arity: u8,
     rules: &'a [u64; RULES_SIZE],
     own: u64,
-    table: &'a [u8; MODES_SIZE],
+    table: &'a [u64; MAX_PREDICATES],
+    had: u64,
 ) -> u64
-    requires { ⌜ (arity ≤ maxArity) × Callable (now rules) own × Low (now table) ⌝ }
-    ensures { λ r. ⌜ Holds r (λ a. ltb a (2 ^ arity) && allGood (now (rules .entry)) own (now (table .entry)) a) ⌝ }
+    requires { ⌜ Callable (now rules) own ⌝ }
+    ensures { λ r. ⌜ Stays (now (rules .entry)) own (now (table .entry)) had r ⌝ }
 {
-    let mut set = of_arity(arity);
+    let mut set = had;
     let mut rest = own;
     while rest != 0 {
+        if set == 0 {
+            return 0;
+        }
         let k = u64::trailing_zeros(rest) as usize;
         rest = rest & (rest - 1);
         set = set & good_lanes(rules, k, table);
     }
     set
+}
+
+// Two tables have the same entries, all 64.
+fn same(old: &[u64; MAX_PREDICATES], new: &[u64]) -> bool
+    requires { ⌜ length (now new) ≡ maxPredicates ⌝ }
+    ensures { λ r. ⌜ Compares (now (old .entry)) (now (new .entry)) r ⌝ }
+{
+    let mut differ: u64 = 0;
+    let mut p: usize = 0;
+    while p < MAX_PREDICATES {
+        differ = differ | (old[p] ^ new[p]);
+        p += 1;
+    }
+    differ == 0
+}
+
+// Gives the predicates of a set the masks of what they admit now.
+pub fn renew(table: &mut [u64; MAX_PREDICATES], admits: &[u64; MAX_PREDICATES], changed: u64)
+    ensures { λ _. ⌜ Renewed (now (table .entry)) (now (admits .entry)) changed (now (table .exit)) ⌝ }
+{
+    let words: &mut [u64] = table;
+    let mut rest = changed;
+    while rest != 0 {
+        let p = u64::trailing_zeros(rest) as usize;
+        rest = rest & (rest - 1);
+        words[p] = least(admits[p]);
+    }
 }

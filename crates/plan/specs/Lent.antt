@@ -2,20 +2,19 @@
 use mathlib.Core.Path.{_≡_}
 use mathlib.Core.Bool.{cond}
 use mathlib.Core.List.{List, [], _++_}
-use Prim.Native.Nat.{ℕ, _+_, _*_, _≤_}
-use lib.Count.{ones}
+use Prim.Native.Nat.{ℕ, _+_, _*_, _≤_, _<_}
 use lib.ListN.{length, getD}
 use Rattle.masks.specs.Limits.{allPatterns}
 use Rattle.masks.specs.Lists.{joined}
 use Rattle.masks.specs.Outcome.{Answers}
-use Rattle.masks.specs.Set.{bitAt}
+use Rattle.masks.specs.Set.{bitAt, members}
 use Rattle.masks.specs.declared.reply.Reply.{Reply}
 use Rattle.book.specs.Limits.{maxPredicates, maxClauses}
 use Rattle.book.specs.Book.{Book}
 use Rattle.book.specs.Encode.{WellFormed}
 use Rattle.book.specs.Held.{clauseAt, clausesOf}
-use Rattle.book.specs.Table.{tableIn}
-use Rattle.book.specs.Sets.{Callable}
+use Rattle.book.specs.Table.{tableIn, Admitted}
+use Rattle.book.specs.Sets.{Owns, Callable}
 use Rattle.ordering.specs.Adorn.{headBound}
 use Rattle.ordering.specs.Good.{firstGood}
 use Rattle.ordering.specs.Held.{orNone}
@@ -24,25 +23,28 @@ use Rattle.choices.specs.Plan.{Row, encQuery, encRow, planned}
 
 -- ---- what is lent
 
--- a book's predicates, clauses and query in the array, and its final table
-pub record Lent (B : Book) (preds clauses : ℕ) (rules table : List ℕ) : Type 0 where
+-- a book's predicates, clauses and query in the array, each predicate's own clauses, and the patterns that its final table admits
+pub record Lent (B : Book) (preds clauses : ℕ) (rules own table : List ℕ) : Type 0 where
   pub well : WellFormed B
   pub preds· : length (B .arities) ≡ preds
   pub few : clauses ≤ maxClauses
   pub clauses· : B .clauses ≡ clausesOf rules clauses
   pub query· : B .query ≡ clauseAt rules maxClauses .body
-  pub table· : tableIn table preds ≡ final B
+  pub owns : Owns rules clauses own
+  pub masks : List ℕ
+  pub final· : tableIn masks preds ≡ final B
+  pub admitted : Admitted masks table
 
 -- what is asked: there is such a book; and what is given, whatever that book is
-abbrev pub SomeLent : ℕ → ℕ → List ℕ → List ℕ → Type 0
-SomeLent preds clauses rules table = (B : Book) × Lent B preds clauses rules table
+abbrev pub SomeLent : ℕ → ℕ → List ℕ → List ℕ → List ℕ → Type 0
+SomeLent preds clauses rules own table = (B : Book) × Lent B preds clauses rules own table
 
-abbrev pub Gives : ℕ → ℕ → List ℕ → List ℕ → List ℕ → Reply → List ℕ → Type 0
-Gives preds clauses rules table out r after = (B : Book) → Lent B preds clauses rules table → Answers (planned B) out r after
+abbrev pub Gives : ℕ → ℕ → List ℕ → List ℕ → List ℕ → List ℕ → Reply → List ℕ → Type 0
+Gives preds clauses rules own table out r after = (B : Book) → Lent B preds clauses rules own table → Answers (planned B) out r after
 
 -- each predicate's clauses call predicates that there can be
 abbrev pub EachCallable : List ℕ → List ℕ → Type 0
-EachCallable rules own = (p : ℕ) → Callable rules (getD own p 0)
+EachCallable rules own = (p : ℕ) → p < maxPredicates → Callable rules (getD own p 0)
 
 -- ---- rows, of clauses in the array
 
@@ -76,4 +78,4 @@ rowsLength rules own = sumBelow (λ k. cond (bitAt own k) (5 + length (clauseAt 
 -- of the plan: those of each predicate, as often as it has patterns
 unfoldable pub planLength : ℕ → List ℕ → List ℕ → List ℕ → ℕ
 planLength preds rules own words =
-    3 + length (clauseAt rules maxClauses .body) + sumBelow (λ p. rowsLength rules (getD own p 0) * ones (getD words p 0)) preds
+    3 + length (clauseAt rules maxClauses .body) + sumBelow (λ p. rowsLength rules (getD own p 0) * length (members (getD words p 0))) preds

@@ -3,8 +3,8 @@ use book::clause::head_at;
 use book::clause::subgoals_at;
 use book::limits::MAX_CLAUSES;
 use book::limits::MAX_PREDICATES;
-use book::limits::MODES_SIZE;
 use book::limits::RULES_SIZE;
+use masks::constraint::count;
 use ordering::Order;
 use ordering::first_order;
 use ordering::head_bound;
@@ -16,12 +16,11 @@ ghost use mathlib.Core.Path.{_≡_};
 ghost use mathlib.Core.Bool.{true};
 ghost use mathlib.Core.List.{_∷_};
 ghost use Prim.Native.Nat.{_+_, _*_, _<_, _≤_};
-ghost use lib.Count.{ones};
 ghost use lib.ListN.{length};
-ghost use Rattle.masks.specs.Limits.{allPatterns};
 ghost use Rattle.book.specs.Limits.{maxPredicates, maxClauses, maxSubgoals};
 ghost use Rattle.book.specs.Held.{clauseAt};
-ghost use Rattle.book.specs.Sets.{callsBelow, Callable};
+ghost use Rattle.book.specs.Table.{Full};
+ghost use Rattle.book.specs.Sets.{callable, Callable};
 ghost use Rattle.ordering.specs.Held.{placesOf};
 ghost use Rattle.writing.specs.Wrote.{Room, Wrote};
 ghost use Rattle.choices.specs.Plan.{encQuery, encRow};
@@ -41,8 +40,10 @@ pub fn plan_length<'a>(
     let mut p: u8 = 0;
     while p < preds {
         let q = p as usize;
-        let patterns = members(reached[q]);
-        total += rows_length(rules, own[q]) * patterns;
+        if own[q] != 0 {
+            let patterns = count(reached[q]);
+            total += rows_length(rules, own[q]) * patterns;
+        }
         p += 1;
     }
     total
@@ -63,25 +64,17 @@ fn rows_length(rules: &[u64; RULES_SIZE], own: u64) -> usize
     total
 }
 
-// How many members a set has. A parameter's range is known to the proof, an element's of a lent array is not.
-fn members(set: u64) -> usize
-    ensures { λ r. ⌜ r ≡ ones set ⌝ }
-    ensures { λ r. ⌜ r ≤ allPatterns ⌝ }
-{
-    u64::count_ones(set) as usize
-}
-
 // "`QO`, n, n places; then for each reached predicate with clauses, ascending by predicate and then pattern", from the output's start.
 pub fn put_plan<'a>(
     out: &mut [u8],
     query: Order,
     preds: u8,
     rules: &'a [u64; RULES_SIZE],
-    table: &'a [u8; MODES_SIZE],
+    table: &'a [u64; MAX_PREDICATES],
     own: &'a [u64; MAX_PREDICATES],
     reached: &'a [u64; MAX_PREDICATES],
 ) -> usize
-    requires { ⌜ (preds ≤ maxPredicates) × EachCallable (now rules) (now own) × Room (now out) 0 (planBytes (placesOf query) preds (now rules) (now table) (now own) (now reached)) ⌝ }
+    requires { ⌜ (preds ≤ maxPredicates) × EachCallable (now rules) (now own) × Full (now table) × Room (now out) 0 (planBytes (placesOf query) preds (now rules) (now table) (now own) (now reached)) ⌝ }
     ensures { λ r. ⌜ Wrote (now (out .entry)) (now (out .exit)) 0 r (planBytes (placesOf query) preds (now (rules .entry)) (now (table .entry)) (now (own .entry)) (now (reached .entry))) ⌝ }
 {
     let mut at = put_query(out, query);
@@ -108,11 +101,11 @@ fn put_patterns<'a>(
     out: &mut [u8],
     at: usize,
     rules: &'a [u64; RULES_SIZE],
-    table: &'a [u8; MODES_SIZE],
+    table: &'a [u64; MAX_PREDICATES],
     own: u64,
     patterns: u64,
 ) -> usize
-    requires { ⌜ Callable (now rules) own × Room (now out) at (patternRows (now rules) (now table) own patterns) ⌝ }
+    requires { ⌜ Callable (now rules) own × Full (now table) × Room (now out) at (patternRows (now rules) (now table) own patterns) ⌝ }
     ensures { λ r. ⌜ Wrote (now (out .entry)) (now (out .exit)) at r (patternRows (now (rules .entry)) (now (table .entry)) own patterns) ⌝ }
 {
     let mut p = at;
@@ -130,11 +123,11 @@ fn put_clauses<'a>(
     out: &mut [u8],
     at: usize,
     rules: &'a [u64; RULES_SIZE],
-    table: &'a [u8; MODES_SIZE],
+    table: &'a [u64; MAX_PREDICATES],
     own: u64,
     a: u8,
 ) -> usize
-    requires { ⌜ Callable (now rules) own × Room (now out) at (clauseRows (now rules) (now table) own a) ⌝ }
+    requires { ⌜ Callable (now rules) own × Full (now table) × Room (now out) at (clauseRows (now rules) (now table) own a) ⌝ }
     ensures { λ r. ⌜ Wrote (now (out .entry)) (now (out .exit)) at r (clauseRows (now (rules .entry)) (now (table .entry)) own a) ⌝ }
 {
     let mut p = at;
@@ -152,11 +145,11 @@ fn put_row<'a>(
     out: &mut [u8],
     at: usize,
     rules: &'a [u64; RULES_SIZE],
-    table: &'a [u8; MODES_SIZE],
+    table: &'a [u64; MAX_PREDICATES],
     k: u8,
     a: u8,
 ) -> usize
-    requires { ⌜ (k < maxClauses) × (callsBelow maxPredicates (clauseAt (now rules) k .body) ≡ true) × Room (now out) at (encRow (rowBy (now rules) (now table) k a)) ⌝ }
+    requires { ⌜ (k < maxClauses) × (callable (clauseAt (now rules) k .body) ≡ true) × Full (now table) × Room (now out) at (encRow (rowBy (now rules) (now table) k a)) ⌝ }
     ensures { λ r. ⌜ Wrote (now (out .entry)) (now (out .exit)) at r (encRow (rowBy (now (rules .entry)) (now (table .entry)) k a)) ⌝ }
 {
     let i = k as usize;

@@ -3,13 +3,11 @@ pub mod image;
 
 use crate::image::plan_length;
 use crate::image::put_plan;
-use book::clause::own_clauses;
 use book::limits::MAX_CLAUSES;
 use book::limits::MAX_PREDICATES;
 use book::limits::MODES_SIZE;
 use book::limits::NO_CALL;
 use book::limits::RULES_SIZE;
-use book::limits::VARIABLES;
 use masks::reply::Reply;
 use needs::settle;
 use ordering::first_order;
@@ -31,33 +29,44 @@ pub fn plan(book: &[u8], out: &mut [u8]) -> Reply
     if b.reply.number != 0 {
         return b.reply;
     }
-    let d = settle(b.preds, &arities, &modes, b.clauses, &rules);
-    give(b.preds, b.clauses, &rules, &d.table.needs, out)
+    let mut own = [0u64; MAX_PREDICATES];
+    let mut table = [0u64; MAX_PREDICATES];
+    let mut admits = [0u64; MAX_PREDICATES];
+    settle(
+        b.preds,
+        &modes,
+        b.clauses,
+        &rules,
+        &mut own,
+        &mut table,
+        &mut admits,
+    );
+    give(b.preds, b.clauses, &rules, &own, &admits, out)
 }
 
-// The plan of a valid book with its final table: written from the output's start, or 7 where the query has no good order, or 9 where the output is
-// too short.
+// The plan of a valid book, by the patterns that its final table admits: written from the output's start, or 7 where the query has no good order, or 9
+// where the output is too short.
 fn give<'a>(
     preds: u8,
     clauses: u8,
     rules: &'a [u64; RULES_SIZE],
-    table: &'a [u8; MODES_SIZE],
+    own: &'a [u64; MAX_PREDICATES],
+    admits: &'a [u64; MAX_PREDICATES],
     out: &mut [u8],
 ) -> Reply
-    requires { ⌜ SomeLent preds clauses (now rules) (now table) ⌝ }
-    ensures { λ r. ⌜ Gives preds clauses (now (rules .entry)) (now (table .entry)) (now (out .entry)) r (now (out .exit)) ⌝ }
+    requires { ⌜ SomeLent preds clauses (now rules) (now own) (now admits) ⌝ }
+    ensures { λ r. ⌜ Gives preds clauses (now (rules .entry)) (now (own .entry)) (now (admits .entry)) (now (out .entry)) r (now (out .exit)) ⌝ }
 {
-    let nothing = [false; VARIABLES];
-    let query = first_order(rules, MAX_CLAUSES, table, nothing);
+    let query = first_order(rules, MAX_CLAUSES, admits, 0);
     if !query.found {
         return Reply::refused(7, 0);
     }
-    let own = own_clauses(clauses, rules);
-    let reached = reach(rules, table, &own, clauses);
-    let n = plan_length(preds, rules, &own, &reached);
+    let mut reached = [0u64; MAX_PREDICATES];
+    reach(rules, admits, own, clauses, query, &mut reached);
+    let n = plan_length(preds, rules, own, &reached);
     let r = Reply::in_room(n, 0, out.len());
     if r.number == 0 {
-        put_plan(out, query, preds, rules, table, &own, &reached);
+        put_plan(out, query, preds, rules, admits, own, &reached);
     }
     r
 }

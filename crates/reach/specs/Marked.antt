@@ -15,8 +15,9 @@ use Rattle.book.specs.Held.{clauseAt, clausesOf}
 use Rattle.book.specs.Table.{Table, tableIn}
 use Rattle.ordering.specs.Adorn.{Bound, nothing, headBound}
 use Rattle.ordering.specs.Good.{firstGood}
-use Rattle.ordering.specs.Asks.{Asked, asks, called}
-use Rattle.ordering.specs.Held.{orNone}
+use Rattle.ordering.specs.Asks.{Asked, asks, called, patternsIn}
+use Rattle.ordering.specs.Held.{orNone, orderOf, placesOf, patternsOf}
+use Rattle.ordering.specs.declared.Order.{Order}
 use Rattle.choices.specs.Choice.{clause, Choice, Reaches}
 
 -- pattern a of predicate p is marked
@@ -32,6 +33,18 @@ pub record Marked (before after : List ℕ) (names : ℕ) (calls : List Asked) :
 
 unfoldable pub callsBy : Table → List Call → Bound → List Asked
 callsBy T body b = asks body b (orNone (firstGood T body b))
+
+-- an order that is the body's first good one, with the pattern of each subgoal beside it
+pub record Found (T : Table) (body : List Call) (b : Bound) (o : Order) : Type 0 where
+  pub first : orderOf o ≡ firstGood T body b
+  pub beside : patternsOf o ≡ patternsIn body b (placesOf o)
+
+-- what is asked of an order: it is that, of some table and from something bound on; and what is given, whatever these are
+abbrev pub SomeFound : List Call → Order → Type 0
+SomeFound body o = (T : Table) × (b : Bound) × Found T body b o
+
+abbrev pub Marks : List Call → Order → List ℕ → List ℕ → ℕ → Type 0
+Marks body o before after names = (T : Table) (b : Bound) → Found T body b o → Marked before after names (callsBy T body b)
 
 -- of clause k of an array, under a head pattern
 abbrev pub clauseBy : List ℕ → List ℕ → ℕ → ℕ → List Asked

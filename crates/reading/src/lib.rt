@@ -1,22 +1,19 @@
 // Reading a book: every string of bytes is a book or has a first fault. Here are the public operation `check`, `read_book` for the crates above,
 // and the runs of records; single records, their bytes and their marks are in the crate `records`. One pass from the left: each
-// byte is looked at once, and the bytes of a mark where a run ends once more for each run that could go on there.
-use book::clause::Call;
-use book::clause::Clause;
-use book::clause::no_call;
-use book::clause::put_clause;
+// byte is looked at once, and the bytes of a mark where a run ends again by what judges that end and by the run that follows.
 use book::fault::Fault;
 use book::fault::number;
+use book::limits::CLAUSE_SIZE;
 use book::limits::MAX_CLAUSES;
 use book::limits::MAX_PREDICATES;
 use book::limits::MAX_SUBGOALS;
 use book::limits::MODES_SIZE;
-use book::limits::NO_CALL;
 use book::limits::RULES_SIZE;
 use book::mark::Phase;
-use book::mode::put_mode;
+use masks::constraint::with_member;
 use masks::reply::Reply;
 use records::field::Found;
+use records::field::put_word;
 use records::field::read_head;
 use records::field::read_mode;
 use records::field::read_predicate;
@@ -25,19 +22,21 @@ use records::turn::is_mark;
 use records::turn::run_end;
 ghost use mathlib.Core.Path.{_≡_};
 ghost use mathlib.Core.List.{[]};
-ghost use Prim.Native.Nat.{suc, _+_, _≤_};
+ghost use Prim.Native.Nat.{_+_, _≤_, _<_};
 ghost use lib.ListN.{length, take, drop};
-ghost use Rattle.book.specs.Limits.{maxPredicates, maxClauses, maxSubgoals};
+ghost use Rattle.book.specs.Limits.{maxPredicates, maxClauses};
 ghost use Rattle.book.specs.Format as format;
-ghost use Rattle.book.specs.Held.{callOf, clauseOf, clauseAt, clausesOf, StoredClause, modesOf, bookIn};
-ghost use Rattle.records.specs.Found.{Reads, Arities};
-ghost use Rattle.reading.specs.Judged.{NoModes, Bodied, Listed, checked, AnswerTo, BookRead};
+ghost use Rattle.records.specs.Found.{Reads, Arities, stops};
+ghost use Rattle.reading.specs.Judged.{NoModes, Listed, checked, AnswerTo, Judges, BookRead};
+ghost use Rattle.reading.specs.Stored.{Ends, ReadsModes, ReadsBody, ReadsClause, ReadsClauses, ReadsQuery, ReadsRules, ReadsBook};
 
-// What reading a book comes to: what the check answers, and how many predicates and clauses the book has where that is 0.
+// What reading a book comes to: what the check answers; and where that is 0, how many predicates and clauses the book has, and the set of the predicates
+// that have `MO`.
 pub struct Reading {
     pub reply: Reply,
     pub preds: u8,
     pub clauses: u8,
+    pub with_mode: u64,
 }
 
 // A run of records, where one was found: how many there are.
@@ -46,20 +45,34 @@ pub struct FoundRun {
     pub n: usize,
 }
 
-// A clause, where one was found.
-pub struct FoundClause {
+// The run of modes, where one was found: the set of the predicates that have one.
+pub struct FoundModes {
     pub found: Found,
-    pub clause: Clause,
+    pub with_mode: u64,
+}
+
+// What follows the predicates, where it was found: how many clauses there are, and the set of the predicates that have `MO`.
+pub struct FoundRules {
+    pub found: Found,
+    pub n: usize,
+    pub with_mode: u64,
 }
 
 // "The check writes nothing and answers a valid book with 0 and the value 0."
 pub fn check(s: &[u8]) -> Reply
     ensures { λ r. ⌜ r ≡ checked (format.judge (now (s .entry))) ⌝ }
 {
+    read_only(s).reply
+}
+
+// What reading comes to where nothing is stored: no room is lent for modes and clauses.
+pub fn read_only(s: &[u8]) -> Reading
+    ensures { λ r. ⌜ Judges (now (s .entry)) r ⌝ }
+{
     let mut arities = [0u8; MAX_PREDICATES];
-    let mut modes = [0u8; MODES_SIZE];
-    let mut rules = [NO_CALL; RULES_SIZE];
-    read_book(s, &mut arities, &mut modes, &mut rules).reply
+    let mut modes = [0u8; 1];
+    let mut rules = [0u64; 1];
+    read_into(s, &mut arities, &mut modes, &mut rules)
 }
 
 // The book that the bytes are, or the reply with their first fault. The book is then in the arrays lent, whose modes must be none.
@@ -72,6 +85,21 @@ pub fn read_book(
     requires { ⌜ NoModes (now modes) ⌝ }
     ensures { λ r. ⌜ BookRead (now (s .entry)) r (now (arities .exit)) (now (modes .exit)) (now (rules .exit)) ⌝ }
 {
+    let bytes: &mut [u8] = modes;
+    let words: &mut [u64] = rules;
+    read_into(s, arities, bytes, words)
+}
+
+// The same, where there may be no room for modes and clauses: what has none is judged and not stored.
+fn read_into(
+    s: &[u8],
+    arities: &mut [u8; MAX_PREDICATES],
+    modes: &mut [u8],
+    rules: &mut [u64],
+) -> Reading
+    requires { ⌜ NoModes (now modes) ⌝ }
+    ensures { λ r. ⌜ ReadsBook (now (s .entry)) r (now (modes .entry)) (now (rules .entry)) (now (arities .exit)) (now (modes .exit)) (now (rules .exit)) ⌝ }
+{
     let p = read_predicates(s, arities);
     let preds = p.n as u8;
     let g = p.found;
@@ -80,6 +108,7 @@ pub fn read_book(
             reply: answer(g),
             preds,
             clauses: 0,
+            with_mode: 0,
         };
     };
     let r = read_rules(s, arities, preds, at, modes, rules);
@@ -89,6 +118,7 @@ pub fn read_book(
         reply: answer(found),
         preds,
         clauses,
+        with_mode: r.with_mode,
     }
 }
 
@@ -106,33 +136,45 @@ fn answer(g: Found) -> Reply
     }
 }
 
-// What follows the predicates: the modes, the clauses and the query; how many clauses there are.
+// What follows the predicates: the modes, the clauses and the query.
 fn read_rules<'a>(
     s: &'a [u8],
     arities: &'a [u8; MAX_PREDICATES],
     preds: u8,
     from: usize,
-    modes: &mut [u8; MODES_SIZE],
-    rules: &mut [u64; RULES_SIZE],
-) -> FoundRun
+    modes: &mut [u8],
+    rules: &mut [u64],
+) -> FoundRules
     requires { ⌜ (from ≤ length (now s)) × (preds ≤ maxPredicates) × Arities (take preds (now arities)) × NoModes (now modes) ⌝ }
-    ensures { λ r. ⌜ Reads (now (s .entry)) (r .found) (λ _. bookIn preds (now (arities .entry)) (now (modes .exit)) (r .n) (now (rules .exit))) (format.rules (take preds (now (arities .entry))) (drop from (now (s .entry)))) ⌝ }
-    ensures { λ r. ⌜ r .n ≤ maxClauses ⌝ }
+    ensures { λ r. ⌜ ReadsRules preds (now (arities .entry)) (now (s .entry)) from r (now (modes .entry)) (now (rules .entry)) (now (modes .exit)) (now (rules .exit)) ⌝ }
 {
     let bytes: &[u8] = arities;
     let n = preds as usize;
     let ar = &bytes[..n];
     let m = read_modes(s, ar, from, modes);
-    let Found::Next(at, _) = m else {
-        return FoundRun { found: m, n: 0 };
+    let f = m.found;
+    let Found::Next(at, _) = f else {
+        return FoundRules {
+            found: f,
+            n: 0,
+            with_mode: 0,
+        };
     };
-    let c = read_clauses(s, ar, modes, at, rules);
+    let c = read_clauses(s, ar, m.with_mode, at, rules);
     let g = c.found;
     let Found::Next(end, _) = g else {
-        return c;
+        return FoundRules {
+            found: g,
+            n: c.n,
+            with_mode: m.with_mode,
+        };
     };
     let found = read_query(s, ar, end, rules);
-    FoundRun { found, n: c.n }
+    FoundRules {
+        found,
+        n: c.n,
+        with_mode: m.with_mode,
+    }
 }
 
 // "all `PR`": how many there are, and their arities.
@@ -162,46 +204,45 @@ fn read_predicates(s: &[u8], arities: &mut [u8; MAX_PREDICATES]) -> FoundRun
         }
     }
     FoundRun {
-        found: run_end(s, at, Phase::Predicates),
+        found: ended(s, at, Phase::Predicates, b"MO"),
         n,
     }
 }
 
 // "then all `MO`", into modes that are none yet.
-fn read_modes(s: &[u8], ar: &[u8], from: usize, modes: &mut [u8; MODES_SIZE]) -> Found
+fn read_modes(s: &[u8], ar: &[u8], from: usize, modes: &mut [u8]) -> FoundModes
     requires { ⌜ (from ≤ length (now s)) × Arities (now ar) × NoModes (now modes) ⌝ }
-    ensures { λ r. ⌜ Reads (now (s .entry)) r (λ _. modesOf (now (modes .exit)) maxPredicates) (format.many Phase.Modes (format.mode (now (ar .entry))) (suc maxPredicates) [] (drop from (now (s .entry)))) ⌝ }
+    ensures { λ r. ⌜ ReadsModes (now (ar .entry)) (now (s .entry)) from r (now (modes .entry)) (now (modes .exit)) ⌝ }
 {
     let mut at = from;
     let mut low: u8 = 0;
+    let mut with_mode: u64 = 0;
     while is_mark(s, at, b"MO") {
-        let r = read_mode(s, ar, low, at);
-        let g = r.found;
-        let masks = r.masks;
+        let g = read_mode(s, ar, low, at, modes);
         match g {
             Found::Bad(_, _) => {
-                return g;
+                return FoundModes {
+                    found: g,
+                    with_mode,
+                };
             }
             Found::Next(next, pred) => {
-                put_mode(modes, pred, masks);
+                with_mode = with_member(with_mode, pred);
                 low = pred + 1;
                 at = next;
             }
         }
     }
-    run_end(s, at, Phase::Modes)
+    FoundModes {
+        found: ended(s, at, Phase::Modes, b"CL"),
+        with_mode,
+    }
 }
 
 // "then clauses": how many there are, stored from the start of the rules.
-fn read_clauses(
-    s: &[u8],
-    ar: &[u8],
-    modes: &[u8; MODES_SIZE],
-    from: usize,
-    rules: &mut [u64; RULES_SIZE],
-) -> FoundRun
+fn read_clauses(s: &[u8], ar: &[u8], with_mode: u64, from: usize, rules: &mut [u64]) -> FoundRun
     requires { ⌜ (from ≤ length (now s)) × Arities (now ar) ⌝ }
-    ensures { λ r. ⌜ Reads (now (s .entry)) (r .found) (λ _. clausesOf (now (rules .exit)) (r .n)) (format.many Phase.Clauses (format.clause (now (ar .entry)) (modesOf (now (modes .entry)) maxPredicates)) maxClauses [] (drop from (now (s .entry)))) × (r .n ≤ maxClauses) ⌝ }
+    ensures { λ r. ⌜ ReadsClauses (now (ar .entry)) (now (s .entry)) «with_mode» from r (now (rules .entry)) (now (rules .exit)) ⌝ }
 {
     let mut at = from;
     let mut n: usize = 0;
@@ -212,100 +253,91 @@ fn read_clauses(
                 n,
             };
         }
-        let r = read_clause(s, ar, modes, at);
-        let g = r.found;
-        let clause = r.clause;
+        let g = read_clause(s, ar, with_mode, at, rules, n);
         match g {
             Found::Bad(_, _) => {
                 return FoundRun { found: g, n };
             }
             Found::Next(next, _) => {
-                put_clause(rules, n, clause);
                 n += 1;
                 at = next;
             }
         }
     }
     FoundRun {
-        found: run_end(s, at, Phase::Clauses),
+        found: ended(s, at, Phase::Clauses, b"QU"),
         n,
     }
 }
 
-// The clause whose record is at a place, with its subgoals.
-fn read_clause(s: &[u8], ar: &[u8], modes: &[u8; MODES_SIZE], at: usize) -> FoundClause
-    requires { ⌜ (at + 2 ≤ length (now s)) × Arities (now ar) ⌝ }
-    ensures { λ r. ⌜ Reads (now (s .entry)) (r .found) (λ _. clauseOf (r .clause)) (format.clause (now (ar .entry)) (modesOf (now (modes .entry)) maxPredicates) [] (drop at (now (s .entry)))) ⌝ }
+// The clause whose record is at a place, stored as clause k.
+fn read_clause(s: &[u8], ar: &[u8], with_mode: u64, at: usize, rules: &mut [u64], k: usize) -> Found
+    requires { ⌜ (at + 2 ≤ length (now s)) × Arities (now ar) × (k < maxClauses) ⌝ }
+    ensures { λ r. ⌜ ReadsClause (now (ar .entry)) (now (s .entry)) «with_mode» at k r (now (rules .entry)) (now (rules .exit)) ⌝ }
 {
-    let h = read_head(s, ar, modes, at);
+    let h = read_head(s, ar, with_mode, at);
     let g = h.found;
-    let head = h.call;
     match g {
-        Found::Bad(_, _) => no_clause(g, head),
-        Found::Next(next, _) => read_body(s, ar, next, Phase::Body, head),
+        Found::Bad(_, _) => g,
+        Found::Next(next, _) => {
+            put_word(rules, k * CLAUSE_SIZE + 1, h.call);
+            let b = read_body(s, ar, next, rules, k);
+            match b {
+                Found::Bad(_, _) => b,
+                Found::Next(end, _) => ended(s, end, Phase::Body, b"CL"),
+            }
+        }
     }
 }
 
-// The query whose record is at a place, stored behind the room of the clauses as a clause whose head says nothing.
-fn read_query<'a>(s: &'a [u8], ar: &'a [u8], at: usize, rules: &mut [u64; RULES_SIZE]) -> Found
+// The query whose record is at a place, stored behind the room of the clauses as the body of a clause whose head says nothing.
+fn read_query<'a>(s: &'a [u8], ar: &'a [u8], at: usize, rules: &mut [u64]) -> Found
     requires { ⌜ (at + 2 ≤ length (now s)) × Arities (now ar) ⌝ }
-    ensures { λ r. ⌜ Reads (now (s .entry)) r (λ _. clauseAt (now (rules .exit)) maxClauses .body) (format.query (now (ar .entry)) (drop at (now (s .entry)))) ⌝ }
-    ensures { λ r. ⌜ StoredClause (now (rules .entry)) (now (rules .exit)) maxClauses (clauseAt (now (rules .exit)) maxClauses) ⌝ }
+    ensures { λ r. ⌜ ReadsQuery (now (ar .entry)) (now (s .entry)) at r (now (rules .entry)) (now (rules .exit)) ⌝ }
 {
-    let q = read_body(s, ar, at + 2, Phase::Query, no_call());
-    let query = q.clause;
-    put_clause(rules, MAX_CLAUSES, query);
-    q.found
+    let b = read_body(s, ar, at + 2, rules, MAX_CLAUSES);
+    match b {
+        Found::Bad(_, _) => b,
+        Found::Next(end, _) => run_end(s, end, Phase::Query),
+    }
 }
 
-// The subgoals of a clause or of the query, from a place on, as a clause with this head.
-fn read_body(s: &[u8], ar: &[u8], from: usize, phase: Phase, head: Call) -> FoundClause
-    requires { ⌜ (from ≤ length (now s)) × Arities (now ar) × Bodied phase ⌝ }
-    ensures { λ r. ⌜ Reads (now (s .entry)) (r .found) (λ _. clauseOf (r .clause) .body) (format.many phase (format.subgoal (now (ar .entry))) maxSubgoals [] (drop from (now (s .entry)))) × (callOf (r .clause .head) ≡ callOf head) ⌝ }
+// The subgoals of a clause or of the query, from a place on, stored as those of clause k. What stands behind them is not judged here.
+fn read_body(s: &[u8], ar: &[u8], from: usize, rules: &mut [u64], k: usize) -> Found
+    requires { ⌜ (from ≤ length (now s)) × Arities (now ar) × (k ≤ maxClauses) ⌝ }
+    ensures { λ r. ⌜ ReadsBody (now (ar .entry)) (now (s .entry)) from k r (now (rules .entry)) (now (rules .exit)) ⌝ }
 {
-    let none = no_call();
-    let mut body = [none; MAX_SUBGOALS];
+    let base = k * CLAUSE_SIZE;
     let mut at = from;
     let mut n: usize = 0;
     while is_mark(s, at, b"SG") {
         if MAX_SUBGOALS <= n {
-            return no_clause(Found::Bad(Fault::TooMany, at), head);
+            return Found::Bad(Fault::TooMany, at);
         }
         let r = read_subgoal(s, ar, at);
         let g = r.found;
-        let call = r.call;
         match g {
             Found::Bad(_, _) => {
-                return no_clause(g, head);
+                return g;
             }
             Found::Next(next, _) => {
-                body[n] = call;
+                put_word(rules, base + 2 + n, r.call);
                 n += 1;
                 at = next;
             }
         }
     }
-    let count = n as u8;
-    FoundClause {
-        found: run_end(s, at, phase),
-        clause: Clause {
-            n: count,
-            head,
-            body,
-        },
-    }
+    put_word(rules, base, n as u64);
+    Found::Next(at, 0)
 }
 
-// What was found where a clause with this head has a fault; the clause has no subgoals.
-fn no_clause(g: Found, head: Call) -> FoundClause
-    ensures { λ r. ⌜ (r .found ≡ g) × (callOf (r .clause .head) ≡ callOf head) ⌝ }
+// What comes of a run where none of its records follows. Mostly it is a mark that ends it, which is tried first.
+fn ended(s: &[u8], at: usize, p: Phase, next: &[u8; 2]) -> Found
+    requires { ⌜ (at ≤ length (now s)) × Ends p (now next) ⌝ }
+    ensures { λ r. ⌜ Reads (now (s .entry)) r (λ k. k) (stops p 0 (drop at (now (s .entry)))) ⌝ }
 {
-    FoundClause {
-        found: g,
-        clause: Clause {
-            n: 0,
-            head,
-            body: [head; MAX_SUBGOALS],
-        },
+    if is_mark(s, at, next) {
+        return Found::Next(at, 0);
     }
+    run_end(s, at, p)
 }

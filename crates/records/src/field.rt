@@ -1,28 +1,26 @@
-// The fields of records, byte by byte from the left, and the records that are not runs of others: a predicate, a mode, a subgoal, a head.
-use book::clause::Call;
+// The fields of records, byte by byte from the left, and the records that are not runs of others: a predicate, a mode, a subgoal, a head. A call is read into
+// the word that holds it, and a mode into the array that is lent for all.
 use book::fault::Fault;
 use book::limits::LAST_VARIABLE;
 use book::limits::LITERAL;
-use book::limits::MODES_SIZE;
+use book::limits::MODE_SIZE;
 use book::limits::WILDCARD;
-use book::mode::has_mode;
 use book::range::Range;
-use masks::constraint::Constraint;
+use masks::constraint::has_member;
 use masks::constraint::patterns;
-use masks::limits::MAX_ARGUMENTS;
 use masks::limits::MAX_ARITY;
 use masks::limits::MAX_MASKS;
 ghost use mathlib.Core.Path.{_≡_};
 ghost use mathlib.Core.Bool.{_||_};
 ghost use mathlib.Core.List.{[]};
-ghost use Prim.Native.Nat.{_+_, _≤_};
+ghost use Prim.Native.Nat.{_+_, _*_, _^_, _≤_, _<_};
 ghost use lib.Dec.{leb};
-ghost use lib.ListN.{length, take, drop};
-ghost use Rattle.masks.specs.Held.{masksOf};
-ghost use Rattle.book.specs.Limits.{maxPredicates};
-ghost use Rattle.book.specs.Format.{allows, byte, bytes, inRecord, predicate, call, subgoal, headFields, masks, modeFields};
-ghost use Rattle.book.specs.Held.{callOf, modesOf};
+ghost use lib.ListN.{length, drop, set};
+ghost use Rattle.masks.specs.Limits.{maxArity};
+ghost use Rattle.book.specs.Format.{allows, byte, bytes, inRecord, predicate, call, subgoal, masks, modeFields};
+ghost use Rattle.book.specs.Held.{callIn};
 ghost use Rattle.records.specs.Found.{Reads, recorded, Arities};
+ghost use Rattle.records.specs.Stored.{argumentFrom, arguments, ReadsCall, ReadsHead, ReadsBytes, ReadsMasks, ReadsMode};
 
 // What reading comes to: the place after what was read and, where that is a byte, the byte, or a fault and its place. Whatever is counted or larger
 // stands beside it.
@@ -31,16 +29,10 @@ pub enum Found {
     Bad(Fault, usize),
 }
 
-// A call, where one was found.
+// The word of a call, where one was found.
 pub struct FoundCall {
     pub found: Found,
-    pub call: Call,
-}
-
-// Masks, where they were found.
-pub struct FoundMasks {
-    pub found: Found,
-    pub masks: Constraint,
+    pub call: u64,
 }
 
 // The predicate whose record is at a place: its arity.
@@ -51,121 +43,29 @@ pub fn read_predicate(s: &[u8], at: usize) -> Found
     in_record(read_byte(s, at + 2, Range::AtMost(MAX_ARITY)), at)
 }
 
-// The mode whose record is at a place, for a predicate not below low: its predicate and its masks.
-pub fn read_mode(s: &[u8], ar: &[u8], low: u8, at: usize) -> FoundMasks
+// The mode whose record is at a place, for a predicate not below low, stored where the modes have room: its predicate.
+pub fn read_mode(s: &[u8], ar: &[u8], low: u8, at: usize, modes: &mut [u8]) -> Found
     requires { ⌜ (at + 2 ≤ length (now s)) × Arities (now ar) ⌝ }
-    ensures { λ r. ⌜ Reads (now (s .entry)) (r .found) (λ p. record { pred = p; masks = masksOf (r .masks) }) (inRecord (drop at (now (s .entry))) (modeFields (now (ar .entry)) low (drop 2 (drop at (now (s .entry)))))) ⌝ }
+    ensures { λ r. ⌜ ReadsMode (now (s .entry)) r (now (modes .entry)) (now (modes .exit)) (inRecord (drop at (now (s .entry))) (modeFields (now (ar .entry)) low (drop 2 (drop at (now (s .entry)))))) ⌝ }
 {
-    let r = read_alternatives(s, ar, low, at + 2);
-    let g = r.found;
-    let masks = r.masks;
-    FoundMasks {
-        found: in_record(g, at),
-        masks,
-    }
+    in_record(read_alternatives(s, ar, low, at + 2, modes), at)
 }
 
-// The head of the clause whose record is at a place.
-pub fn read_head(s: &[u8], ar: &[u8], modes: &[u8; MODES_SIZE], at: usize) -> FoundCall
+// The head of the clause whose record is at a place: "6: `CL` for a predicate that has `MO`", tried last. The set has those predicates.
+pub fn read_head(s: &[u8], ar: &[u8], with_mode: u64, at: usize) -> FoundCall
     requires { ⌜ (at + 2 ≤ length (now s)) × Arities (now ar) ⌝ }
-    ensures { λ r. ⌜ Reads (now (s .entry)) (r .found) (λ _. callOf (r .call)) (inRecord (drop at (now (s .entry))) (headFields (now (ar .entry)) (modesOf (now (modes .entry)) maxPredicates) (drop 2 (drop at (now (s .entry)))))) ⌝ }
+    ensures { λ r. ⌜ ReadsHead (now (ar .entry)) (now (s .entry)) «with_mode» at r ⌝ }
 {
-    let r = read_owner(s, ar, modes, at + 2);
+    let r = read_call(s, ar, at + 2, LITERAL);
     let g = r.found;
     let call = r.call;
-    FoundCall {
-        found: in_record(g, at),
-        call,
-    }
-}
-
-// The subgoal whose record is at a place.
-pub fn read_subgoal(s: &[u8], ar: &[u8], at: usize) -> FoundCall
-    requires { ⌜ (at + 2 ≤ length (now s)) × Arities (now ar) ⌝ }
-    ensures { λ r. ⌜ Reads (now (s .entry)) (r .found) (λ _. callOf (r .call)) (subgoal (now (ar .entry)) [] (drop at (now (s .entry)))) ⌝ }
-{
-    let r = read_call(s, ar, at + 2, Range::Argument);
-    let g = r.found;
-    let call = r.call;
-    FoundCall {
-        found: in_record(g, at),
-        call,
-    }
-}
-
-// The predicate of a mode and its masks: "6: `MO` not rising", tried last.
-fn read_alternatives(s: &[u8], ar: &[u8], low: u8, at: usize) -> FoundMasks
-    requires { ⌜ (at ≤ length (now s)) × Arities (now ar) ⌝ }
-    ensures { λ r. ⌜ Reads (now (s .entry)) (r .found) (λ p. record { pred = p; masks = masksOf (r .masks) }) (modeFields (now (ar .entry)) low (drop at (now (s .entry)))) ⌝ }
-{
-    let g = read_byte(s, at, Range::Below(ar.len() as u8));
     match g {
-        Found::Bad(_, _) => FoundMasks {
-            found: g,
-            masks: Constraint {
-                n: 0,
-                masks: [0u8; MAX_MASKS],
-            },
+        Found::Bad(_, _) => FoundCall {
+            found: in_record(g, at),
+            call,
         },
-        Found::Next(next, pred) => {
-            let arity = ar[pred as usize];
-            let r = read_masks(s, next, patterns(arity));
-            let h = r.found;
-            let masks = r.masks;
-            match h {
-                Found::Bad(_, _) => r,
-                Found::Next(end, _) => {
-                    if pred < low {
-                        return FoundMasks {
-                            found: Found::Bad(Fault::Clash, at),
-                            masks,
-                        };
-                    }
-                    FoundMasks {
-                        found: Found::Next(end, pred),
-                        masks,
-                    }
-                }
-            }
-        }
-    }
-}
-
-// "n, n masks", each one of so many patterns.
-fn read_masks(s: &[u8], at: usize, patterns: u8) -> FoundMasks
-    requires { ⌜ at ≤ length (now s) ⌝ }
-    ensures { λ r. ⌜ Reads (now (s .entry)) (r .found) (λ _. masksOf (r .masks)) (masks patterns (drop at (now (s .entry)))) ⌝ }
-{
-    let mut masks = [0u8; MAX_MASKS];
-    let most = MAX_MASKS as u8;
-    let g = read_byte(s, at, Range::AtMost(most));
-    match g {
-        Found::Bad(_, _) => FoundMasks {
-            found: g,
-            masks: Constraint { n: 0, masks },
-        },
-        Found::Next(next, n) => {
-            let found = read_bytes(s, next, n, Range::Below(patterns), &mut masks);
-            FoundMasks {
-                found,
-                masks: Constraint { n, masks },
-            }
-        }
-    }
-}
-
-// The predicate of a clause and its arguments: "6: `CL` for a predicate that has `MO`", tried last.
-fn read_owner(s: &[u8], ar: &[u8], modes: &[u8; MODES_SIZE], at: usize) -> FoundCall
-    requires { ⌜ (at ≤ length (now s)) × Arities (now ar) ⌝ }
-    ensures { λ r. ⌜ Reads (now (s .entry)) (r .found) (λ _. callOf (r .call)) (headFields (now (ar .entry)) (modesOf (now (modes .entry)) maxPredicates) (drop at (now (s .entry)))) ⌝ }
-{
-    let r = read_call(s, ar, at, Range::NoWildcard);
-    let g = r.found;
-    let call = r.call;
-    match g {
-        Found::Bad(_, _) => r,
-        Found::Next(_, _) => {
-            if has_mode(modes, call.pred) {
+        Found::Next(_, pred) => {
+            if has_member(with_mode, pred) {
                 return FoundCall {
                     found: Found::Bad(Fault::Clash, at),
                     call,
@@ -176,31 +76,114 @@ fn read_owner(s: &[u8], ar: &[u8], modes: &[u8; MODES_SIZE], at: usize) -> Found
     }
 }
 
-// A predicate and as many arguments as its arity.
-fn read_call(s: &[u8], ar: &[u8], at: usize, range: Range) -> FoundCall
-    requires { ⌜ (at ≤ length (now s)) × Arities (now ar) ⌝ }
-    ensures { λ r. ⌜ Reads (now (s .entry)) (r .found) (λ _. callOf (r .call)) (call range (now (ar .entry)) (drop at (now (s .entry)))) ⌝ }
+// The subgoal whose record is at a place.
+pub fn read_subgoal(s: &[u8], ar: &[u8], at: usize) -> FoundCall
+    requires { ⌜ (at + 2 ≤ length (now s)) × Arities (now ar) ⌝ }
+    ensures { λ r. ⌜ Reads (now (s .entry)) (r .found) (λ _. callIn (r .call)) (subgoal (now (ar .entry)) [] (drop at (now (s .entry)))) ⌝ }
 {
-    let mut args = [0u8; MAX_ARGUMENTS];
+    let r = read_call(s, ar, at + 2, WILDCARD);
+    let g = r.found;
+    let call = r.call;
+    FoundCall {
+        found: in_record(g, at),
+        call,
+    }
+}
+
+// The predicate of a mode and its masks: "6: `MO` not rising", tried last.
+fn read_alternatives(s: &[u8], ar: &[u8], low: u8, at: usize, modes: &mut [u8]) -> Found
+    requires { ⌜ (at ≤ length (now s)) × Arities (now ar) ⌝ }
+    ensures { λ r. ⌜ ReadsMode (now (s .entry)) r (now (modes .entry)) (now (modes .exit)) (modeFields (now (ar .entry)) low (drop at (now (s .entry)))) ⌝ }
+{
     let g = read_byte(s, at, Range::Below(ar.len() as u8));
     match g {
-        Found::Bad(_, _) => FoundCall {
-            found: g,
-            call: Call {
-                pred: 0,
-                n: 0,
-                args,
-            },
-        },
+        Found::Bad(_, _) => g,
         Found::Next(next, pred) => {
-            let n = ar[pred as usize];
-            let found = read_bytes(s, next, n, range, &mut args);
-            FoundCall {
-                found,
-                call: Call { pred, n, args },
+            let arity = ar[pred as usize];
+            let h = read_masks(s, next, patterns(arity), pred, modes);
+            match h {
+                Found::Bad(_, _) => h,
+                Found::Next(end, _) => {
+                    if pred < low {
+                        return Found::Bad(Fault::Clash, at);
+                    }
+                    Found::Next(end, pred)
+                }
             }
         }
     }
+}
+
+// "n, n masks", each one of so many patterns, stored as the mode of predicate p.
+fn read_masks(s: &[u8], at: usize, patterns: u8, p: u8, modes: &mut [u8]) -> Found
+    requires { ⌜ at ≤ length (now s) ⌝ }
+    ensures { λ r. ⌜ ReadsMasks (now (s .entry)) r p (now (modes .entry)) (now (modes .exit)) (masks patterns (drop at (now (s .entry)))) ⌝ }
+{
+    let most = MAX_MASKS as u8;
+    let g = read_byte(s, at, Range::AtMost(most));
+    match g {
+        Found::Bad(_, _) => g,
+        Found::Next(next, n) => {
+            let start = p as usize * MODE_SIZE;
+            put_byte(modes, start, 1);
+            put_byte(modes, start + 1, n);
+            read_bytes(s, next, n, Range::Below(patterns), modes, start + 2)
+        }
+    }
+}
+
+// A predicate and as many arguments as its arity, each a variable or a byte from the least one on.
+fn read_call(s: &[u8], ar: &[u8], at: usize, least: u8) -> FoundCall
+    requires { ⌜ (at ≤ length (now s)) × Arities (now ar) × (254 ≤ least) ⌝ }
+    ensures { λ r. ⌜ ReadsCall (now (s .entry)) r (call (argumentFrom least) (now (ar .entry)) (drop at (now (s .entry)))) ⌝ }
+{
+    let g = read_byte(s, at, Range::Below(ar.len() as u8));
+    match g {
+        Found::Bad(_, _) => FoundCall { found: g, call: 0 },
+        Found::Next(next, pred) => read_args(s, next, pred, ar[pred as usize], least),
+    }
+}
+
+// The n arguments of a call of a predicate. The word of the call has them from its low end on, above the predicate and n.
+fn read_args(s: &[u8], from: usize, pred: u8, n: u8, least: u8) -> FoundCall
+    requires { ⌜ (from ≤ length (now s)) × (n ≤ maxArity) × (254 ≤ least) ⌝ }
+    ensures { λ r. ⌜ ReadsCall (now (s .entry)) r (arguments (argumentFrom least) pred n (drop from (now (s .entry)))) ⌝ }
+{
+    let mut call = n as u64 * 256 + pred as u64;
+    let mut at = from;
+    let mut shift: u32 = 16;
+    let mut i: u8 = 0;
+    while i < n {
+        if s.len() <= at {
+            return FoundCall {
+                found: Found::Bad(Fault::PastEnd, at),
+                call,
+            };
+        }
+        let x = s[at];
+        if !is_argument(x, least) {
+            return FoundCall {
+                found: Found::Bad(Fault::OutOfRange, at),
+                call,
+            };
+        }
+        call = with_byte(call, shift, x);
+        shift += 8;
+        i += 1;
+        at += 1;
+    }
+    FoundCall {
+        found: Found::Next(at, pred),
+        call,
+    }
+}
+
+// A word that has no bits from a place on, with a byte there.
+fn with_byte(w: u64, shift: u32, x: u8) -> u64
+    requires { ⌜ (shift ≤ 56) × (w < 2 ^ shift) ⌝ }
+    ensures { λ r. ⌜ r ≡ w + x * 2 ^ shift ⌝ }
+{
+    w + ((x as u64) << shift)
 }
 
 // "offset of the record": the place of a fault in the record at a place.
@@ -213,10 +196,10 @@ fn in_record(g: Found, at: usize) -> Found
     }
 }
 
-// k bytes, stored from the start of the output.
-fn read_bytes(s: &[u8], from: usize, k: u8, range: Range, out: &mut [u8]) -> Found
-    requires { ⌜ (from ≤ length (now s)) × (k ≤ length (now out)) ⌝ }
-    ensures { λ r. ⌜ Reads (now (s .entry)) r (λ _. take k (now (out .exit))) (bytes range k [] (drop from (now (s .entry)))) ⌝ }
+// k bytes, stored from a place on where there is room.
+fn read_bytes(s: &[u8], from: usize, k: u8, range: Range, out: &mut [u8], start: usize) -> Found
+    requires { ⌜ (from ≤ length (now s)) × (start + k < 2 ^ 64) ⌝ }
+    ensures { λ r. ⌜ ReadsBytes (now (s .entry)) r start (now (out .entry)) (now (out .exit)) (bytes range k [] (drop from (now (s .entry)))) ⌝ }
 {
     let n = k as usize;
     let mut at = from;
@@ -228,13 +211,31 @@ fn read_bytes(s: &[u8], from: usize, k: u8, range: Range, out: &mut [u8]) -> Fou
                 return g;
             }
             Found::Next(next, x) => {
-                out[i] = x;
+                put_byte(out, start + i, x);
                 i += 1;
                 at = next;
             }
         }
     }
     Found::Next(at, 0)
+}
+
+// Stores a byte, where there is room for it.
+fn put_byte(out: &mut [u8], at: usize, x: u8)
+    ensures { λ _. ⌜ now (out .exit) ≡ set (now (out .entry)) at x ⌝ }
+{
+    if at < out.len() {
+        out[at] = x;
+    }
+}
+
+// Stores a word, where there is room for it.
+pub fn put_word(out: &mut [u64], at: usize, x: u64)
+    ensures { λ _. ⌜ now (out .exit) ≡ set (now (out .entry)) at x ⌝ }
+{
+    if at < out.len() {
+        out[at] = x;
+    }
 }
 
 // A byte: "present (1) before in range (4)".

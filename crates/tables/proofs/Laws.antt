@@ -5,6 +5,7 @@ pub mod Modes
 pub mod Valid
 pub mod Own
 pub mod Round
+pub mod Full
 pub mod Rounds
 pub mod Image
 pub mod Held

@@ -1,99 +1,93 @@
 // Tables: a constraint for each predicate of a book. Here are table 0 and the image of a table, and in `specs/` and `proofs/Laws` the definition of
-// the rounds and what is known of them; a round itself is in the crate `needs`.
+// the rounds and what is known of them; a round itself is in the crate `needs`. A table is held in two arrays of 64 words: in one the masks of each
+// constraint, in the other the patterns that it admits.
+use book::limits::MAX_PREDICATES;
 use book::limits::MODES_SIZE;
 use book::mode::has_mode;
-use book::mode::mode_at;
-use book::mode::put_mode;
-use book::table::Table;
-use masks::constraint::Constraint;
+use book::mode::masks_at;
 use masks::constraint::count;
 use masks::constraint::minimised;
-use masks::limits::MAX_MASKS;
+use masks::patterns::ALL;
+use masks::patterns::admitted;
 use writing::put::put_constraint;
 use writing::put::put_mark;
 ghost use mathlib.Core.Path.{_≡_};
-ghost use mathlib.Core.Bool.{true};
-ghost use Prim.Native.Nat.{_<_, _≤_};
+ghost use Prim.Native.Nat.{_≤_};
 ghost use lib.ListN.{length};
-ghost use Rattle.masks.specs.Limits.{allPatterns};
-ghost use Rattle.masks.specs.Constraint.{inRange};
-ghost use Rattle.masks.specs.Held.{masksOf};
+ghost use Rattle.masks.specs.Set.{members};
 ghost use Rattle.book.specs.Limits.{maxPredicates};
 ghost use Rattle.book.specs.Held.{modesOf};
-ghost use Rattle.book.specs.Table.{tableIn, Low, LowModes};
-ghost use Rattle.writing.specs.Wrote.{Room, Wrote};
-ghost use Rattle.tables.specs.Table.{modeOf, firstNeed, firstNeeds};
+ghost use Rattle.book.specs.Table.{tableIn, Admitted, LowModes};
+ghost use Rattle.book.specs.Sets.{Cleared};
+ghost use Rattle.tables.specs.Table.{firstNeeds};
 ghost use Rattle.tables.specs.Image.{row, rows};
+ghost use Rattle.writing.specs.Wrote.{Room, Wrote};
 
-// "Table 0: each `MO` as given and minimised, all others trivial."
-pub fn first_table(preds: u8, modes: &[u8; MODES_SIZE]) -> Table
-    requires { ⌜ (preds ≤ maxPredicates) × LowModes (now modes) ⌝ }
-    ensures { λ r. ⌜ tableIn (r .needs) preds ≡ firstNeeds (modesOf (now (modes .entry)) maxPredicates) preds ⌝ }
-    ensures { λ r. ⌜ Low (r .needs) ⌝ }
+// The set of the mask 0 alone: a constraint that asks for nothing.
+const TRIVIAL: u64 = 1;
+
+// "Table 0: each `MO` as given and minimised, all others trivial." Having no `MO` is not having one with no alternative.
+pub fn first_table(
+    preds: u8,
+    modes: &[u8; MODES_SIZE],
+    table: &mut [u64; MAX_PREDICATES],
+    admits: &mut [u64; MAX_PREDICATES],
+)
+    requires { ⌜ (preds ≤ maxPredicates) × LowModes (now modes) × Cleared (now table) × Cleared (now admits) ⌝ }
+    ensures { λ _. ⌜ tableIn (now (table .exit)) preds ≡ firstNeeds (modesOf (now (modes .entry)) maxPredicates) preds ⌝ }
+    ensures { λ _. ⌜ Admitted (now (table .exit)) (now (admits .exit)) ⌝ }
 {
-    let mut needs = [0u8; MODES_SIZE];
+    let masks: &mut [u64] = table;
+    let patterns: &mut [u64] = admits;
     let mut p: u8 = 0;
     while p < preds {
-        let c = first_need(modes, p);
-        put_mode(&mut needs, p, c);
+        let q = p as usize;
+        if has_mode(modes, p) {
+            let c = minimised(masks_at(modes, p));
+            masks[q] = c;
+            patterns[q] = admitted(c);
+        } else {
+            masks[q] = TRIVIAL;
+            patterns[q] = ALL;
+        }
         p += 1;
     }
-    Table { needs }
-}
-
-// What predicate p needs in table 0. Having no `MO` is not having one with no alternative.
-fn first_need(modes: &[u8; MODES_SIZE], p: u8) -> Constraint
-    requires { ⌜ (p < maxPredicates) × LowModes (now modes) ⌝ }
-    ensures { λ r. ⌜ masksOf r ≡ firstNeed (modeOf (modesOf (now (modes .entry)) maxPredicates) p) ⌝ }
-    ensures { λ r. ⌜ inRange allPatterns (masksOf r) ≡ true ⌝ }
-{
-    if !has_mode(modes, p) {
-        return Constraint {
-            n: 1,
-            masks: [0u8; MAX_MASKS],
-        };
-    }
-    let c = mode_at(modes, p);
-    let n = count(c);
-    let masks = c.masks;
-    minimised(&masks[..n])
 }
 
 // How many bytes the image of a table has.
-pub fn image_length(preds: u8, table: &[u8; MODES_SIZE]) -> usize
+pub fn image_length(preds: u8, table: &[u64; MAX_PREDICATES]) -> usize
     requires { ⌜ preds ≤ maxPredicates ⌝ }
     ensures { λ r. ⌜ r ≡ length (rows (tableIn (now (table .entry)) preds) preds) ⌝ }
 {
     let mut total: usize = 0;
-    let mut p: u8 = 0;
-    while p < preds {
-        let c = mode_at(table, p);
-        total += 4 + count(c);
+    let mut p: usize = 0;
+    while p < preds as usize {
+        total += 4 + count(table[p]);
         p += 1;
     }
     total
 }
 
 // "Its image: for each predicate in turn `CN`, predicate, n, n masks", from the output's start.
-pub fn put_image(out: &mut [u8], preds: u8, table: &[u8; MODES_SIZE]) -> usize
+pub fn put_image(out: &mut [u8], preds: u8, table: &[u64; MAX_PREDICATES]) -> usize
     requires { ⌜ (preds ≤ maxPredicates) × Room (now out) 0 (rows (tableIn (now table) preds) preds) ⌝ }
     ensures { λ r. ⌜ Wrote (now (out .entry)) (now (out .exit)) 0 r (rows (tableIn (now (table .entry)) preds) preds) ⌝ }
 {
     let mut at: usize = 0;
     let mut p: u8 = 0;
     while p < preds {
-        let c = mode_at(table, p);
-        at = put_row(out, at, p, c);
+        let masks = table[p as usize];
+        at = put_row(out, at, p, masks);
         p += 1;
     }
     at
 }
 
-// "`CN`, predicate, n, n masks".
-fn put_row(out: &mut [u8], at: usize, p: u8, c: Constraint) -> usize
-    requires { ⌜ Room (now out) at (row p (masksOf c)) ⌝ }
-    ensures { λ r. ⌜ Wrote (now (out .entry)) (now (out .exit)) at r (row p (masksOf c)) ⌝ }
+// One row of it.
+fn put_row(out: &mut [u8], at: usize, p: u8, masks: u64) -> usize
+    requires { ⌜ Room (now out) at (row p (members masks)) ⌝ }
+    ensures { λ r. ⌜ Wrote (now (out .entry)) (now (out .exit)) at r (row p (members masks)) ⌝ }
 {
     let q = put_mark(out, at, b"CN");
-    put_constraint(out, q, p, c)
+    put_constraint(out, q, p, masks)
 }

@@ -1,13 +1,11 @@
 // Bytes and marks, stored from a place on; each answers the place after it. A lent array is read through a slice, whose length the
 // proof knows.
-use masks::constraint::Constraint;
-use masks::constraint::count;
 use masks::constraint::put_masks;
 ghost use mathlib.Core.Path.{_≡_};
 ghost use mathlib.Core.List.{[], _∷_};
 ghost use Prim.Native.Nat.{min};
 ghost use lib.ListN.{length};
-ghost use Rattle.masks.specs.Held.{masksOf};
+ghost use Rattle.masks.specs.Set.{members};
 ghost use Rattle.writing.specs.Wrote.{Room, Wrote};
 
 // The two bytes of a mark.
@@ -34,16 +32,15 @@ pub fn put_bytes(out: &mut [u8], at: usize, b: &[u8]) -> usize
     p
 }
 
-// A predicate, the number of masks, and the masks.
-pub fn put_constraint(out: &mut [u8], at: usize, p: u8, c: Constraint) -> usize
-    requires { ⌜ Room (now out) at (p ∷ length (masksOf c) ∷ masksOf c) ⌝ }
-    ensures { λ r. ⌜ Wrote (now (out .entry)) (now (out .exit)) at r (p ∷ length (masksOf c) ∷ masksOf c) ⌝ }
+// A predicate, the number of masks of a set, and the masks. The number is known once they are written.
+pub fn put_constraint(out: &mut [u8], at: usize, p: u8, masks: u64) -> usize
+    requires { ⌜ Room (now out) at (p ∷ length (members masks) ∷ members masks) ⌝ }
+    ensures { λ r. ⌜ Wrote (now (out .entry)) (now (out .exit)) at r (p ∷ length (members masks) ∷ members masks) ⌝ }
 {
     let q = put_byte(out, at, p);
-    let n = count(c);
-    let r = put_byte(out, q, n as u8);
-    put_masks(out, r, c);
-    r + n
+    let end = put_masks(out, q + 1, masks);
+    put_byte(out, q, (end - q - 1) as u8);
+    end
 }
 
 // One byte.

@@ -1,46 +1,46 @@
 -- What the arrays of a book hold: what is read from one, what a store makes of it, and lists of so many clauses or modes, which are the first n
 -- values of a function. Assumes nothing.
 use mathlib.Core.Path.{_≡_, refl, sym, ap, ap₂, _∙_}
-use mathlib.Core.Bool.{Bool, true, false, cond, _&&_, or-false}
-use mathlib.Core.List.{List, [], _∷_, _++_, map, map-append}
-use Prim.Native.Nat.{ℕ, zero, suc, _+_, _-_, _*_, min, _≤_, _<_}
+use mathlib.Core.Bool.{Bool, true, false, not, cond, _&&_, _||_, or-false}
+use mathlib.Core.List.{List, [], _∷_, _++_}
+use Prim.Native.Nat.{ℕ, zero, suc, _+_, _-_, _*_, _^_, min, _≤_, _<_}
 use native.Mathlib.Numerals.{add-one}
 use native.Mathlib.Omega.{arith}
+use lib.Bits.{bitOr}
 use lib.Dec.{eqb}
-use lib.ListN.{length, getD, take, drop, set, replicate, length-take, length-drop, length-set, length-map}
-use lib.Seq.{take-suc, take-all, take-take, take-suc-set, getD-set-same, getD-set-other}
-use borrow.Author.Tests.{eqb-true, eq-eqb}
+use lib.ListN.{length, getD, take, drop, set, replicate, length-take, length-drop, length-set}
+use lib.Seq.{take-take, getD-take, getD-set-same, getD-set-other, sets, length-sets}
+use borrow.Author.Tests.{eqb-true, eqb-false, eq-eqb, ne-eqb}
+use Rattle.masks.specs.Limits.{maxArity, maxMasks}
 use Rattle.masks.specs.Lists.{any, values, joined}
-use Rattle.masks.proofs.Laws.Logic.{same, and-intro, and-left, and-right}
-use Rattle.masks.proofs.Laws.Lists.{take-front, length-values, values-cong, take-values, getD-values, joined-cong, joined-cut, any-joined, joined-any}
-use Rattle.book.specs.Limits.{maxClauses, maxSubgoals}
+use Rattle.masks.specs.Set.{bitAt}
+use Rattle.masks.proofs.Laws.Set.{bitAt-zero, bitAt-more}
+use Rattle.masks.proofs.Laws.Logic.{byBool, same, and-intro, and-left, and-right, or-right}
+use Rattle.masks.proofs.Laws.Lists.{take-front, length-values, values-cong, getD-values, joined-cong, joined-cut, any-joined, joined-any}
+use Rattle.book.specs.Limits.{maxPredicates, maxClauses, maxSubgoals}
 use Rattle.book.specs.Book.{Call, Mode, Clause}
 use Rattle.book.specs.Format.{hasMode}
-use Rattle.book.specs.Held.{callOf, clauseOf, window, callIn, clauseSize, rulesSize, clauseAt, clausesOf, StoredClause, modeSize, hasIn, masksIn, modeBytes, modeAt, modesOf, StoredMode}
-use Rattle.book.specs.declared.clause.Call as call
-use Rattle.book.specs.declared.clause.Clause as clause
-use Rattle.book.proofs.Laws.Windows.{drop-window, getD-window, getD-window-first, window-others, Stored}
-
--- ---- arrays
-
-take-map : {A B : Type 0} (f : A → B) (n : ℕ) (l : List A) → map f (take n l) ≡ take n (map f l)
-take-map f zero l = refl
-take-map f (suc n) [] = refl
-take-map {B = B} f (suc n) (x ∷ xs) = ap (λ (s : List B). f x ∷ s) (take-map f n xs)
-
--- the length of an array of structs, from what is known of its elements: `search (needs, length-of-map)`
-pub length-of-map : {A B : Type 0} (f : A → B) (l : List A) (n : ℕ) → length (map f l) ≡ n → length l ≡ n
-length-of-map f l n e = sym (length-map l f) ∙ e
+use Rattle.book.specs.Held.{window, countIn, byteOf, callIn, clauseSize, rulesSize, clauseAt, clausesOf, StoredClause, modeSize, hasIn, masksIn, modeBytes, HaveMode, modeAt, modesOf, StoredMode}
+use Rattle.book.proofs.Laws.Windows.{drop-window, getD-window, getD-window-first, window-others, drop-longer, Stored, stored-sets}
 
 -- ---- a clause
-
--- a call by value that says nothing
-abbrev pub blank : call.Call
-blank = record { pred = 0; n = 0; args = [] }
 
 -- subgoal j of clause k
 abbrev callAt : List ℕ → ℕ → ℕ → Call
 callAt rules k j = callIn (getD rules (k * clauseSize + 2 + j) 0)
+
+-- the number of a call's arguments, and each of them
+module _ (w : ℕ) where
+  abbrev argAt : ℕ → ℕ
+  argAt i = byteOf w (2 + i)
+
+  pub args-count : length (callIn w .args) ≡ min (countIn (byteOf w 1)) maxArity
+  args-count = let t = length-take (countIn (byteOf w 1)) (values argAt maxArity) in let v = length-values argAt maxArity in omega arith
+
+  pub args-at : (i : ℕ) → i < length (callIn w .args) → getD (callIn w .args) i 0 ≡ byteOf w (2 + i)
+  args-at i h =
+      let l = args-count in
+      getD-take (countIn (byteOf w 1)) (values argAt maxArity) i 0 (omega arith) ∙ getD-values argAt 0 maxArity i (omega arith)
 
 -- the number of its subgoals, and each of them
 module _ (rules : List ℕ) (k : ℕ) where
@@ -55,129 +55,62 @@ module _ (rules : List ℕ) (k : ℕ) where
   unfolding clauseAt
   clauseAt-body d j h = getD-values (callAt rules k) d (min (getD rules (k * clauseSize) 0) maxSubgoals) j (let n = clauseAt-count in omega arith)
 
--- where its words are the same, so is the clause
-clauseAt-cong : (rules after : List ℕ) (k : ℕ)
-    → ((p : ℕ) → k * clauseSize ≤ p → p < k * clauseSize + clauseSize → getD after p 0 ≡ getD rules p 0) → clauseAt after k ≡ clauseAt rules k
+-- where the words of two clauses are the same, so are the clauses
+pub clauseAt-same : (rules after : List ℕ) (k i : ℕ) → ((j : ℕ) → j < clauseSize → getD after (i * clauseSize + j) 0 ≡ getD rules (k * clauseSize + j) 0)
+    → clauseAt after i ≡ clauseAt rules k
 unfolding clauseAt
-clauseAt-cong rules after k same =
-    ap₂ (λ (h : Call) (b : List Call). record { head = h; body = b })
-    (ap callIn (same (k * clauseSize + 1) (omega arith) (omega arith)))
-    (ap (λ (n : ℕ). values (callAt after k) (min n maxSubgoals)) (same (k * clauseSize) (omega arith) (omega arith))
-    ∙ values-cong (callAt after k) (callAt rules k) (min (getD rules (k * clauseSize) 0) maxSubgoals)
-    (λ j h. ap callIn (same (k * clauseSize + 2 + j) (omega arith) (omega arith))))
+clauseAt-same rules after k i same =
+    ap₂ (λ (h : Call) (b : List Call). record { head = h; body = b }) (ap callIn (same 1 (omega arith)))
+    (ap (λ (n : ℕ). values (callAt after i) (min n maxSubgoals)) count
+    ∙ values-cong (callAt after i) (callAt rules k) (min (getD rules (k * clauseSize) 0) maxSubgoals)
+    (λ j h.
+    let e : i * clauseSize + (2 + j) ≡ i * clauseSize + 2 + j = omega arith in
+    let f : k * clauseSize + (2 + j) ≡ k * clauseSize + 2 + j = omega arith in
+    ap callIn (ap (λ (p : ℕ). getD after p 0) (sym e) ∙ same (2 + j) (omega arith) ∙ ap (λ (p : ℕ). getD rules p 0) f)))
+  where
+    count : getD after (i * clauseSize) 0 ≡ getD rules (k * clauseSize) 0
+    count =
+        let e : i * clauseSize + 0 ≡ i * clauseSize = omega arith in
+        let f : k * clauseSize + 0 ≡ k * clauseSize = omega arith in
+        ap (λ (p : ℕ). getD after p 0) (sym e) ∙ same 0 (omega arith) ∙ ap (λ (p : ℕ). getD rules p 0) f
 
--- the first n of eight subgoals
-body-held : (f : ℕ → Call) (n : ℕ) (body : List call.Call) → map callOf body ≡ values f maxSubgoals
-    → map callOf (take n body) ≡ values f (min n maxSubgoals)
-body-held f n body e = take-map callOf n body ∙ ap (take n) e ∙ take-values f n maxSubgoals
-
--- the loop that reads the subgoals: the first j are read
-pub record Reading (rules : List ℕ) (k j : ℕ) (body : List call.Call) : Type 0 where
-  pub most : j ≤ maxSubgoals
-  pub size : length body ≡ maxSubgoals
-  pub front : map callOf (take j body) ≡ values (callAt rules k) j
-
-module _ (rules : List ℕ) (k : ℕ) where
-  pub reading-start : (body : List call.Call) → length body ≡ maxSubgoals → Reading rules k 0 body
-  reading-start body e = record { most = omega arith; size = e; front = refl }
-
-  pub reading-next : {j : ℕ} {body : List call.Call} (c : call.Call) → j < maxSubgoals → callOf c ≡ callAt rules k j → Reading rules k j body
-      → Reading rules k (j + 1) (set body j c)
-  reading-next {j} {body} c h e r =
-      let s = r .size in
-      record {
-        most = omega arith;
-        size = simp length-set s;
-        front =
-            rw add-one
-            (ap (map callOf) (take-suc-set body j c (omega arith))
-            ∙ map-append callOf (take j body) (c ∷ [])
-            ∙ ap₂ (λ (b : List Call) (x : Call). b ++ (x ∷ [])) (r .front) e);
-      }
-
-  pub reading-end : {n : ℕ} (head : call.Call) {j : ℕ} {body : List call.Call} → maxSubgoals ≤ j → callOf head ≡ clauseAt rules k .head
-      → n ≡ length (clauseAt rules k .body) → Reading rules k j body
-      → clauseOf (record { n = n; head = head; body = body }) ≡ clauseAt rules k
-  unfolding clauseAt
-  reading-end {n} head {j} {body} h e count r =
-      let m = r .most in
-      let s = r .size in
-      let l = clauseAt-count rules k in
-      let q : j ≡ maxSubgoals = omega arith in
-      let few : min n maxSubgoals ≡ min (getD rules (k * clauseSize) 0) maxSubgoals = omega arith in
-      let all = ap (map callOf) (sym (take-all j body (omega arith))) ∙ r .front ∙ ap (values (callAt rules k)) q in
-      ap₂ (λ (a : Call) (b : List Call). record { head = a; body = b }) e (body-held (callAt rules k) n body all ∙ ap (values (callAt rules k)) few)
-
--- the loop that stores the subgoals: the first j are stored, and all words but the subgoals' are as they were
-pub record Writing (rules : List ℕ) (k : ℕ) (c : clause.Clause) (j : ℕ) (now : List ℕ) : Type 0 where
-  pub most : j ≤ maxSubgoals
+-- the loop that copies a clause over another: the first i words are copied, and all but the other's are as they were
+pub record Moving (rules : List ℕ) (from to i : ℕ) (now : List ℕ) : Type 0 where
+  pub most : i ≤ clauseSize
   pub size : length now ≡ rulesSize
-  pub body : values (callAt now k) j ≡ map callOf (take j (c .body))
-  pub others : (p : ℕ) → (k * clauseSize + 2 ≤ p → k * clauseSize + clauseSize ≤ p) → getD now p 0 ≡ getD rules p 0
+  pub copied : (j : ℕ) → j < i → getD now (to * clauseSize + j) 0 ≡ getD rules (from * clauseSize + j) 0
+  pub others : (p : ℕ) → (to * clauseSize ≤ p → to * clauseSize + clauseSize ≤ p) → getD now p 0 ≡ getD rules p 0
 
-module _ (k : ℕ) (c : clause.Clause) where
-  pub writing-start : (rules : List ℕ) → length rules ≡ rulesSize → Writing rules k c 0 rules
-  writing-start rules e = record { most = omega arith; size = e; body = refl; others = λ p h. refl }
+pub moving-start : (rules : List ℕ) (from to : ℕ) → length rules ≡ rulesSize → Moving rules from to 0 rules
+moving-start rules from to e = record { most = omega arith; size = e; copied = λ j h. absurd (omega arith); others = λ p h. refl }
 
-  pub writing-next : {j : ℕ} {rules now : List ℕ} (d : call.Call) (w : ℕ) → k ≤ maxClauses → length (c .body) ≡ maxSubgoals → j < maxSubgoals
-      → callIn w ≡ callOf (getD (c .body) j d) → Writing rules k c j now → Writing rules k c (j + 1) (set now (k * clauseSize + 2 + j) w)
-  writing-next {j} {rules} {now} d w low e h is s =
-      let n = s .size in
+module _ {rules : List ℕ} {from to i : ℕ} {now : List ℕ} (ne : from ≡ to → ⊥) (g : Moving rules from to i now) where
+  pub moving-next : to ≤ maxClauses → i < clauseSize → Moving rules from to (i + 1) (set now (to * clauseSize + i) (getD now (from * clauseSize + i) 0))
+  moving-next low h =
+      let n = g .size in
+      let at = to * clauseSize + i in
+      let x = getD now (from * clauseSize + i) 0 in
       record {
         most = omega arith;
         size = simp length-set n;
-        body =
-            rw (add-one, take-suc (c .body) j d (omega arith))
-            (ap₂ (λ (b : List Call) (x : Call). b ++ (x ∷ [])) (kept ∙ s .body) (ap callIn (getD-set-same now here w 0 (omega arith)) ∙ is)
-            ∙ sym (map-append callOf (take j (c .body)) (getD (c .body) j d ∷ [])));
-        others = λ p f. getD-set-other now here p w 0 (λ q. let l = f (omega arith) in omega arith) ∙ s .others p f;
+        copied = λ j l.
+            byBool (eqb j i)
+            (λ t.
+            let e = eqb-true j i t in
+            rw e (getD-set-same now at x 0 (omega arith) ∙ g .others (from * clauseSize + i) (λ q. omega (arith, ne))))
+            (λ t.
+            let d = eqb-false j i t in
+            getD-set-other now at (to * clauseSize + j) x 0 (λ q. d (omega arith)) ∙ g .copied j (omega (arith, d)));
+        others = λ p f. getD-set-other now at p x 0 (λ q. let l = f (omega arith) in omega arith) ∙ g .others p f;
       }
-    where
-      here : ℕ
-      here = k * clauseSize + 2 + j
 
-      kept : values (callAt (set now here w) k) j ≡ values (callAt now k) j
-      kept =
-          values-cong (callAt (set now here w) k) (callAt now k) j
-          (λ i l. ap callIn (getD-set-other now here (k * clauseSize + 2 + i) w 0 (λ q. omega arith)))
-
-  -- after the number of the subgoals and the head, which were stored before the loop
-  pub writing-end : (rules : List ℕ) (w : ℕ) {j : ℕ} {now : List ℕ} → k ≤ maxClauses → length rules ≡ rulesSize → length (c .body) ≡ maxSubgoals
-      → maxSubgoals ≤ j → callIn w ≡ callOf (c .head) → Writing (set (set rules (k * clauseSize) (c .n)) (k * clauseSize + 1) w) k c j now
-      → StoredClause rules now k (clauseOf c)
-  unfolding clauseAt
-  writing-end rules w {j} {now} low n e h is s =
+  pub moving-end : clauseSize ≤ i → StoredClause rules now to (clauseAt rules from)
+  moving-end h =
+      let m = g .most in
       record {
-        is =
-            ap₂ (λ (a : Call) (b : List Call). record { head = a; body = b })
-            (ap callIn (s .others (at + 1) (λ l. omega arith) ∙ getD-set-same one (at + 1) w 0 (simp length-set (omega arith))) ∙ is)
-            (ap (λ (m : ℕ). values (callAt now k) (min m maxSubgoals)) count ∙ sym (body-held (callAt now k) (c .n) (c .body) all));
-        others =
-            λ i ne.
-            clauseAt-cong rules now i
-            (λ p l r.
-            s .others p (λ q. omega arith)
-            ∙ getD-set-other one (at + 1) p w 0 (λ q. ne (omega arith))
-            ∙ getD-set-other rules at p (c .n) 0 (λ q. ne (omega arith)));
+        is = clauseAt-same rules now from to (λ j l. g .copied j (omega arith));
+        others = λ k other. clauseAt-same rules now k k (λ j l. g .others (k * clauseSize + j) (λ q. omega (arith, other)));
       }
-    where
-      at : ℕ
-      at = k * clauseSize
-
-      one : List ℕ
-      one = set rules at (c .n)
-
-      count : getD now at 0 ≡ c .n
-      count =
-          s .others at (λ l. omega arith)
-          ∙ getD-set-other one (at + 1) at w 0 (λ q. omega arith)
-          ∙ getD-set-same rules at (c .n) 0 (omega arith)
-
-      all : map callOf (c .body) ≡ values (callAt now k) maxSubgoals
-      all =
-          let m = s .most in
-          let q : j ≡ maxSubgoals = omega arith in
-          ap (map callOf) (sym (take-all j (c .body) (omega arith))) ∙ sym (s .body) ∙ ap (values (callAt now k)) q
 
 -- ---- the first n clauses
 
@@ -218,14 +151,45 @@ masksIn-part l at n k h e =
     let q : k ≡ length (take m s) = omega (arith, length-take m s, length-take n (drop (at + 2) l)) in
     rw p (sym (take-take k n (drop (at + 2) l) (omega arith)) ∙ ap (λ (i : ℕ). take i s) q ∙ take-front m s ∙ masksIn-window l at n s refl)
 
-pub stored-mode : {modes after : List ℕ} {p n : ℕ} {masks : List ℕ} → Stored modes after (p * modeSize) modeSize (1 ∷ n ∷ masks)
-    → StoredMode modes after p (take n masks)
+-- a mode that is stored: whether there is one, the number of its masks, and the masks
+pub stored-masks : (modes : List ℕ) (p : ℕ) (masks : List ℕ) → length masks ≤ maxMasks → p * modeSize + modeSize ≤ length modes
+    → StoredMode modes (sets modes (p * modeSize) (1 ∷ length masks ∷ masks)) p masks
 unfolding modeAt
-stored-mode {modes} {after} {p} s =
-    record { is = ap (one p) (s .is); others = λ i ne. window-others after modes modeSize p i ne (s .before) (s .behind) }
+stored-masks modes p masks few room =
+    record {
+      is = go (getD (modeBytes after p) 0 0) (masksIn (modeBytes after p)) first all;
+      others = λ i ne. window-others after modes modeSize p i ne (s .before) (drop-longer after modes (at + modeSize) (at + (2 + n)) (omega arith) (s .behind));
+    }
   where
-    one : ℕ → List ℕ → List Mode
-    one i b = cond (hasIn b) (record { pred = i; masks = masksIn b } ∷ []) []
+    at : ℕ
+    at = p * modeSize
+
+    n : ℕ
+    n = length masks
+
+    after : List ℕ
+    after = sets modes at (1 ∷ n ∷ masks)
+
+    s : Stored modes after at (2 + n) (1 ∷ n ∷ masks)
+    s = stored-sets modes at (2 + n) (1 ∷ n ∷ masks) (omega arith) (omega arith)
+
+    first : getD (modeBytes after p) 0 0 ≡ 1
+    first = getD-window-first at modeSize after (omega arith) ∙ sym (getD-window-first at (2 + n) after (omega arith)) ∙ ap (λ (b : List ℕ). getD b 0 0) (s .is)
+
+    count : getD after (at + 1) 0 ≡ n
+    count = sym (getD-window at (2 + n) 1 after (omega arith)) ∙ ap (λ (b : List ℕ). getD b 1 0) (s .is)
+
+    all : masksIn (modeBytes after p) ≡ masks
+    all =
+        let e : at + 2 + n - (at + 2) ≡ n = omega arith in
+        sym (masksIn-part after at maxMasks n (omega (arith, length-sets modes at (1 ∷ n ∷ masks))) (omega (arith, count)))
+        ∙ ap (λ (k : ℕ). take k (drop (at + 2) after)) e ∙ sym (drop-window at 2 n after) ∙ ap (drop 2) (s .is)
+
+    one : List ℕ → List Mode
+    one m = record { pred = p; masks = m } ∷ []
+
+    go : (b : ℕ) (m : List ℕ) → b ≡ 1 → m ≡ masks → cond (not (eqb b 0)) (one m) [] ≡ one masks
+    go b m e f = rw (e, f)
 
 -- the other predicates' modes are as they were
 pub modeAt-others : {modes after : List ℕ} {p : ℕ} {masks : List ℕ} → StoredMode modes after p masks → (i : ℕ) → (i ≡ p → ⊥) → modeAt after i ≡ modeAt modes i
@@ -287,3 +251,35 @@ hasMode-modesOf modes n p h =
     let b : (hasIn (modeBytes modes (r .0)) && eqb (r .0) p) ≡ true = sym (at-one modes p (r .0)) ∙ r .2 in
     rw (← eqb-true (r .0) p (and-right (hasIn (modeBytes modes (r .0))) (eqb (r .0) p) b)) (and-left (hasIn (modeBytes modes (r .0))) (eqb (r .0) p) b))
     (λ t. any-joined (isOf modes p) (modeAt modes) n p h (at-one modes p p ∙ and-intro t (eq-eqb p p refl)))
+
+-- ---- the loop that makes the set of predicates with MO: those below p are in it
+
+pub record Having (modes : List ℕ) (p set· : ℕ) : Type 0 where
+  pub most : p ≤ maxPredicates
+  pub below : (q : ℕ) → q < p → bitAt set· q ≡ hasIn (modeBytes modes q)
+  pub behind : (q : ℕ) → p ≤ q → bitAt set· q ≡ false
+
+pub having-start : (modes : List ℕ) → Having modes 0 0
+having-start modes = record { most = omega arith; below = λ q h. absurd (omega arith); behind = λ q h. bitAt-zero q }
+
+module _ {modes : List ℕ} {p set· : ℕ} (h : p < maxPredicates) (g : Having modes p set·) where
+  -- p's own, where the next set has it or not
+  having-next : (next : ℕ) → bitAt next p ≡ hasIn (modeBytes modes p) → ((q : ℕ) → (q ≡ p → ⊥) → bitAt next q ≡ bitAt set· q) → Having modes (p + 1) next
+  having-next next own others =
+      record {
+        most = omega arith;
+        below = λ q l.
+            byBool (eqb q p) (λ t. rw (eqb-true q p t) own) (λ t. let ne = eqb-false q p t in others q ne ∙ g .below q (omega (arith, ne)));
+        behind = λ q l. others q (λ e. omega arith) ∙ g .behind q (omega arith);
+      }
+
+  pub having-one : hasIn (modeBytes modes p) ≡ true → Having modes (p + 1) (bitOr set· (2 ^ p))
+  having-one e =
+      having-next (bitOr set· (2 ^ p)) (bitAt-more set· p p ∙ or-right (bitAt set· p) (eq-eqb p p refl) ∙ sym e)
+      (λ q ne. bitAt-more set· p q ∙ ap (λ (b : Bool). bitAt set· q || b) (ne-eqb p q (λ f. ne (sym f))) ∙ or-false (bitAt set· q))
+
+  pub having-none : hasIn (modeBytes modes p) ≡ false → Having modes (p + 1) set·
+  having-none e = having-next set· (g .behind p (omega arith) ∙ sym e) (λ q ne. refl)
+
+pub having-end : {modes : List ℕ} {p set· : ℕ} → maxPredicates ≤ p → Having modes p set· → HaveMode modes set·
+having-end h g q l = g .below q (omega arith)

@@ -1,22 +1,25 @@
 -- Sets of clauses: the loop that makes those of each predicate, with a law for its start, its next turn and its end; and the predicates that subgoals
 -- call. Assumes nothing.
 use mathlib.Core.Path.{_≡_, sym, ap, ap₂, _∙_, subst}
-use mathlib.Core.Bool.{Bool, true, false, _&&_, _||_, and-true, and-false, and-or-distrib-right, or-true, or-false}
+use mathlib.Core.Bool.{Bool, true, _&&_, _||_, and-true, and-false, and-or-distrib-right, or-true, or-false}
 use mathlib.Core.List.{List}
 use Prim.Native.Nat.{ℕ, _+_, _^_, _≤_, _<_}
 use native.Mathlib.Omega.{arith}
 use lib.Bits.{bitOr}
 use lib.Dec.{eqb, ltb}
-use lib.ListN.{length, getD, set, replicate, length-set, length-replicate, getD-replicate}
+use lib.ListN.{length, getD, set, replicate, length-set, getD-replicate}
 use lib.Seq.{getD-set-same, getD-set-other}
 use borrow.Author.Tests.{eqb-true, eqb-false, ltb-true, lt-ltb, le-ltb}
+use Rattle.masks.specs.Lists.{all}
 use Rattle.masks.specs.Set.{bitAt}
 use Rattle.book.specs.Limits.{maxPredicates}
 use Rattle.book.specs.Book.{Call, noCall}
-use Rattle.book.specs.Held.{callOf, clauseAt}
-use Rattle.book.specs.Sets.{callsBelow, Known, Owns}
-use Rattle.book.specs.declared.clause.Call as call
-use Rattle.masks.proofs.Laws.Logic.{byBool, same}
+use Rattle.book.specs.Format.{allows}
+use Rattle.book.specs.Encode.{callFits}
+use Rattle.book.specs.Held.{clauseAt}
+use Rattle.book.specs.Sets.{callable, Known, Cleared, Owns}
+use Rattle.book.specs.declared.range.Range.the-variants.{Argument}
+use Rattle.masks.proofs.Laws.Logic.{byBool, same, and-intro, and-left, and-right}
 use Rattle.masks.proofs.Laws.Lists.{all-at, all-mono}
 use Rattle.masks.proofs.Laws.Set.{bitAt-zero, eqb-comm, bitAt-more}
 
@@ -37,8 +40,8 @@ stored-more words p m h q k =
     ∙ sym (or-false (bitAt (getD words q 0) k)) ∙ ap (λ (b : Bool). bitAt (getD words q 0) k || (b && eqb m k)) (sym t))
 
 -- an array of empty sets
-pub bitAt-none : (q k : ℕ) → q < maxPredicates → bitAt (getD (replicate maxPredicates 0) q 0) k ≡ false
-bitAt-none q k h = ap (λ (w : ℕ). bitAt w k) (getD-replicate maxPredicates q 0 0 h) ∙ bitAt-zero k
+pub cleared-zeros : Cleared (replicate maxPredicates 0)
+cleared-zeros p h = getD-replicate maxPredicates p 0 0 h
 
 -- the numbers below one more
 ltb-suc : (i k : ℕ) → ltb i (k + 1) ≡ (ltb i k || eqb k i)
@@ -51,10 +54,10 @@ ltb-suc i k =
     (same (ltb i (k + 1)) (ltb i k) (λ l. let h = ltb-true i (k + 1) l in lt-ltb i k (omega arith)) (λ l. let h = ltb-true i k l in lt-ltb i (k + 1) (omega arith))
     ∙ sym (or-false (ltb i k))))
 
--- ---- the predicate of a call that is held by value
+-- ---- the predicate of a head
 
-pub head-low : {rules : List ℕ} {n : ℕ} (k : ℕ) (h : call.Call) → Known rules n → k < n → callOf h ≡ clauseAt rules k .head → h .pred < maxPredicates
-head-low k h s l e = let p = ap (λ (d : Call). d .pred) e in let r = s .heads k l in omega arith
+pub head-low : {rules : List ℕ} {n : ℕ} (k p : ℕ) → Known rules n → k < n → p ≡ clauseAt rules k .head .pred → p < maxPredicates
+head-low k p s l e = let r = s .heads k l in omega arith
 
 -- ---- the clauses of each predicate: of the first k clauses its own
 
@@ -63,20 +66,18 @@ pub record Owning (rules : List ℕ) (n k : ℕ) (own : List ℕ) : Type 0 where
   pub size : length own ≡ maxPredicates
   pub owns : Owns rules k own
 
-pub owning-start : (rules : List ℕ) (n : ℕ) → Owning rules n 0 (replicate maxPredicates 0)
-owning-start rules n =
+pub owning-start : (rules : List ℕ) (n : ℕ) (own : List ℕ) → length own ≡ maxPredicates → Cleared own → Owning rules n 0 own
+owning-start rules n own e none =
     record {
       most = omega arith;
-      size = length-replicate {A = ℕ} maxPredicates 0;
-      owns = λ p h i. bitAt-none p i h ∙ ap (λ (b : Bool). b && eqb (clauseAt rules i .head .pred) p) (sym (le-ltb i 0 (omega arith)));
+      size = e;
+      owns = λ p h i. ap (λ (w : ℕ). bitAt w i) (none p h) ∙ bitAt-zero i ∙ ap (λ (b : Bool). b && eqb (clauseAt rules i .head .pred) p) (sym (le-ltb i 0 (omega arith)));
     }
 
 module _ {rules : List ℕ} {n k : ℕ} {own : List ℕ} (o : Owning rules n k own) where
-  pub owning-next : (h : call.Call) → Known rules n → k < n → callOf h ≡ clauseAt rules k .head
-      → Owning rules n (k + 1) (set own (h .pred) (bitOr (getD own (h .pred) 0) (2 ^ k)))
-  owning-next h known m e =
-      let p = h .pred in
-      let l = head-low k h known m e in
+  pub owning-next : (p : ℕ) → Known rules n → k < n → p ≡ clauseAt rules k .head .pred → Owning rules n (k + 1) (set own p (bitOr (getD own p 0) (2 ^ k)))
+  owning-next p known m e =
+      let l = head-low k p known m e in
       let s = o .size in
       record {
         most = omega arith;
@@ -88,25 +89,50 @@ module _ {rules : List ℕ} {n k : ℕ} {own : List ℕ} (o : Owning rules n k o
             ∙ ap (λ (b : Bool). b && eqb (clauseAt rules i .head .pred) q) (sym (ltb-suc i k));
       }
     where
-      one : (q i : ℕ) → (eqb q (h .pred) && eqb k i) ≡ (eqb k i && eqb (clauseAt rules i .head .pred) q)
+      one : (q i : ℕ) → (eqb q p && eqb k i) ≡ (eqb k i && eqb (clauseAt rules i .head .pred) q)
       one q i =
           byBool (eqb k i)
           (λ t.
           rw t
-          (and-true (eqb q (h .pred))
-          ∙ eqb-comm q (h .pred) ∙ ap (λ (d : Call). eqb (d .pred) q) (e ∙ ap (λ (j : ℕ). clauseAt rules j .head) (eqb-true k i t))))
-          (λ t. rw t (and-false (eqb q (h .pred))))
+          (and-true (eqb q p)
+          ∙ eqb-comm q p ∙ ap (λ (h : ℕ). eqb h q) (e ∙ ap (λ (j : ℕ). clauseAt rules j .head .pred) (eqb-true k i t))))
+          (λ t. rw t (and-false (eqb q p)))
 
   pub owning-end : n ≤ k → Owns rules n own
   owning-end h = let m = o .most in let e : k ≡ n = omega arith in subst (λ (j : ℕ). Owns rules j own) e (o .owns)
 
--- ---- the predicates that subgoals call
+-- ---- what subgoals call, and with what
 
-pub callsBelow-at : (n : ℕ) (body : List Call) (j : ℕ) → callsBelow n body ≡ true → j < length body → getD body j noCall .pred < n
-unfolding callsBelow
-callsBelow-at n body j t h = ltb-true (getD body j noCall .pred) n (all-at (λ c. ltb (c .pred) n) noCall body j h t)
+module _ (body : List Call) (j : ℕ) (t : callable body ≡ true) (h : j < length body) where
+  called : (ltb (getD body j noCall .pred) maxPredicates && all (allows Argument) (getD body j noCall .args)) ≡ true
+  unfolding callable
+  called = all-at (λ c. ltb (c .pred) maxPredicates && all (allows Argument) (c .args)) noCall body j h t
 
-pub callsBelow-mono : (n m : ℕ) → n ≤ m → (body : List Call) → callsBelow n body ≡ true → callsBelow m body ≡ true
-unfolding callsBelow
-callsBelow-mono n m h =
-    all-mono (λ (s : Call). ltb (s .pred) n) (λ s. ltb (s .pred) m) (λ s t. let l = ltb-true (s .pred) n t in lt-ltb (s .pred) m (omega arith))
+  pub callable-low : getD body j noCall .pred < maxPredicates
+  callable-low =
+      ltb-true (getD body j noCall .pred) maxPredicates (and-left (ltb (getD body j noCall .pred) maxPredicates) (all (allows Argument) (getD body j noCall .args)) called)
+
+  pub callable-args : all (allows Argument) (getD body j noCall .args) ≡ true
+  callable-args = and-right (ltb (getD body j noCall .pred) maxPredicates) (all (allows Argument) (getD body j noCall .args)) called
+
+-- those that fit a book
+pub fit-callable : (ar : List ℕ) → length ar ≤ maxPredicates → (body : List Call) → all (callFits Argument ar) body ≡ true → callable body ≡ true
+unfolding callable allows
+fit-callable ar few =
+    all-mono (callFits Argument ar) (λ c. ltb (c .pred) maxPredicates && all (allows Argument) (c .args))
+    (λ c t.
+    let l = ltb-true (c .pred) (length ar) (and-left (ltb (c .pred) (length ar)) (eqb (length (c .args)) (getD ar (c .pred) 0) && all (allows Argument) (c .args)) t) in
+    and-intro (lt-ltb (c .pred) maxPredicates (omega arith))
+    (and-right (eqb (length (c .args)) (getD ar (c .pred) 0)) (all (allows Argument) (c .args))
+    (and-right (ltb (c .pred) (length ar)) (eqb (length (c .args)) (getD ar (c .pred) 0) && all (allows Argument) (c .args)) t)))
+
+-- ---- what they call is below n
+
+unfoldable pub callsBelow : ℕ → List Call → Bool
+callsBelow n body = all (λ c. ltb (c .pred) n) body
+
+pub fit-below : (ar : List ℕ) (body : List Call) → all (callFits Argument ar) body ≡ true → callsBelow (length ar) body ≡ true
+unfolding callsBelow allows
+fit-below ar =
+    all-mono (callFits Argument ar) (λ s. ltb (s .pred) (length ar))
+    (λ s t. and-left (ltb (s .pred) (length ar)) (eqb (length (s .args)) (getD ar (s .pred) 0) && all (allows Argument) (s .args)) t)

@@ -1,17 +1,14 @@
--- Windows, k bytes of a list from a place on: their parts, what leaves them as they are, and the two loops over bytes: one copies a window, the
--- other stores one. Assumes nothing.
-use mathlib.Core.Path.{_≡_, refl, sym, ap, _∙_}
+-- Windows, k bytes of a list from a place on: their parts, what leaves them as they are, and one that is stored. Assumes nothing.
+use mathlib.Core.Path.{_≡_, sym, ap, _∙_}
 use mathlib.Core.List.{List, [], _∷_, _++_, append-assoc}
 use Prim.Native.Nat.{ℕ, zero, suc, _+_, _-_, _*_, _≤_, _<_}
 use native.Mathlib.Nat.{mul-le-mul-right, suc-mul}
-use native.Mathlib.Numerals.{add-one}
 use native.Mathlib.Omega.{arith}
 use lib.Dec.{ltb}
-use lib.ListN.{length, getD, take, drop, set, length-set, length-drop, length-append}
-use lib.Seq.{take-nil, take-suc, take-all, take-take, drop-drop, getD-take, getD-drop, take-suc-set, drop-at, take-at, sets, sets-eq, length-sets, length-take-le}
+use lib.ListN.{length, getD, take, drop, length-append}
+use lib.Seq.{take-nil, take-take, drop-drop, getD-take, getD-drop, drop-at, take-at, sets, sets-eq, length-take-le}
 use borrow.Author.Tests.{ltb-true, ltb-false}
 use Rattle.masks.proofs.Laws.Logic.{byBool}
-use Rattle.masks.proofs.Laws.Lists.{sets-suc}
 use Rattle.book.specs.Held.{window}
 
 -- ---- a part of a window, and its elements
@@ -46,7 +43,7 @@ module _ (l m : List ℕ) where
   window-front at k n h e = sym (front-window n at k l h) ∙ ap (window at k) e ∙ front-window n at k m h
 
   -- and where a back is
-  drop-longer : (k n : ℕ) → n ≤ k → drop n l ≡ drop n m → drop k l ≡ drop k m
+  pub drop-longer : (k n : ℕ) → n ≤ k → drop n l ≡ drop n m → drop k l ≡ drop k m
   drop-longer k n h e = back l ∙ ap (drop (k - n)) e ∙ sym (back m)
     where
       back : (s : List ℕ) → drop k s ≡ drop (k - n) (drop n s)
@@ -62,46 +59,7 @@ module _ (l m : List ℕ) where
       next : (a b : ℕ) → a < b → a * size + size ≤ b * size
       next a b h = rw suc-mul at (mul-le-mul-right size h)
 
--- ---- a loop that copies a window
-
--- the first i of n bytes from a place on are copied
-pub record Copying (l : List ℕ) (at n i : ℕ) (to : List ℕ) : Type 0 where
-  pub most : i ≤ n
-  pub size : length to ≡ n
-  pub front : take i to ≡ window at i l
-
-module _ (l : List ℕ) (at n : ℕ) where
-  pub copying-start : (to : List ℕ) → length to ≡ n → Copying l at n 0 to
-  copying-start to e = record { most = omega arith; size = e; front = refl }
-
-  pub copying-next : {i : ℕ} {to : List ℕ} → at + n ≤ length l → i < n → Copying l at n i to
-      → Copying l at n (i + 1) (set to i (getD l (at + i) 0))
-  copying-next {i} {to} room h k =
-      let e = k .size in
-      let x = getD l (at + i) 0 in
-      record {
-        most = omega arith;
-        size = simp length-set e;
-        front =
-            rw add-one
-            (take-suc-set to i x (omega arith)
-            ∙ ap (λ (s : List ℕ). s ++ (x ∷ [])) (k .front)
-            ∙ ap (λ (y : ℕ). window at i l ++ (y ∷ [])) (sym (getD-drop at l i 0))
-            ∙ sym (take-suc (drop at l) i 0 (omega (arith, length-drop at l))));
-      }
-
-  pub copying-end : {i : ℕ} {to : List ℕ} → n ≤ i → Copying l at n i to → to ≡ window at n l
-  copying-end {i} {to} h k =
-      let e : i ≡ n = (let m = k .most in omega arith) in
-      let f = k .size in
-      sym (take-all i to (omega arith)) ∙ k .front ∙ ap (λ (j : ℕ). window at j l) e
-
--- ---- a loop that stores a window
-
--- the first i of the n bytes s are stored from a place on
-pub record Storing (l : List ℕ) (at n : ℕ) (s : List ℕ) (i : ℕ) (now : List ℕ) : Type 0 where
-  pub most : i ≤ n
-  pub is : now ≡ sets l at (take i s)
+-- ---- a window that is stored
 
 -- s is stored from a place on, and all else is as it was
 pub record Stored (l now : List ℕ) (at n : ℕ) (s : List ℕ) : Type 0 where
@@ -109,7 +67,7 @@ pub record Stored (l now : List ℕ) (at n : ℕ) (s : List ℕ) : Type 0 where
   pub before : take at now ≡ take at l
   pub behind : drop (at + n) now ≡ drop (at + n) l
 
-stored-sets : (l : List ℕ) (at n : ℕ) (s : List ℕ) → length s ≡ n → at + n ≤ length l → Stored l (sets l at s) at n s
+pub stored-sets : (l : List ℕ) (at n : ℕ) (s : List ℕ) → length s ≡ n → at + n ≤ length l → Stored l (sets l at s) at n s
 stored-sets l at n s e h =
     record {
       is = ap (window at n) split ∙ ap (take n) (rw append-assoc (drop-at (take at l) (s ++ drop (at + n) l) at front)) ∙ take-at s (drop (at + n) l) n e;
@@ -122,26 +80,3 @@ stored-sets l at n s e h =
 
     split : sets l at s ≡ take at l ++ s ++ drop (at + n) l
     split = sets-eq s l at (omega arith) ∙ ap (λ (k : ℕ). take at l ++ s ++ drop (at + k) l) e
-
-module _ (l : List ℕ) (at n : ℕ) (s : List ℕ) where
-  pub storing-start : Storing l at n s 0 l
-  storing-start = record { most = omega arith; is = refl }
-
-  pub storing-next : {i : ℕ} {now : List ℕ} → length s ≡ n → i < n → Storing l at n s i now
-      → Storing l at n s (i + 1) (set now (at + i) (getD s i 0))
-  storing-next {i} {now} e h k =
-      record { most = omega arith; is = ap (λ (r : List ℕ). set r (at + i) (getD s i 0)) (k .is) ∙ sets-suc 0 l at s i (omega arith) }
-
-pub storing-length : {l : List ℕ} {at n : ℕ} {s : List ℕ} {i : ℕ} {now : List ℕ} → Storing l at n s i now → length now ≡ length l
-storing-length {l} {at} {n} {s} {i} k = ap length (k .is) ∙ length-sets l at (take i s)
-
--- after two bytes that were stored before the loop
-pub storing-end : (l : List ℕ) (at n a b : ℕ) (s : List ℕ) {i : ℕ} {now : List ℕ} → length s ≡ n → at + (2 + n) ≤ length l → n ≤ i
-    → Storing (set (set l at a) (at + 1) b) (at + 2) n s i now → Stored l now at (2 + n) (a ∷ b ∷ s)
-storing-end l at n a b s {i} {now} e room h k = rw whole (stored-sets l at (2 + n) (a ∷ b ∷ s) (omega arith) room)
-  where
-    whole : now ≡ sets l at (a ∷ b ∷ s)
-    whole =
-        let p : at + 1 ≡ suc at = omega arith in
-        let q : at + 2 ≡ suc (suc at) = omega arith in
-        k .is ∙ ap (sets (set (set l at a) (at + 1) b) (at + 2)) (take-all i s (omega arith)) ∙ rw (p, q)

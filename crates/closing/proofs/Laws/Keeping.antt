@@ -7,12 +7,13 @@ use Prim.Native.Nat.{ℕ, _+_, _≤_, _<_}
 use native.Mathlib.Numerals.{add-one}
 use native.Mathlib.Omega.{arith}
 use Rattle.book.specs.Limits.{maxPredicates, maxClauses}
-use Rattle.book.specs.Book.{Call, Clause}
+use Rattle.book.specs.Book.{Clause}
 use Rattle.book.specs.Held.{clauseAt, clausesOf, StoredClause}
 use Rattle.book.specs.Sets.{Known}
 use Rattle.closing.specs.Close.{keptClauses}
 use Rattle.closing.specs.Held.{ClausesKept}
 use Rattle.book.proofs.Laws.Held.{clausesOf-stored}
+use Rattle.book.proofs.Laws.Sets.{head-low}
 
 -- one clause more
 pub kept-snoc : (chosen : ℕ → Bool) (cs : List Clause) (c : Clause)
@@ -37,26 +38,26 @@ unfolding clausesOf keptClauses
 keeping-start chosen rules clauses = record { most = omega arith; few = omega arith; is = refl; ahead = λ i h. refl }
 
 module _ {chosen : ℕ → Bool} {rules : List ℕ} {clauses k n : ℕ} {now : List ℕ} (m : Keeping chosen rules clauses k n now) where
-  -- a turn: clause k is still the one that it was, and its head is c
-  module _ (h : k < clauses) {c : Call} (q : c ≡ clauseAt now k .head) where
+  -- a turn: clause k is still the one that it was, and it is of predicate p
+  module _ (h : k < clauses) {p : ℕ} (q : p ≡ clauseAt now k .head .pred) where
     abbrev here : clauseAt now k ≡ clauseAt rules k
     here = m .ahead k (omega arith)
 
-    pub keeping-low : Known rules clauses → c .pred < maxPredicates
-    keeping-low known = rw (q, here) (known .heads k h)
+    pub keeping-low : Known rules clauses → p < maxPredicates
+    keeping-low known = head-low k p known h (q ∙ ap (λ (c : Clause). c .head .pred) here)
 
-    more : {b : Bool} → chosen (c .pred) ≡ b → clausesOf now n ++ cond b [] (clauseAt now k ∷ []) ≡ keptClauses chosen (clausesOf rules (k + 1))
+    more : {b : Bool} → chosen p ≡ b → clausesOf now n ++ cond b [] (clauseAt now k ∷ []) ≡ keptClauses chosen (clausesOf rules (k + 1))
     unfolding clausesOf
     more e = rw (add-one, sym e, q, m .is, here) (sym (kept-snoc chosen (clausesOf rules k) (clauseAt rules k)))
 
     -- it goes
-    pub keeping-drop : chosen (c .pred) ≡ true → Keeping chosen rules clauses (k + 1) n now
+    pub keeping-drop : chosen p ≡ true → Keeping chosen rules clauses (k + 1) n now
     keeping-drop e =
         let f = m .few in
         record { most = omega arith; few = omega arith; is = sym (append-nil (clausesOf now n)) ∙ more e; ahead = λ i l. m .ahead i (omega arith) }
 
     -- it stays, and is stored as clause n
-    pub keeping-move : {after : List ℕ} → chosen (c .pred) ≡ false → StoredClause now after n (clauseAt now k)
+    pub keeping-move : {after : List ℕ} → chosen p ≡ false → StoredClause now after n (clauseAt now k)
         → Keeping chosen rules clauses (k + 1) (n + 1) after
     keeping-move e s =
         let f = m .few in

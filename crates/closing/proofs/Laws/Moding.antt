@@ -46,17 +46,13 @@ module _ (set : ℕ) (table modes : List ℕ) where
       }
 
   -- n is chosen, and its constraint is stored
-  moded-next : {now after masks : List ℕ} (n : ℕ) → bitAt set n ≡ true → masks ≡ entryIn table n → StoredMode now after n masks
-      → Moded now n → Moded after (suc n)
-  moded-next {now} {after} {masks} n e q s m =
+  moded-next : {now after : List ℕ} (n : ℕ) → bitAt set n ≡ true → StoredMode now after n (entryIn table n) → Moded now n → Moded after (suc n)
+  moded-next {now} {after} n e s m =
       record {
-        done = λ p h d. byBool (eqb p n) (λ t. let z = eqb-true p n t in ap (modeAt after) z ∙ own ∙ ap given (sym z))
+        done = λ p h d. byBool (eqb p n) (λ t. let z = eqb-true p n t in ap (modeAt after) z ∙ s .is ∙ ap given (sym z))
             (λ t. let ne = eqb-false p n t in modeAt-others s p ne ∙ m .done p (omega arith) d);
         kept = λ p h. modeAt-others s p (λ z. let l = h (ap (bitAt set) z ∙ e) in omega arith) ∙ m .kept p (λ d. let l = h d in omega arith);
       }
-    where
-      own : modeAt after n ≡ given n
-      own = s .is ∙ ap (λ (c : List ℕ). record { pred = n; masks = c } ∷ []) q
 
   moded-end : {now : List ℕ} → Moded now maxPredicates → ModesClosed (bitAt set) table modes now
   moded-end m p h = byBool (bitAt set p) (λ t. rw t (m .done p h t)) (λ t. rw t (m .kept p (λ d. clash d t)))
@@ -81,9 +77,10 @@ module _ {set : ℕ} {table modes now : List ℕ} {rest : ℕ} (m : Moding set t
     pub moding-low : p < maxPredicates
     moding-low = over-lowest moded maxPredicates set rest skip (m .over) z .small
 
-    pub moding-next : {after masks : List ℕ} → masks ≡ entryIn table p → StoredMode now after p masks
-        → Moding set table modes after (bitAnd rest (rest - 1))
-    moding-next {after} q s =
-        let e = over-member moded maxPredicates set rest skip (m .over) z in
+    pub moding-member : bitAt set p ≡ true
+    moding-member = over-member moded maxPredicates set rest skip (m .over) z
+
+    pub moding-next : {after : List ℕ} → StoredMode now after p (entryIn table p) → Moding set table modes after (bitAnd rest (rest - 1))
+    moding-next {after} s =
         let h = over-here moded maxPredicates set rest skip (m .over) z in
-        record { over = over-next moded maxPredicates set rest skip (m .over) z (Moded set table modes after) (moded-next set table modes p e q s h) }
+        record { over = over-next moded maxPredicates set rest skip (m .over) z (Moded set table modes after) (moded-next set table modes p moding-member s h) }

@@ -3,7 +3,7 @@
 use native.Mathlib.Omega.{arith}
 use borrow.Author.Needs.{needs}
 use Rattle.masks.proofs.Laws.Members.{others-less}
-use Rattle.closing.proofs.Laws.Moding.{Moding, moding-start, moding-low, moding-next, moding-end}
+use Rattle.closing.proofs.Laws.Moding.{Moding, moding-start, moding-low, moding-member, moding-next, moding-end}
 use Rattle.closing.proofs.close_modes.Statement.{statement}
 use Rattle.closing.proofs.close_modes.Tie as tie
 
@@ -19,19 +19,26 @@ loop-holds c = moding-start (c .args .set) (c .args .table .now) (c .args .modes
 cast-p : tie.Need-cast-p Inv-loop μ-loop
 cast-p c = let l = moding-low (c .before .loop .inv) (c .loop-test .taken) in omega arith
 
-mode-at-requires : tie.Need-mode-at-requires Inv-loop μ-loop
-mode-at-requires c κs = let l = moding-low (c .before .loop .inv) (c .loop-test .taken) in omega arith
+cast-put-mode : tie.Need-cast-put-mode Inv-loop μ-loop
+cast-put-mode c = let l = moding-low (c .before .before .loop .inv) (c .before .loop-test .taken) in omega arith
+
+mul-put-mode : tie.Need-mul-put-mode Inv-loop μ-loop
+mul-put-mode c = let l = moding-low (c .before .before .loop .inv) (c .before .loop-test .taken) in omega arith
+
+element-copy-out-put-mode : tie.Need-element-copy-out-put-mode Inv-loop μ-loop
+element-copy-out-put-mode c = let l = moding-low (c .before .before .loop .inv) (c .before .loop-test .taken) in omega arith
 
 put-mode-requires : tie.Need-put-mode-requires Inv-loop μ-loop
-put-mode-requires c κs = moding-low (c .before .before .before .loop .inv) (c .before .before .loop-test .taken)
+put-mode-requires c κs =
+    let m = c .before .before .before .loop .inv in
+    let z = c .before .before .loop-test .taken in
+    (moding-low m z, c .before .before .before .before .pre _ (moding-low m z) (moding-member m z))
 
 loop-less : tie.Need-loop-less Inv-loop μ-loop
 loop-less c = others-less (c .before .before .before .before .loop .rest) (c .before .before .before .loop-test .taken)
 
 loop-again : tie.Need-loop-again Inv-loop μ-loop
-loop-again c =
-    moding-next (c .before .before .before .before .loop .inv) (c .before .before .before .loop-test .taken) (c .before .before .mode-at .ensures)
-    (c .put-mode .ensures)
+loop-again c = moding-next (c .before .before .before .before .loop .inv) (c .before .before .before .loop-test .taken) (c .put-mode .ensures)
 
 returns : tie.Need-returns Inv-loop μ-loop
 returns c = moding-end (c .before .loop .inv) (c .loop-test .left)
@@ -45,7 +52,9 @@ close-modes-spec =
     loop-holds
     cast-p
     (λ c. search needs)
-    mode-at-requires
+    cast-put-mode
+    mul-put-mode
+    element-copy-out-put-mode
     put-mode-requires
     loop-less
     loop-again

@@ -1,12 +1,14 @@
 -- `closing::keep_clauses` meets its contract. The loop's invariant: of the first k clauses those that stay are the first n, and the clauses ahead are
 -- as they were. Assumes nothing.
-use mathlib.Core.Path.{sym, _∙_}
+use mathlib.Core.Path.{_≡_, sym, ap, _∙_}
 use mathlib.Core.Logic.{⊎-elim}
 use Prim.Native.Nat.{_-_}
 use native.Mathlib.Omega.{arith}
 use borrow.Author.Needs.{needs}
 use borrow.Author.Tests.{not-true, not-false}
 use Rattle.masks.specs.Set.{bitAt}
+use Rattle.book.specs.Book.{Call}
+use Rattle.book.specs.Held.{clauseAt}
 use Rattle.closing.proofs.Laws.Keeping.{Keeping, keeping-start, keeping-low, keeping-drop, keeping-move, keeping-end}
 use Rattle.closing.proofs.keep_clauses.Statement.{statement}
 use Rattle.closing.proofs.keep_clauses.Tie as tie
@@ -26,23 +28,29 @@ cast-head-at c = search needs
 head-at-requires : tie.Need-head-at-requires Inv-loop μ-loop
 head-at-requires c κs = search needs
 
+predicate-requires : tie.Need-predicate-requires Inv-loop μ-loop
+predicate-requires c κs = search needs
+
+-- in a turn: p is the predicate of head k
+is : (c : tie.After-predicate Inv-loop μ-loop) → c .predicate .result ≡ clauseAt (c .before .before .before .before .loop .rules) (c .before .before .before .before .loop .k) .head .pred
+is c = c .predicate .ensures ∙ ap (λ (h : Call). h .pred) (c .before .head-at .ensures)
+
 has-member-requires : tie.Need-has-member-requires Inv-loop μ-loop
-has-member-requires c κs =
-    keeping-low (c .before .before .before .loop .inv) (omega arith) (c .head-at .ensures) (c .before .before .before .before .pre .1)
+has-member-requires c κs = keeping-low (c .before .before .before .before .loop .inv) (omega arith) (is c) (c .before .before .before .before .before .pre .1)
 
 cast-move-clause : tie.Need-cast-move-clause Inv-loop μ-loop
 cast-move-clause c = search needs
 
 cast-move-clause-2 : tie.Need-cast-move-clause-2 Inv-loop μ-loop
-cast-move-clause-2 c = let f = c .before .before .before .before .before .before .loop .inv .few in omega arith
+cast-move-clause-2 c = let f = c .before .before .before .before .before .before .before .loop .inv .few in omega arith
 
 move-clause-requires : tie.Need-move-clause-requires Inv-loop μ-loop
 move-clause-requires c κs =
-    let f = c .before .before .before .before .before .before .loop .inv .few in
+    let f = c .before .before .before .before .before .before .before .loop .inv .few in
     (omega arith, omega arith)
 
 add-n : tie.Need-add-n Inv-loop μ-loop
-add-n c = let f = c .before .before .before .before .before .before .before .loop .inv .few in omega arith
+add-n c = let f = c .before .before .before .before .before .before .before .before .loop .inv .few in omega arith
 
 add-k : tie.Need-add-k Inv-loop μ-loop
 add-k c = omega arith
@@ -52,8 +60,8 @@ loop-less c = omega arith
 
 loop-again : tie.Need-loop-again Inv-loop μ-loop
 loop-again c =
-    let l = c .before .before .before .before .before .loop .inv in
-    let q = c .before .before .head-at .ensures in
+    let l = c .before .before .before .before .before .before .loop .inv in
+    let q = is (c .before .before) in
     let has = sym (c .before .has-member .ensures) in
     ⊎-elim
     (λ w. rw (w .3, w .4) (keeping-move l (omega arith) q (has ∙ search (not-true, w .0 .taken)) (w .2 .ensures)))
@@ -72,6 +80,7 @@ keep-clauses-spec =
     loop-holds
     cast-head-at
     head-at-requires
+    predicate-requires
     has-member-requires
     cast-move-clause
     cast-move-clause-2

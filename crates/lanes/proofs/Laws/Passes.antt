@@ -15,7 +15,7 @@ use Rattle.ordering.specs.Adorn.{Bound}
 use Rattle.ordering.specs.Turns.{goodFrom, firstGood}
 use Rattle.ordering.specs.Good as clause
 use Rattle.ordering.specs.Good.{readyAt, afterAt, isSome}
-use Rattle.lanes.specs.Passes.{visit, visits, passes}
+use Rattle.lanes.specs.Passes.{visit, visits, passes, Taken}
 use Rattle.masks.proofs.Laws.Logic.{same}
 use Rattle.ordering.proofs.Laws.Orders.{same?, without-in, without-keeps, without-gone, without-distinct, Takes, takes-has, takes-right, right-takes, count-suc, count-in, in-count, count-distinct}
 use Rattle.ordering.proofs.Laws.Greedy.{Growing, good-parts, good-cons, first-good, good-first}
@@ -252,6 +252,38 @@ module _ {B : Type 0} {ready : B → ℕ → Bool} {after : B → ℕ → B} {Le
       ap (λ c. goodFrom ready after c (count 0 n)) (sym (passes-add ready after n k n b ∙ passes-still ready after n n (passes ready after n k b) e))
       ∙ enough-passes n (k + n) b (omega arith)
 
+-- ---- what is taken stays taken, and taking it again changes nothing
+
+module _ (T : Table) (body : List Call) (b : Bound) (p : ℕ) where
+  abbrev next : ℕ → Bound
+  next q = visit (readyAt T body) (afterAt body) b q
+
+  pub taken-visit : Taken T body b p → next p ≡ b
+  unfolding visit
+  taken-visit t = rw (t .ready·) (t .still)
+
+  pub taken-after : readyAt T body b p ≡ true → Taken T body (next p) p
+  taken-after r =
+      let g = bound-growing T body in
+      let e = visit-ready (readyAt T body) (afterAt body) b p r in
+      record {
+        ready· = ap (λ (c : Bound). readyAt T body c p) e ∙ g .ready-mono b (afterAt body b p) p (g .after-grows b p) r;
+        still = ap (λ (c : Bound). afterAt body c p) e ∙ g .after-twice b p ∙ sym e;
+      }
+
+  pub taken-stays : (q : ℕ) → Taken T body b p → Taken T body (next q) p
+  unfolding visit
+  taken-stays q t =
+      let g = bound-growing T body in
+      record {
+        ready· = g .ready-mono b (next q) p (visit-grows g b q) (t .ready·);
+        still = go (readyAt T body b q);
+      }
+    where
+      go : (c : Bool) → afterAt body (cond c (afterAt body b q) b) p ≡ cond c (afterAt body b q) b
+      go true = bound-growing T body .after-swap b q p ∙ ap (λ (d : Bound). afterAt body d q) (t .still)
+      go false = t .still
+
 -- ---- for the subgoals of a clause
 
 module _ (T : Table) (body : List Call) (n k : ℕ) (b : Bound) where
@@ -263,6 +295,10 @@ module _ (T : Table) (body : List Call) (n k : ℕ) (b : Bound) where
       ≡ passes (readyAt T body) (afterAt body) n k b
       → clause.goodFrom T body (passes (readyAt T body) (afterAt body) n k b) (count 0 n) ≡ isSome (firstGood (readyAt T body) (afterAt body) b n)
   settled e = still-passes (bound-growing T body) n k b e
+
+  -- after any passes, what is ready in turn has a good order
+  pub early : clause.goodFrom T body (passes (readyAt T body) (afterAt body) n k b) (count 0 n) ≡ true → isSome (firstGood (readyAt T body) (afterAt body) b n) ≡ true
+  early g = any-passes (bound-growing T body) n k b g
 
   pub one-more : visits (readyAt T body) (afterAt body) (passes (readyAt T body) (afterAt body) n k b) (count 0 n)
       ≡ passes (readyAt T body) (afterAt body) n (suc k) b

@@ -9,7 +9,7 @@ use native.Mathlib.Omega.{arith}
 use lib.Bits.{bitOr}
 use lib.Dec.{eqb, leb}
 use lib.ListN.{length, getD, set, replicate, take, length-set, getD-replicate, List·getD-eq-default}
-use lib.Seq.{getD-take, getD-set-same, getD-set-other, set-getD}
+use lib.Seq.{take-all, getD-set-same, getD-set-other}
 use borrow.Author.Tests.{eqb-true, eqb-false, eq-eqb, ne-eqb, lt-ltb, le-ltb, leb-true, leb-false}
 use Rattle.masks.specs.Limits.{maxArity}
 use Rattle.masks.specs.Set.{bitAt}
@@ -18,16 +18,11 @@ use Rattle.book.specs.Book.{Call}
 use Rattle.ordering.specs.Adorn.{variables, literal, Bound, nothing, isBound, patternOf, bindVar, bindAll, bindHead, headBound, after}
 use Rattle.lanes.specs.Lanes.{lane, Binds}
 use Rattle.masks.proofs.Laws.Logic.{byBool}
-use Rattle.masks.proofs.Laws.Lists.{take-front, front-lt}
 use Rattle.masks.proofs.Laws.Set.{bitAt-zero}
 use Rattle.masks.proofs.Laws.Patterns.{ones, bitAt-ones, column, bitAt-column}
 use Rattle.ordering.proofs.Laws.Adorn.{after-args}
 use Rattle.ordering.proofs.Laws.Steps.{var-set, var-skip}
 use Rattle.lanes.proofs.Laws.Words.{lane-at, lane-or, lane-zeros, pattern-at, pattern-past}
-
--- of the first n of an array, all are done
-all-done : (n i : ℕ) (l : List ℕ) → i ≡ length (take n l) → take i l ≡ take n l
-all-done n i l e = ap (λ (k : ℕ). take k l) e ∙ take-front n l
 
 -- ---- an argument
 
@@ -78,18 +73,13 @@ module _ (vars args : List ℕ) where
         rest = λ j k. getD-set-other words i j w 0 (λ e. omega arith) ∙ g .rest j (omega arith);
       }
 
-  pub words-end : (n : ℕ) {i : ℕ} {words : List ℕ} → i ≡ length (take n args) → Words vars args i words
-      → EachLane (λ a. Agrees words a (patternOf (lane a vars) (take n args)))
-  words-end n {i} {words} e g a l j m =
+  pub words-end : {i : ℕ} {words : List ℕ} → i ≡ length args → Words vars args i words → EachLane (λ a. Agrees words a (patternOf (lane a vars) args))
+  words-end {i} {words} e g a l j m =
       byBool (leb i j)
       (λ t.
       let o = leb-true i j t in
-      ap (λ (x : ℕ). bitAt x a) (g .rest j o) ∙ bitAt-zero a ∙ sym (pattern-past (lane a vars) (take n args) j (omega arith)))
-      (λ t.
-      let o = leb-false i j t in
-      let q = front-lt n j args (omega arith) in
-      g .made a l j o
-      ∙ sym (pattern-at (lane a vars) (take n args) j (omega arith) ∙ ap (isBound (lane a vars)) (getD-take n args j 0 (q .0))))
+      ap (λ (x : ℕ). bitAt x a) (g .rest j o) ∙ bitAt-zero a ∙ sym (pattern-past (lane a vars) args j (omega arith)))
+      (λ t. let o = leb-false i j t in g .made a l j o ∙ sym (pattern-at (lane a vars) args j (omega arith)))
 
 -- ---- an argument bound in the lanes of r
 
@@ -108,10 +98,6 @@ module _ (v r : ℕ) (vars : List ℕ) {then : List ℕ} where
       go : (c : Bool) → lane a vars ≡ cond c (bindVar (lane a vars) v) (lane a vars)
       go true = sym (var-skip (lane a vars) v l)
       go false = refl
-
-  -- the word that is stored is the one that was there
-  pub one-still : then ≡ set vars v (bitOr (getD vars v 0) r) → bitOr (getD vars v 0) r ≡ getD vars v 0 → then ≡ vars
-  one-still e q = e ∙ ap (set vars v) q ∙ set-getD vars v 0
 
 -- ---- the variables of a subgoal: those of the first i arguments are bound in the lanes of r
 
@@ -135,23 +121,22 @@ module _ (pred : ℕ) (args : List ℕ) where
       after-args b (upTo (suc i)) ∙ bind-suc args i h b ∙ ap (λ (c : Bound). bindVar c (getD args i 0)) (sym (after-args b (upTo i)))
 
   module _ (r : ℕ) (before : List ℕ) where
-    pub binding-start : Binds (upTo 0) r before before false
-    binding-start = record { lanes = λ a h. go (bitAt r a) (lane a before) (sym (after-none (lane a before))); still = λ e. refl }
+    pub binding-start : Binds (upTo 0) r before before
+    binding-start = record { lanes = λ a h. go (bitAt r a) (lane a before) (sym (after-none (lane a before))) }
       where
         go : (c : Bool) (b : Bound) {d : Bound} → b ≡ d → b ≡ cond c d b
         go true b e = e
         go false b e = refl
 
-    pub binding-next : (i : ℕ) {now then : List ℕ} {moved more : Bool} → i < length args → BindsOne (getD args i 0) r now then
-        → (more ≡ false → (moved ≡ false) × (then ≡ now)) → Binds (upTo i) r before now moved → Binds (upTo (i + 1)) r before then more
-    binding-next i l f m g =
+    pub binding-next : (i : ℕ) {now then : List ℕ} → i < length args → BindsOne (getD args i 0) r now then → Binds (upTo i) r before now
+        → Binds (upTo (i + 1)) r before then
+    binding-next i l f g =
         record {
           lanes = λ a h.
               f a h
               ∙ ap (λ (b : Bound). cond (bitAt r a) (bindVar b (getD args i 0)) b) (g .lanes a h)
               ∙ inside (bitAt r a) (lane a before) (after (lane a before) (upTo i)) (getD args i 0)
               ∙ rw add-one (sym (ap (λ (b : Bound). cond (bitAt r a) b (lane a before)) (after-suc i l (lane a before))));
-          still = λ e. m e .1 ∙ g .still (m e .0);
         }
       where
         -- in the lanes of r one variable more, elsewhere all as it was
@@ -159,10 +144,8 @@ module _ (pred : ℕ) (args : List ℕ) where
         inside true b d v = refl
         inside false b d v = refl
 
-    pub binding-end : (n i : ℕ) {now : List ℕ} {moved : Bool} → i ≡ length (take n args) → Binds (upTo i) r before now moved
-        → Binds (upTo n) r before now moved
-    binding-end n i {now} {moved} e g =
-        subst (λ (l : List ℕ). Binds (record { pred = pred; args = l }) r before now moved) (all-done n i args e) g
+    pub binding-end : (i : ℕ) {now : List ℕ} → i ≡ length args → Binds (upTo i) r before now → Binds (record { pred = pred; args = args }) r before now
+    binding-end i {now} e g = subst (λ (l : List ℕ). Binds (record { pred = pred; args = l }) r before now) (take-all i args (omega arith)) g
 
 -- ---- the variables of a head: those of the first i positions are bound in the lanes that have its bit
 
@@ -194,5 +177,5 @@ module _ (args : List ℕ) where
             ∙ rw add-one (sym (head-suc args i l nothing a));
       }
 
-  pub headed-end : (n : ℕ) {i : ℕ} {vars : List ℕ} → i ≡ length (take n args) → Headed args i vars → EachLane (λ a. lane a vars ≡ headBound (take n args) a)
-  headed-end n {i} e g a h = g .lanes a h ∙ ap (λ (l : List ℕ). headBound l a) (all-done n i args e)
+  pub headed-end : {i : ℕ} {vars : List ℕ} → i ≡ length args → Headed args i vars → EachLane (λ a. lane a vars ≡ headBound args a)
+  headed-end {i} e g a h = g .lanes a h ∙ ap (λ (l : List ℕ). headBound l a) (take-all i args (omega arith))

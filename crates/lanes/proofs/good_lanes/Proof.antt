@@ -1,7 +1,7 @@
 -- `lanes::good_lanes` meets its contract: in each lane, the body has a good order from what the head binds. Assumes nothing.
 use borrow.Author.Needs.{needs}
 use Rattle.book.specs.Limits.{maxPredicates}
-use Rattle.book.specs.Held.{callOf, clauseAt}
+use Rattle.book.specs.Held.{callIn, clauseAt}
 use Rattle.book.specs.Table.{tableIn}
 use Rattle.lanes.proofs.Laws.Passing.{clause-good}
 use Rattle.lanes.proofs.good_lanes.Statement.{statement}
@@ -21,7 +21,7 @@ returns c =
     let args = c .before .before .before .before .args in
     let head = c .before .before .before .head-at in
     let vars = c .before .before .head-lanes in
-    clause-good (tableIn (args .table .now) maxPredicates) (clauseAt (args .rules .now) (args .k)) (callOf (head .result)) (vars .result) (c .body-lanes .result)
+    clause-good (tableIn (args .table .now) maxPredicates) (clauseAt (args .rules .now) (args .k)) (callIn (head .result)) (vars .result) (c .body-lanes .result)
     (head .ensures) (vars .ensures) (c .body-lanes .ensures)
 
 pub good-lanes-spec : {M : Type 1} → statement M

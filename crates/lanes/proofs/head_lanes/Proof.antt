@@ -3,16 +3,16 @@ use mathlib.Core.Path.{ap, _∙_}
 use mathlib.Core.Logic.{⊎-elim}
 use Prim.Native.Nat.{_-_, _≤_}
 use native.Mathlib.Omega.{arith}
-use lib.ListN.{length, length-take, length-set}
+use lib.ListN.{length, length-set}
 use borrow.Author.Needs.{needs}
-use Rattle.book.specs.Held.{countIn}
+use Rattle.book.specs.Held.{callIn}
 use Rattle.masks.proofs.Laws.Patterns.{column}
 use Rattle.lanes.proofs.Laws.Steps.{one-var, one-other, Headed, headed-start, headed-next, headed-end}
 use Rattle.lanes.proofs.head_lanes.Statement.{statement}
 use Rattle.lanes.proofs.head_lanes.Tie as tie
 
 abbrev Inv-loop : tie.InvT-loop
-Inv-loop head n vars₀ i₀ vars i = (i ≤ n) × Headed (head .args) i vars
+Inv-loop head n vars₀ i₀ vars i = (i ≤ n) × Headed (callIn head .args) i vars
 
 abbrev μ-loop : tie.MeasureT-loop
 μ-loop head n vars₀ i₀ vars i = n - i
@@ -21,10 +21,10 @@ arguments-requires : tie.Need-arguments-requires Inv-loop μ-loop
 arguments-requires c κs = search needs
 
 loop-holds : tie.Need-loop-holds Inv-loop μ-loop
-loop-holds c = (omega arith, headed-start (c .before .args .t1 .args))
+loop-holds c = (omega arith, headed-start (callIn (c .before .args .head) .args))
 
-element-copy-out-v : tie.Need-element-copy-out-v Inv-loop μ-loop
-element-copy-out-v c = let n = c .before .before .arguments .ensures .1 in omega arith
+argument-requires : tie.Need-argument-requires Inv-loop μ-loop
+argument-requires c κs = let n = c .before .before .arguments .ensures .0 in omega arith
 
 cast-w : tie.Need-cast-w Inv-loop μ-loop
 cast-w c = search needs
@@ -53,21 +53,23 @@ add-i c = omega arith
 loop-again : tie.Need-loop-again Inv-loop μ-loop
 loop-again c =
     let l = c .before .before .before .loop in
-    let head = c .before .before .before .before .before .args .t1 in
-    let n = c .before .before .before .before .arguments .ensures in (
+    let args = callIn (c .before .before .before .before .before .args .head) .args in
+    let n = c .before .before .before .before .arguments .ensures in
+    let v = c .before .argument in (
       omega arith,
-      headed-next (head .args) (l .i) (omega (arith, length-take (countIn (head .n)) (head .args))) (omega arith)
+      headed-next args (l .i) (omega arith) (omega arith)
           (⊎-elim (λ u. ap length (u .1) ∙ length-set (l .vars) _ _) (λ u. ap length (u .1)) (c .if1 .came))
-          (⊎-elim (λ u. one-var _ (column (l .i)) (l .vars) (omega arith) (u .1)) (λ u. one-other _ (column (l .i)) (l .vars) (omega arith) (u .1)) (c .if1 .came))
+          (rw (← v .ensures)
+          (⊎-elim (λ u. one-var (v .result) (column (l .i)) (l .vars) (omega arith) (u .1)) (λ u. one-other (v .result) (column (l .i)) (l .vars) (omega arith) (u .1))
+          (c .if1 .came)))
           (l .inv .1),
     )
 
 returns : tie.Need-returns Inv-loop μ-loop
 returns c =
     let l = c .before .loop in
-    let head = c .before .before .before .args .t1 in
     let n = c .before .before .arguments .ensures .0 in
-    headed-end (head .args) (countIn (head .n)) (omega arith) (l .inv .1)
+    headed-end (callIn (c .before .before .before .args .head) .args) (omega arith) (l .inv .1)
 
 pub head-lanes-spec : {M : Type 1} → statement M
 head-lanes-spec =
@@ -77,7 +79,7 @@ head-lanes-spec =
     μ-loop
     arguments-requires
     loop-holds
-    element-copy-out-v
+    argument-requires
     cast-w
     mul-vars
     array-read-vars

@@ -1,12 +1,13 @@
 -- `lanes::ready_lanes` meets its contract: in each lane, the pattern fits the constraint that is held at the predicate. Assumes nothing.
 use mathlib.Core.Path.{sym, ap, _∙_}
-use mathlib.Core.List.{List}
 use Prim.Native.Nat.{ℕ}
+use native.Mathlib.Omega.{arith}
+use lib.ListN.{getD}
 use borrow.Author.Needs.{needs}
-use Rattle.masks.specs.Limits.{allPatterns}
-use Rattle.masks.specs.Constraint.{admits, inRange}
+use Rattle.masks.specs.Constraint.{admits}
+use Rattle.masks.specs.Set.{members}
 use Rattle.book.specs.Limits.{maxPredicates}
-use Rattle.book.specs.Held.{callOf}
+use Rattle.book.specs.Held.{callIn}
 use Rattle.ordering.specs.Adorn.{patternOf}
 use Rattle.lanes.specs.Lanes.{lane}
 use Rattle.ordering.proofs.Laws.Held.{ready-held}
@@ -16,26 +17,41 @@ use Rattle.lanes.proofs.ready_lanes.Tie as tie
 pattern-lanes-requires : tie.Need-pattern-lanes-requires
 pattern-lanes-requires c κs = search needs
 
-masks-at-requires : tie.Need-masks-at-requires
-masks-at-requires c κs = c .before .pre .0
+predicate-requires : tie.Need-predicate-requires
+predicate-requires c κs = search needs
+
+cast-p : tie.Need-cast-p
+cast-p c = search needs
+
+mul-fit-lanes : tie.Need-mul-fit-lanes
+mul-fit-lanes c = let e = c .predicate .ensures in let l = c .before .before .pre in omega arith
+
+element-copy-out-fit-lanes : tie.Need-element-copy-out-fit-lanes
+element-copy-out-fit-lanes c = let e = c .predicate .ensures in let l = c .before .before .pre in omega arith
 
 fit-lanes-requires : tie.Need-fit-lanes-requires
-fit-lanes-requires c κs =
-    let s = c .before .before .before in
-    ap (inRange allPatterns) (c .before .masks-at .ensures) ∙ s .pre .1 (callOf (s .args .s) .pred) (s .pre .0)
+fit-lanes-requires c κs = search needs
 
 returns : tie.Need-returns
 returns c =
-    let s = c .before .before .before .before in
+    let s = c .before .before .before .before .before in
     let table = s .args .table .now in
-    let call = callOf (s .args .s) in
-    let masks = c .before .before .masks-at in
-    let words = c .before .before .before .pattern-lanes in
+    let call = callIn (s .args .s) in
+    let words = c .before .before .before .before .pattern-lanes in
     λ a h.
     let b = lane a (s .args .vars .now) in
     c .fit-lanes .ensures a h (patternOf b (call .args)) (words .ensures a h)
-    ∙ ap (λ (m : List ℕ). admits m (patternOf b (call .args))) (masks .ensures)
-    ∙ sym (ready-held table maxPredicates b call (s .pre .0))
+    ∙ ap (λ (p : ℕ). admits (members (getD table p 0)) (patternOf b (call .args))) (c .before .before .before .predicate .ensures)
+    ∙ sym (ready-held table maxPredicates b call (s .pre))
 
 pub ready-lanes-spec : {M : Type 1} → statement M
-ready-lanes-spec = tie.close (tie.spec pattern-lanes-requires masks-at-requires fit-lanes-requires returns)
+ready-lanes-spec =
+    tie.close
+    (tie.spec
+    pattern-lanes-requires
+    predicate-requires
+    cast-p
+    mul-fit-lanes
+    element-copy-out-fit-lanes
+    fit-lanes-requires
+    returns)

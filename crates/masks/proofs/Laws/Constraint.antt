@@ -2,14 +2,14 @@
 -- from what the form admits, so two written forms that admit the same patterns are equal. Assumes nothing.
 use mathlib.Core.Path.{_≡_, refl, sym, ap, ap₂, _∙_}
 use mathlib.Core.Bool.{Bool, true, false, not, cond, _&&_, _||_, and-or-distrib-left, and-or-distrib-right, and-false, and-true, or-false, false≢true}
-use mathlib.Core.List.{List, [], _∷_, _++_, map, append-nil}
-use Prim.Native.Nat.{ℕ, zero, suc, _+_, _^_, _≤_, _<_, _-_}
+use mathlib.Core.List.{List, [], _∷_, _++_, map}
+use Prim.Native.Nat.{ℕ, zero, suc, _+_, _^_, _≤_, _<_}
 use native.Mathlib.Omega.{arith}
 use lib.Bits.{bitAnd, bitOr, or-lt}
 use lib.Dec.{eqb, ltb}
 use lib.ListN.{length, getD, take}
 use lib.Seq.{getD-take}
-use borrow.Author.Tests.{eqb-true, eq-eqb, ne-eqb, ltb-true, lt-ltb, le-ltb}
+use borrow.Author.Tests.{eqb-true, eq-eqb, ne-eqb, ltb-true, lt-ltb}
 use Rattle.masks.specs.Limits.{allPatterns}
 use Rattle.masks.specs.Mask.{within}
 use Rattle.masks.specs.Lists.{any, all, anyBelow, has, ascending}
@@ -352,21 +352,6 @@ pub admits-joint : (c d : List ℕ) → inRange allPatterns c ≡ true → inRan
 unfolding joint
 admits-joint c d s t a = admits-minimise (unions c d) (unions-inRange 6 c d s t) a ∙ admits-unions c d a
 
--- past the patterns of a set there is nothing to write
-written-past : (g : ℕ → Bool) (n d : ℕ) → ((a : ℕ) → n ≤ a → a < n + d → g a ≡ false) → written g (n + d) ≡ written g n
-written-past g n zero h = let e : n + 0 ≡ n = omega arith in ap (written g) e
-written-past g n (suc d) h =
-    let e : n + suc d ≡ suc (n + d) = omega arith in
-    let z : (g (n + d) && not (admits (written g (n + d)) (n + d))) ≡ false = rw (h (n + d) (omega arith) (omega arith)) in
-    ap (written g) e ∙ written-suc g (n + d) ∙ rw z (append-nil (written g (n + d))) ∙ written-past g n d (λ a l k. h a l (omega arith))
-
-pub written-cut : (f g : ℕ → Bool) (n m : ℕ) → n ≤ m → ((a : ℕ) → a < m → g a ≡ (ltb a n && f a)) → written g m ≡ written f n
-written-cut f g n m h e =
-    let q : m ≡ n + (m - n) = omega arith in
-    ap (written g) q
-    ∙ written-past g n (m - n) (λ a l k. e a (omega arith) ∙ rw (le-ltb a n l))
-    ∙ written-cong g f n (λ a l. e a (omega arith) ∙ rw (lt-ltb a n l))
-
 -- ---- the same masks, by the test
 
 pub sameMasks-true : (xs ys : List ℕ) → sameMasks xs ys ≡ true → xs ≡ ys
@@ -380,6 +365,3 @@ sameMasks-true (x ∷ xs) (y ∷ ys) e =
 pub sameMasks-refl : (xs : List ℕ) → sameMasks xs xs ≡ true
 sameMasks-refl [] = refl
 sameMasks-refl (x ∷ xs) = and-intro (eq-eqb x x refl) (sameMasks-refl xs)
-
-pub sameMasks-other : (xs ys : List ℕ) → (xs ≡ ys → ⊥) → false ≡ sameMasks xs ys
-sameMasks-other xs ys ne = sym (false-of (λ t. ne (sameMasks-true xs ys t)))

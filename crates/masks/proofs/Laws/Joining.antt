@@ -14,7 +14,6 @@ use borrow.Author.Tests.{le-ltb, lt-ltb, ltb-false}
 use Rattle.masks.specs.Limits.{maxArity, maxMasks, allPatterns}
 use Rattle.masks.specs.Lists.{has}
 use Rattle.masks.specs.Constraint.{admits, isWritten, inRange, written, unions, joint}
-use Rattle.masks.specs.Held.{packed}
 use Rattle.masks.specs.Set.{bitAt, Holds}
 use Rattle.masks.specs.Outcome.{Outcome, refused, done, Answers}
 use Rattle.masks.specs.declared.reply.Reply.{Reply}
@@ -25,7 +24,8 @@ use Rattle.masks.proofs.Laws.Logic.{byBool}
 use Rattle.masks.proofs.Laws.Lists.{all-suc, has-append}
 use Rattle.masks.proofs.Laws.Constraint.{inRange-at, inRange-mono, choice-isWritten-at, joint-isWritten-at, admits-choice, admits-joint}
 use Rattle.masks.proofs.Laws.Outcome.{answers-bytes, answers-number}
-use Rattle.masks.proofs.Laws.Set.{minimise-packed, bitAt-zero}
+use Rattle.masks.proofs.Laws.Set.{bitAt-zero}
+use Rattle.masks.proofs.Laws.Sets.{minimise-held}
 
 -- ---- computed: a list of 21 masks is 5, also where they are out of range
 
@@ -51,11 +51,11 @@ joint-next word more x y i h f g k =
     ∙ sym (has-append (unions (take i x) y) (map (bitOr (getD x i 0)) y) k)
     ∙ ap (λ (l : List ℕ). has l k) (sym e)
 
-pub joint-packed : (word : ℕ) (x y : List ℕ) (i : ℕ) → i ≡ length x → Holds word (has (unions (take i x) y))
-    → packed (written (bitAt word) allPatterns) ≡ packed (joint x y)
+pub joint-held : (word : ℕ) (x y : List ℕ) (i : ℕ) → i ≡ length x → Holds word (has (unions (take i x) y))
+    → written (bitAt word) allPatterns ≡ joint x y
 unfolding joint
-joint-packed word x y i e f =
-    minimise-packed word (unions x y) (λ k. f k ∙ ap (λ (l : List ℕ). has (unions l y) k) (ap (λ (j : ℕ). take j x) e ∙ take-length x))
+joint-held word x y i e f =
+    minimise-held word (unions x y) (λ k. f k ∙ ap (λ (l : List ℕ). has (unions l y) k) (ap (λ (j : ℕ). take j x) e ∙ take-length x))
 
 -- ---- the faults
 

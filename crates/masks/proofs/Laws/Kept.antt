@@ -1,81 +1,90 @@
--- The written form of a word's set is made mask by mask, from 0 up: m is kept where its bit is set and none of those kept is contained in it.
--- There is always room, since a written form has at most twenty masks. Assumes nothing.
+-- The masks kept on the way to the written form: of the set's masks below k those that it keeps. One that contains a kept one is dropped, any other is
+-- kept. Assumes nothing.
 use mathlib.Core.Path.{_≡_, refl, sym, ap, ap₂, _∙_}
-use mathlib.Core.Bool.{Bool, true, false, not, _&&_, and-false}
+use mathlib.Core.Bool.{Bool, true, false, not, cond, _&&_, _||_, or-false, and-false}
 use mathlib.Core.List.{List, [], _∷_, _++_, append-nil}
-use Prim.Native.Nat.{ℕ, suc, _+_, _≤_, _<_}
+use Prim.Native.Nat.{ℕ, suc, _^_, _<_}
 use native.Mathlib.Omega.{arith}
-use lib.Bits.{bitAnd}
-use lib.ListN.{length, getD, take, set, replicate, length-take, length-append}
-use Rattle.masks.specs.Limits.{maxMasks, allPatterns}
-use Rattle.masks.specs.Constraint.{admits, written}
-use Rattle.masks.specs.Held.{padded, packed}
-use Rattle.masks.specs.Set.{bitAt}
-use Rattle.masks.specs.declared.constraint.Constraint.{Constraint}
-use Rattle.masks.proofs.Laws.Held.{masksOf-packed, length-padded, padded-snoc}
-use Rattle.masks.proofs.Laws.Constraint.{written-isWritten, written-suc, admits-at}
-use Rattle.masks.proofs.Laws.Chains.{at-most-twenty}
+use lib.Bits.{bitOr}
+use lib.Dec.{eqb}
+use borrow.Author.Tests.{eqb-true, eqb-false}
+use Rattle.masks.specs.Limits.{allPatterns}
+use Rattle.masks.specs.Lists.{has, below}
+use Rattle.masks.specs.Mask.{within}
+use Rattle.masks.specs.Constraint.{admits, least, written}
+use Rattle.masks.specs.Set.{bitAt, members}
+use Rattle.masks.proofs.Laws.Logic.{byBool, clash, same, false-of}
+use Rattle.masks.proofs.Laws.Lists.{has-append, below-has, has-below, below-cong}
+use Rattle.masks.proofs.Laws.Constraint.{admits-has, has-admits, written-suc}
+use Rattle.masks.proofs.Laws.Set.{bitAt-zero, bitAt-or, bitAt-power}
+use Rattle.masks.proofs.Laws.Sets.{members-cong}
 
--- the masks below m are done: n of them are kept
-pub record Kept (word n : ℕ) (masks : List ℕ) (m : ℕ) : Type 0 where
-  pub count-is : n ≡ length (written (bitAt word) m)
-  pub masks-are : masks ≡ padded (written (bitAt word) m)
+-- the kept ones are those of the written form of the masks below k
+abbrev pub Kept : ℕ → ℕ → ℕ → Type 0
+Kept set kept k = (j : ℕ) → bitAt kept j ≡ has (written (bitAt set) k) j
 
-pub kept-start : (word : ℕ) → Kept word 0 (replicate maxMasks 0) 0
-unfolding written padded
-kept-start word = record { count-is = refl; masks-are = refl }
+-- none of the kept ones below k is contained in m
+abbrev pub Clear : ℕ → ℕ → ℕ → Type 0
+Clear kept m k = (j : ℕ) → j < k → bitAt kept j ≡ true → within j m ≡ false
 
-module _ (word n : ℕ) (masks : List ℕ) (m : ℕ) where
-  -- m is not kept: it is not in the set, or a mask that is kept is contained in it
-  kept-not : (bitAt word m && not (admits (written (bitAt word) m) m)) ≡ false → Kept word n masks m → Kept word n masks (suc m)
-  kept-not e k =
-      let w : written (bitAt word) (suc m) ≡ written (bitAt word) m = written-suc (bitAt word) m ∙ rw e (append-nil (written (bitAt word) m)) in
-      record { count-is = k .count-is ∙ ap {B = ℕ} length (sym w); masks-are = k .masks-are ∙ ap padded (sym w) }
+pub kept-start : (set : ℕ) → Kept set 0 0
+unfolding written
+kept-start set = bitAt-zero
 
-  pub kept-absent : bitAt word m ≡ false → Kept word n masks m → Kept word n masks (suc m)
-  kept-absent z = kept-not (ap (λ (b : Bool). b && not (admits (written (bitAt word) m) m)) z)
+module _ (set kept : ℕ) where
+  abbrev form : ℕ → List ℕ
+  form = written (bitAt set)
 
-  module _ (h : m ≤ allPatterns) (k : Kept word n masks m) where
-    pub kept-room : n ≤ maxMasks
-    kept-room = let e = k .count-is in let l = at-most-twenty m (written (bitAt word) m) h (written-isWritten (bitAt word) m) in omega arith
+  -- a mask that is not kept
+  same-form : (k : ℕ) → (bitAt set k && not (admits (form k) k)) ≡ false → Kept set kept k → Kept set kept (suc k)
+  same-form k t e j =
+      let f : form (suc k) ≡ form k = written-suc (bitAt set) k ∙ rw t (append-nil (form k)) in
+      e j ∙ ap (λ (c : List ℕ). has c j) (sym f)
 
-    pub kept-length : length masks ≡ maxMasks
-    kept-length = ap {B = ℕ} length (k .masks-are) ∙ length-padded (written (bitAt word) m) (let e = k .count-is in let r = kept-room in omega arith)
+  pub kept-absent : (k : ℕ) → bitAt set k ≡ false → Kept set kept k → Kept set kept (suc k)
+  kept-absent k t = same-form k (rw t)
 
-    kept-masks : take n masks ≡ written (bitAt word) m
-    kept-masks = ap₂ (λ (i : ℕ) (l : List ℕ). take i l) (k .count-is) (k .masks-are) ∙ masksOf-packed (written (bitAt word) m)
+  -- it contains a kept one
+  pub kept-dropped : (m k : ℕ) → bitAt kept k ≡ true → within k m ≡ true → Kept set kept m → Kept set kept (suc m)
+  kept-dropped m k t w e =
+      same-form m (ap (λ (x : Bool). bitAt set m && not x) (has-admits (form m) m k (sym (e k) ∙ t) w) ∙ and-false (bitAt set m)) e
 
-    pub kept-dropped : (i : ℕ) → i < n → bitAnd (getD masks i 0) m ≡ getD masks i 0 → Kept word n masks (suc m)
-    kept-dropped i l e =
-        let h : i < length (take n masks) = (let r = kept-room in let s = kept-length in let t = length-take n masks in omega arith) in
-        let a : admits (written (bitAt word) m) m ≡ true = ap (λ (c : List ℕ). admits c m) (sym kept-masks) ∙ admits-at masks n m i h e in
-        kept-not (ap (λ (b : Bool). bitAt word m && not b) a ∙ and-false (bitAt word m)) k
+  -- it contains none
+  pub kept-new : (m : ℕ) → m < allPatterns → bitAt set m ≡ true → Clear kept m allPatterns → Kept set kept m → Kept set (bitOr kept (2 ^ m)) (suc m)
+  unfolding written
+  kept-new m l t c e j =
+      let n : admits (form m) m ≡ false =
+      false-of
+      (λ a.
+      let r = admits-has (form m) m a in
+      let b = below-has (least (bitAt set) m) m (r .0) (r .1) .0 in
+      clash (r .2) (c (r .0) (omega arith) (e (r .0) ∙ r .1))) in
+      let f : form (suc m) ≡ form m ++ (m ∷ []) = written-suc (bitAt set) m ∙ rw (t, n) in
+      bitAt-or kept (2 ^ m) j
+      ∙ ap₂ (λ (x y : Bool). x || y) (e j) (bitAt-power m j ∙ sym (or-false (eqb j m)))
+      ∙ sym (has-append (form m) (m ∷ []) j)
+      ∙ ap (λ (d : List ℕ). has d j) (sym f)
 
-    -- m is kept: it is in the set, and none that is kept is contained in it
-    module _ (one : bitAt word m ≡ true) (none : admits (take n masks) m ≡ false) where
-      kept-more : written (bitAt word) (suc m) ≡ written (bitAt word) m ++ (m ∷ [])
-      kept-more =
-          let a : admits (written (bitAt word) m) m ≡ false = ap (λ (c : List ℕ). admits c m) (sym kept-masks) ∙ none in
-          written-suc (bitAt word) m ∙ rw (one, a)
+  pub kept-end : Kept set kept allPatterns → members kept ≡ form allPatterns
+  unfolding written
+  kept-end e =
+      members-cong kept (has (form allPatterns)) (λ a l. e a)
+      ∙ below-cong (has (form allPatterns)) (least (bitAt set) allPatterns) allPatterns
+      (λ a l.
+      same (has (form allPatterns) a) (least (bitAt set) allPatterns a) (λ t. below-has (least (bitAt set) allPatterns) allPatterns a t .1)
+      (λ t. has-below (least (bitAt set) allPatterns) allPatterns a l t))
 
-      kept-count : length (written (bitAt word) (suc m)) ≡ n + 1
-      kept-count = ap {B = ℕ} length kept-more ∙ length-append (written (bitAt word) m) (m ∷ []) ∙ ap (λ (x : ℕ). x + 1) (sym (k .count-is))
+-- ---- the masks kept, one after the other
 
-      pub kept-space : m < allPatterns → n < maxMasks
-      kept-space l =
-          let r = at-most-twenty (suc m) (written (bitAt word) (suc m)) (omega arith) (written-isWritten (bitAt word) (suc m)) in
-          let e = kept-count in
-          omega arith
+module _ (kept m : ℕ) where
+  pub clear-start : Clear kept m 0
+  clear-start j l = absurd (omega arith)
 
-      pub kept-new : m < allPatterns → Kept word (n + 1) (set masks n m) (suc m)
-      kept-new l =
-          record {
-            count-is = sym kept-count;
-            masks-are =
-                ap₂ (λ (x : List ℕ) (y : ℕ). set x y m) (k .masks-are) (k .count-is)
-                ∙ padded-snoc (written (bitAt word) m) m (let s = kept-space l in let e = k .count-is in omega arith) ∙ ap padded (sym kept-more);
-          }
+  -- the next is no kept one, or it is not contained in m
+  pub clear-absent : (k : ℕ) → bitAt kept k ≡ false → Clear kept m k → Clear kept m (suc k)
+  clear-absent k t c j l u =
+      byBool (eqb j k) (λ s. clash u (ap (bitAt kept) (eqb-true j k s) ∙ t)) (λ s. let ne = eqb-false j k s in c j (omega arith) u)
 
-pub kept-end : (word n : ℕ) (masks : List ℕ) (m : ℕ) → Kept word n masks m
-    → _≡_ {A = Constraint} (record { n = n; masks = masks }) (packed (written (bitAt word) m))
-kept-end word n masks m k = λ j. record { n = k .count-is j; masks = k .masks-are j }
+  pub clear-next : (k : ℕ) → within k m ≡ false → Clear kept m k → Clear kept m (suc k)
+  clear-next k w c j l u =
+      byBool (eqb j k) (λ s. ap (λ (x : ℕ). within x m) (eqb-true j k s) ∙ w) (λ s. let ne = eqb-false j k s in c j (omega arith) u)

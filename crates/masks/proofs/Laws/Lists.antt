@@ -8,7 +8,7 @@ use native.Mathlib.Omega.{arith}
 use native.Mathlib.Numerals.{add-one}
 use lib.Dec.{eqb, ltb, leb}
 use lib.ListN.{length, getD, take, set, length-take, length-append, List·getD-append}
-use lib.Seq.{take-nil, take-suc, take-all, take-append-le, sets, length-take-le, getD-at}
+use lib.Seq.{take-nil, take-suc, take-all, take-append-le, set-comm, sets, getD-at}
 use borrow.Author.Tests.{eqb-true, eqb-false, eq-eqb, ltb-true, lt-ltb, leb-true, leb-false}
 use Rattle.masks.specs.Lists.{any, all, values, joined, anyBelow, below, has, pairwise, ascending}
 use Rattle.masks.proofs.Laws.Logic.{byBool, clash, and-intro, and-left, and-right, or-left, or-right, or-case}
@@ -31,12 +31,10 @@ module _ {A : Type 0} where
       let e : suc i + length xs ≡ i + suc (length xs) = omega arith in
       sets-append (set l i x) (suc i) xs ys ∙ ap (λ (k : ℕ). sets (sets (set l i x) (suc i) xs) k ys) e
 
-  -- one element more
-  pub sets-suc : (d : A) (l : List A) (at : ℕ) (s : List A) (i : ℕ) → i < length s
-      → set (sets l at (take i s)) (at + i) (getD s i d) ≡ sets l at (take (i + 1) s)
-  sets-suc d l at s i h =
-      rw (add-one i, take-suc s i d h)
-      (sym (sets-append l at (take i s) (getD s i d ∷ []) ∙ ap (λ (k : ℕ). set (sets l at (take i s)) (at + k) (getD s i d)) (length-take-le i s (omega arith))))
+  -- a store before them, done first
+  pub sets-set : (l : List A) (i j : ℕ) (x : A) (vs : List A) → i < j → set (sets l j vs) i x ≡ sets (set l i x) j vs
+  sets-set l i j x [] h = refl
+  sets-set l i j x (v ∷ vs) h = sets-set (set l j v) i (suc j) x vs (omega arith) ∙ ap (λ (k : List A). sets k (suc j) vs) (set-comm l j i v x (λ e. omega arith))
 
 -- ---- any and all
 

@@ -3,27 +3,22 @@
 use mathlib.Core.Path.{_≡_, refl, sym, ap, ap₂, _∙_}
 use mathlib.Core.Bool.{Bool, true, false, not, _&&_, _||_, Bool·beq, and-comm}
 use mathlib.Core.List.{List, [], _∷_}
-use Prim.Native.Nat.{ℕ, zero, suc, _+_, _/_, _%_, _^_, _≤_, _<_}
+use Prim.Native.Nat.{ℕ, zero, suc, _/_, _%_, _^_, _≤_, _<_}
 use native.Mathlib.Nat.{pow-suc}
 use native.Mathlib.Omega.{arith}
-use lib.Bits.{bitAnd, bitOr}
-use lib.Dec.{eqb, ltb}
-use lib.ListN.{length, getD, take}
-use lib.Seq.{take-all}
-use borrow.Author.Tests.{eqb-true, eq-eqb, ltb-true, le-ltb}
+use lib.Bits.{bitAnd}
+use lib.Dec.{eqb}
+use lib.ListN.{getD}
+use borrow.Author.Tests.{eqb-true, eq-eqb}
 use Rattle.masks.specs.Limits.{maxArity, allPatterns}
 use Rattle.masks.specs.Mask.{within}
-use Rattle.masks.specs.Constraint.{admits, isWritten, written}
-use Rattle.masks.specs.Set.{bitAt, Holds}
+use Rattle.masks.specs.Set.{bitAt}
 use Rattle.masks.specs.Patterns.{EachLane, Agrees}
-use Rattle.masks.proofs.Laws.Logic.{byBool, byRange, clash, same, or-case, not-elim}
-use Rattle.masks.proofs.Laws.Lists.{any-suc, allBelow, allBelow-at, at-allBelow}
+use Rattle.masks.proofs.Laws.Logic.{byBool, clash, same, or-case, not-elim}
+use Rattle.masks.proofs.Laws.Lists.{allBelow, allBelow-at, at-allBelow}
 use Rattle.masks.proofs.Laws.Mask.{within-zero, within-and, and-within, doubled}
-use Rattle.masks.proofs.Laws.Constraint.{Up, admits-written-up, written-cut, written-admits}
-use Rattle.masks.proofs.Laws.Joining.{power-le}
-use Rattle.masks.proofs.Laws.Set.{bitAt-zero, bitAt-high, bitAt-or}
+use Rattle.masks.proofs.Laws.Set.{bitAt-zero}
 use Rattle.masks.proofs.Laws.Members.{bitAt-and}
-use Rattle.masks.proofs.Laws.Words.{within-le}
 
 -- ---- words that are numerals: each of their bits is computed
 
@@ -56,23 +51,6 @@ unfolding bitAt
 bitAt-column i h a k =
     beq-same (bitAt (column i) a) (bitAt a i)
     (allBelow-at (inColumn i) allPatterns (allBelow-at (λ j. allBelow (inColumn j) allPatterns) maxArity refl i h) a k)
-
--- word k has the patterns of arity k
-abbrev pub patternSets : List ℕ
-patternSets = 1 ∷ 3 ∷ 15 ∷ 255 ∷ 65535 ∷ 4294967295 ∷ 18446744073709551615 ∷ []
-
-abbrev inSet : ℕ → ℕ → Bool
-inSet k a = Bool·beq (bitAt (getD patternSets k 0) a) (ltb a (2 ^ k))
-
-bitAt-patterns : (k : ℕ) → k ≤ maxArity → EachLane (λ a. bitAt (getD patternSets k 0) a ≡ ltb a (2 ^ k))
-unfolding bitAt
-bitAt-patterns k h a l =
-    beq-same (bitAt (getD patternSets k 0) a) (ltb a (2 ^ k))
-    (allBelow-at (inSet k) allPatterns (allBelow-at (λ j. allBelow (inSet j) allPatterns) 7 refl k (omega arith)) a l)
-
-patterns-small : (k : ℕ) → k ≤ maxArity → getD patternSets k 0 < 2 ^ allPatterns
-patterns-small k h =
-    ltb-true (getD patternSets k 0) (2 ^ allPatterns) (allBelow-at (λ j. ltb (getD patternSets j 0) (2 ^ allPatterns)) 7 refl k (omega arith))
 
 -- ---- a mask within a pattern: each bit of the mask is one of the pattern
 
@@ -134,71 +112,3 @@ module _ (mask : ℕ) (words : List ℕ) where
 
   pub masked-end : (w k : ℕ) → mask < 2 ^ k → Masked mask words w k → EachLane (λ a. (p : ℕ) → Agrees words a p → bitAt w a ≡ within mask p)
   masked-end w k l g a h p f = g a h p f ∙ sym (within-bits k mask p l)
-
--- ---- the loop over the masks of a constraint: r has the lanes whose pattern fits one of the first i
-
-abbrev pub Tried : List ℕ → List ℕ → ℕ → ℕ → Type 0
-Tried words masks i r = EachLane (λ a. (p : ℕ) → Agrees words a p → bitAt r a ≡ admits (take i masks) p)
-
-module _ (words masks : List ℕ) where
-  pub tried-start : Tried words masks 0 0
-  unfolding admits
-  tried-start a h p f = bitAt-zero a
-
-  pub tried-next : (i r w : ℕ) → i < length masks → EachLane (λ a. (p : ℕ) → Agrees words a p → bitAt w a ≡ within (getD masks i 0) p)
-      → Tried words masks i r → Tried words masks (i + 1) (bitOr r w)
-  unfolding admits
-  tried-next i r w l q g a h p f =
-      bitAt-or r w a
-      ∙ ap₂ (λ (x y : Bool). x || y) (g a h p f) (q a h p f)
-      ∙ sym (any-suc (λ m. within m p) 0 masks i l)
-
-  pub tried-end : (i r : ℕ) → length masks ≤ i → Tried words masks i r → EachLane (λ a. (p : ℕ) → Agrees words a p → bitAt r a ≡ admits masks p)
-  tried-end i r l g a h p f = g a h p f ∙ ap (λ (c : List ℕ). admits c p) (take-all i masks l)
-
--- ---- sets of patterns
-
--- two words of the same set are the same number
-holds-one : {x y : ℕ} {f : ℕ → Bool} → Holds x f → Holds y f → x ≡ y
-holds-one {x} {y} f g =
-    let h = within-le x y (λ a t. g a ∙ sym (f a) ∙ t) in
-    let i = within-le y x (λ a t. f a ∙ sym (g a) ∙ t) in
-    omega arith
-
-module _ (arity : ℕ) (h : arity ≤ maxArity) where
-  -- no pattern of the arity is past the 64
-  pub arity-past : (a : ℕ) → allPatterns ≤ a → ltb a (2 ^ arity) ≡ false
-  arity-past a l = let p = power-le arity h in le-ltb a (2 ^ arity) (omega arith)
-
-  pub arity-holds : Holds (getD patternSets arity 0) (λ a. ltb a (2 ^ arity))
-  arity-holds a =
-      byRange a allPatterns (bitAt-patterns arity h a)
-      (λ l. bitAt-high allPatterns (getD patternSets arity 0) a (patterns-small arity h) l ∙ sym (arity-past a l))
-
-  -- of the lanes that fit, those whose pattern is of the arity: in lane a the columns have the bits of a
-  pub admitted-holds : (c : List ℕ) (all fit : ℕ) → Holds all (λ a. ltb a (2 ^ arity))
-      → EachLane (λ a. (p : ℕ) → Agrees columns a p → bitAt fit a ≡ admits c p) → Holds (bitAnd all fit) (λ a. ltb a (2 ^ arity) && admits c a)
-  admitted-holds c all fit f g a =
-      bitAt-and all fit a
-      ∙ byRange a allPatterns (λ l. ap₂ (λ (x y : Bool). x && y) (f a) (g a l a (λ i m. bitAt-column i m a l)))
-      (λ l. rw (f a, arity-past a l))
-
--- ---- a written form and the set of the patterns it admits: each is made from the other
-
-pub written-admitted : (n : ℕ) → n ≤ allPatterns → (c : List ℕ) → isWritten n c ≡ true → (word : ℕ) → Holds word (λ a. ltb a n && admits c a)
-    → written (bitAt word) allPatterns ≡ c
-written-admitted n h c w word f = written-cut (admits c) (bitAt word) n allPatterns h (λ a l. f a) ∙ written-admits n c w
-
-pub admitted-written : (n : ℕ) (f : ℕ → Bool) → Up f → (word : ℕ) → Holds word (λ a. ltb a n && admits (written f n) a) → Holds word (λ a. ltb a n && f a)
-admitted-written n f up word g a =
-    g a ∙ byRange a n (λ l. ap (λ (b : Bool). ltb a n && b) (admits-written-up f up n a l)) (λ l. rw (le-ltb a n l))
-
--- so a set of patterns has the written form c exactly where it is the set of those that c admits
-module _ (n : ℕ) (h : n ≤ allPatterns) (f : ℕ → Bool) (c : List ℕ) (good had : ℕ) (g : Holds good (λ a. ltb a n && f a)) (k : Holds had (λ a. ltb a n && admits c a)) where
-  pub same-sets : isWritten n c ≡ true → good ≡ had → written f n ≡ c
-  same-sets w e =
-      sym (written-cut f (bitAt good) n allPatterns h (λ a l. g a)) ∙ ap (λ (word : ℕ). written (bitAt word) allPatterns) e ∙ written-admitted n h c w had k
-
-  pub sets-same : Up f → written f n ≡ c → good ≡ had
-  sets-same up e =
-      holds-one g (admitted-written n f up had (λ a. k a ∙ ap (λ (d : List ℕ). ltb a n && admits d a) (sym e)))

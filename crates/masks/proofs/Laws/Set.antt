@@ -13,7 +13,6 @@ use lib.Pow.{shr-shr}
 use borrow.Author.Tests.{eq-eqb, ne-eqb, eqb-true, eqb-false}
 use Rattle.masks.specs.Limits.{allPatterns}
 use Rattle.masks.specs.Constraint.{written, inRange, minimise, choice}
-use Rattle.masks.specs.Held.{packed}
 use Rattle.masks.specs.Set.{bitAt, Holds}
 use Rattle.masks.specs.Lists.{has}
 use Rattle.masks.proofs.Laws.Logic.{byBool, same, or-case, or-left, or-right}
@@ -119,11 +118,3 @@ holds-list word x f k = f k ∙ ap₂ (λ (a : Bool) (l : List ℕ). a || has l 
 
 pub holds-both : (word more : ℕ) (x y : List ℕ) → Holds word (has x) → Holds more (λ k. bitAt word k || has (map (bitOr 0) y) k) → Holds more (has (x ++ y))
 holds-both word more x y f g k = g k ∙ ap₂ (λ (a : Bool) (l : List ℕ). a || has l k) (f k) (map-zero y) ∙ sym (has-append x y k)
-
-pub minimise-packed : (word : ℕ) (c : List ℕ) → Holds word (has c) → packed (written (bitAt word) allPatterns) ≡ packed (minimise c)
-unfolding minimise
-minimise-packed word c f = ap packed (written-cong (bitAt word) (has c) allPatterns (λ k h. f k))
-
-pub choice-packed : (word : ℕ) (x y : List ℕ) → Holds word (has (x ++ y)) → packed (written (bitAt word) allPatterns) ≡ packed (choice x y)
-unfolding choice
-choice-packed word x y f = minimise-packed word (x ++ y) f

@@ -4,7 +4,6 @@ use borrow.Author.Needs.{needs}
 use Rattle.masks.specs.declared.Way.the-variants.{Choice, Joint}
 use Rattle.masks.specs.declared.Way.{Way}
 use Rattle.masks.specs.Joining.{combined}
-use Rattle.masks.specs.Held.{packed}
 use Rattle.masks.proofs.combine.Statement.{statement}
 use Rattle.masks.proofs.combine.Tie as tie
 
@@ -24,13 +23,13 @@ returns : tie.Need-returns
 returns c =
     let s = c .before .before .before .before .before .args in
     let t : s .way ≡ Choice = c .before .enum-told .given .1 in
-    c .choice-of .ensures ∙ ap (λ (w : Way). packed (combined w (s .first .now) (s .second .now))) (sym t)
+    c .choice-of .ensures ∙ ap (λ (w : Way). combined w (s .first .now) (s .second .now)) (sym t)
 
 returns-2 : tie.Need-returns-2
 returns-2 c =
     let s = c .before .before .before .before .before .args in
     let t : s .way ≡ Joint = c .before .enum-told2 .given .1 in
-    c .joint-of .ensures ∙ ap (λ (w : Way). packed (combined w (s .first .now) (s .second .now))) (sym t)
+    c .joint-of .ensures ∙ ap (λ (w : Way). combined w (s .first .now) (s .second .now)) (sym t)
 
 pub combine-spec : {M : Type 1} → statement M
 combine-spec =

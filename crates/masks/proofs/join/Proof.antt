@@ -7,11 +7,10 @@ use native.Mathlib.Omega.{arith}
 use lib.ListN.{length}
 use lib.Seq.{sets}
 use borrow.Author.Needs.{needs}
-use Rattle.masks.specs.Held.{masksOf}
+use Rattle.masks.specs.Set.{members}
 use Rattle.masks.specs.Joining.{combined}
 use Rattle.masks.proofs.Laws.Joining.{joining-fault, joining-done, fault-free}
 use Rattle.masks.proofs.Laws.Outcome.{answers-refused, room-enough, answers-short, answers-done}
-use Rattle.masks.proofs.Laws.Held.{masksOf-packed}
 use Rattle.masks.proofs.join.Statement.{statement}
 use Rattle.masks.proofs.join.Tie as tie
 
@@ -44,16 +43,16 @@ module _ (k : tie.After-count) where
   abbrev bytes : List ℕ
   bytes = let s = k .before .before .before .before .before .before .before .args in combined (s .way) (s .first .now) (s .second .now)
 
-  is : masksOf (k .before .combine .result) ≡ bytes
-  is = ap masksOf (k .before .combine .ensures) ∙ masksOf-packed bytes
+  is : members (k .before .combine .result) ≡ bytes
+  is = k .before .combine .ensures
 
   size : k .count .result ≡ length bytes
-  size = k .count .ensures ∙ ap length is
+  size = k .count .ensures .0 ∙ ap length is
 
 put-masks-requires : tie.Need-put-masks-requires
 put-masks-requires c κs =
     let k = c .before .before .before .before in
-    let n : k .count .result ≡ length (masksOf (k .before .combine .result)) = k .count .ensures in
+    let n : k .count .result ≡ length (members (k .before .combine .result)) = k .count .ensures .0 in
     let h = room-enough _ _ _ (c .before .before .before .in-room .ensures) (λ z. omega arith) in
     omega arith
 
@@ -66,7 +65,7 @@ returns-2 c =
     let s = k .before .before .before .before .before .before .before .args in
     rw (joining-done (s .arity) (s .first .now) (s .second .now) (s .way) (sym (k .before .before .before .first-fault .ensures) ∙ k .before .before .if1 .left))
     (answers-done _ _ _ (c .before .before .before .before .before .before .in-room .ensures) _ (size k) (omega arith) (λ z. omega arith)
-    (c .before .before .put-masks .ensures ∙ ap (sets (s .out .now) 0) (is k)))
+    (c .before .before .put-masks .ensures .0 ∙ ap (sets (s .out .now) 0) (is k)))
 
 returns-3 : tie.Need-returns-3
 returns-3 c =

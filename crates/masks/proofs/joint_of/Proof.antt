@@ -7,7 +7,7 @@ use borrow.Author.Needs.{needs}
 use Rattle.masks.specs.Set.{Holds}
 use Rattle.masks.specs.Lists.{has}
 use Rattle.masks.specs.Constraint.{unions}
-use Rattle.masks.proofs.Laws.Joining.{joint-start, joint-next, joint-packed}
+use Rattle.masks.proofs.Laws.Joining.{joint-start, joint-next, joint-held}
 use Rattle.masks.proofs.Laws.Constraint.{inRange-at}
 use Rattle.masks.proofs.joint_of.Statement.{statement}
 use Rattle.masks.proofs.joint_of.Tie as tie
@@ -44,7 +44,7 @@ returns : tie.Need-returns Inv-loop μ-loop
 returns c =
     let s = c .before .before .before .before .before .args in
     let l = c .before .before .loop in
-    c .written .ensures ∙ joint-packed (l .set) (s .first .now) (s .second .now) (l .i) (omega arith) (l .inv .1)
+    c .written .ensures ∙ joint-held (l .set) (s .first .now) (s .second .now) (l .i) (omega arith) (l .inv .1)
 
 pub joint-of-spec : {M : Type 1} → statement M
 joint-of-spec =

@@ -6,11 +6,12 @@ use lib.ListN.{length}
 use Rattle.masks.specs.Outcome.{done}
 use Rattle.book.specs.Book.{Book}
 use Rattle.book.specs.Table.{tableIn}
-use Rattle.tables.specs.Table.{rounds, final}
 use Rattle.tables.specs.Image.{rows, image, analysed, analysis}
+use Rattle.needs.specs.Round.{Settled}
 
 -- a book that was read: its rounds, and the image of its final table
-pub analysed-book : (s : List ℕ) (B : Book) (preds : ℕ) (needs : List ℕ) (k : ℕ) → analysed B ≡ analysis s → length (B .arities) ≡ preds
-    → tableIn needs preds ≡ final B → k ≡ rounds B → done k (rows (tableIn needs preds) preds) ≡ analysis s
+pub analysed-book : (s : List ℕ) (B : Book) {preds clauses : ℕ} {rules own table words : List ℕ} {k : ℕ} → analysed B ≡ analysis s → length (B .arities) ≡ preds
+    → Settled B clauses rules own table words k → done k (rows (tableIn table preds) preds) ≡ analysis s
 unfolding image
-analysed-book s B preds needs k e size t n = rw (t, n, ← size) e
+analysed-book s B {preds} {table = table} {k = k} e size d =
+    rw (← size, d .final·, d .rounds·) e

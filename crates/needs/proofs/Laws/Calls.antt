@@ -9,17 +9,18 @@ use native.Mathlib.Omega.{arith}
 use lib.Bits.{bitAnd, bitOr}
 use lib.Count.{trailingZeros}
 use lib.Dec.{eqb, ltb}
-use lib.ListN.{length, getD, take, set, replicate, length-set}
+use lib.ListN.{length, getD, take, set, length-set}
 use lib.Seq.{take-all}
 use borrow.Author.Tests.{eqb-true, eqb-false, ne-eqb, ltb-true, lt-ltb, le-ltb}
-use Rattle.masks.specs.Lists.{any}
+use Rattle.masks.specs.Lists.{any, all}
 use Rattle.masks.specs.Set.{bitAt, Holds}
 use Rattle.book.specs.Limits.{maxPredicates, maxClauses}
 use Rattle.book.specs.Book.{Call, noCall}
-use Rattle.book.specs.Held.{callOf, clauseAt, clausesOf}
+use Rattle.book.specs.Format.{allows}
+use Rattle.book.specs.Held.{clauseAt, clausesOf}
 use Rattle.book.specs.Table.{Table}
-use Rattle.book.specs.Sets.{callsBelow, Known}
-use Rattle.book.specs.declared.clause.Call as call
+use Rattle.book.specs.Sets.{callable, Known, Cleared}
+use Rattle.book.specs.declared.range.Range.the-variants.{Argument}
 use Rattle.ordering.specs.Good.{at, goodClause}
 use Rattle.tables.specs.Calls.{calls, touched}
 use Rattle.tables.specs.Table.{own, defined, good}
@@ -28,7 +29,7 @@ use Rattle.masks.proofs.Laws.Logic.{byBool, and-left, and-right}
 use Rattle.masks.proofs.Laws.Lists.{any-suc}
 use Rattle.masks.proofs.Laws.Set.{bitAt-zero, bitAt-or, bitAt-more}
 use Rattle.masks.proofs.Laws.Members.{Over, over-start, over-end, over-lowest, over-member, over-here, over-next}
-use Rattle.book.proofs.Laws.Sets.{callsBelow-at, stored-more, bitAt-none}
+use Rattle.book.proofs.Laws.Sets.{callable-low, stored-more}
 use Rattle.tables.proofs.Laws.Own.{defined-snoc, touched-snoc, good-snoc}
 
 -- ---- the predicates that have clauses: those of the first k heads
@@ -42,14 +43,14 @@ unfolding defined clausesOf
 heading-start rules n = record { most = omega arith; holds = bitAt-zero }
 
 module _ {rules : List ℕ} {n k set : ℕ} (o : Heading rules n k set) where
-  pub heading-next : (h : call.Call) → k < n → callOf h ≡ clauseAt rules k .head → Heading rules n (k + 1) (bitOr set (2 ^ h .pred))
+  pub heading-next : (h : ℕ) → k < n → h ≡ clauseAt rules k .head .pred → Heading rules n (k + 1) (bitOr set (2 ^ h))
   unfolding clausesOf
   heading-next h m e =
       record {
         most = omega arith;
         holds = λ q.
-            bitAt-more set (h .pred) q
-            ∙ ap₂ (λ (a : Bool) (d : Call). a || eqb (d .pred) q) (o .holds q) e
+            bitAt-more set h q
+            ∙ ap₂ (λ (a : Bool) (d : ℕ). a || eqb d q) (o .holds q) e
             ∙ rw add-one (sym (defined-snoc (clausesOf rules k) (clauseAt rules k) q));
       }
 
@@ -62,9 +63,10 @@ pub record Gathering (rules : List ℕ) (n k : ℕ) (callers : List ℕ) : Type 
   pub most : k ≤ n
   pub calling : Calling rules k callers
 
-pub gathering-start : (rules : List ℕ) (n : ℕ) → Gathering rules n 0 (replicate maxPredicates 0)
+pub gathering-start : (rules : List ℕ) (n : ℕ) (callers : List ℕ) → Cleared callers → Gathering rules n 0 callers
 unfolding touched own clausesOf
-gathering-start rules n = record { most = omega arith; calling = λ q h p. bitAt-none q p h }
+gathering-start rules n callers none =
+    record { most = omega arith; calling = record { each = λ q h p. ap (λ (w : ℕ). bitAt w p) (none q h) ∙ bitAt-zero p } }
 
 module _ {rules : List ℕ} {n k : ℕ} {callers : List ℕ} (o : Gathering rules n k callers) where
   pub gathering-next : {after : List ℕ} → k < n → Added rules k callers after → Gathering rules n (k + 1) after
@@ -72,10 +74,12 @@ module _ {rules : List ℕ} {n k : ℕ} {callers : List ℕ} (o : Gathering rule
   gathering-next h f =
       record {
         most = omega arith;
-        calling = λ q l p.
-            f q l p
-            ∙ ap (λ (b : Bool). b || (calls (eqb q) (clauseAt rules k) && eqb (clauseAt rules k .head .pred) p)) (o .calling q l p)
-            ∙ rw add-one (sym (touched-snoc (clausesOf rules k) (clauseAt rules k) p (eqb q)));
+        calling = record {
+          each = λ q l p.
+              f q l p
+              ∙ ap (λ (b : Bool). b || (calls (eqb q) (clauseAt rules k) && eqb (clauseAt rules k .head .pred) p)) (o .calling .each q l p)
+              ∙ rw add-one (sym (touched-snoc (clausesOf rules k) (clauseAt rules k) p (eqb q)));
+        };
       }
 
   pub gathering-end : n ≤ k → Calling rules n callers
@@ -85,12 +89,6 @@ module _ {rules : List ℕ} {n k : ℕ} {callers : List ℕ} (o : Gathering rule
 
 abbrev calledIn : List Call → ℕ → Bool
 calledIn body q = any (λ s. eqb q (s .pred)) body
-
--- the predicates of two calls, and the words there are
-pub record Room (h s : call.Call) (words : List ℕ) : Type 0 where
-  pub caller : h .pred < maxPredicates
-  pub called : s .pred < maxPredicates
-  pub size : length words ≡ maxPredicates
 
 pub record Adding (rules : List ℕ) (k : ℕ) (before : List ℕ) (j : ℕ) (words : List ℕ) : Type 0 where
   pub most : j ≤ length (clauseAt rules k .body)
@@ -102,31 +100,20 @@ pub adding-start : (rules : List ℕ) (k : ℕ) (before : List ℕ) → length b
 adding-start rules k before e = record { most = omega arith; size = e; added = λ q h p. sym (or-false (bitAt (getD before q 0) p)) }
 
 module _ {rules : List ℕ} {k : ℕ} {before : List ℕ} {j : ℕ} {words : List ℕ} (o : Adding rules k before j words) where
-  -- h is the head and s is subgoal j: the predicates of both have a word
-  pub adding-room : (h s : call.Call) → clauseAt rules k .head .pred < maxPredicates → callsBelow maxPredicates (clauseAt rules k .body) ≡ true
-      → j < length (clauseAt rules k .body) → callOf h ≡ clauseAt rules k .head → callOf s ≡ getD (clauseAt rules k .body) j noCall → Room h s words
-  unfolding at
-  adding-room h s first low m e f =
-      let p = ap (λ (d : Call). d .pred) e in
-      let q = ap (λ (d : Call). d .pred) f in
-      let l = callsBelow-at maxPredicates (clauseAt rules k .body) j low m in
-      record { caller = omega arith; called = omega arith; size = o .size }
-
-  pub adding-next : (h s : call.Call) → Room h s words → j < length (clauseAt rules k .body)
-      → callOf h ≡ clauseAt rules k .head → callOf s ≡ getD (clauseAt rules k .body) j noCall
-      → Adding rules k before (j + 1) (set words (s .pred) (bitOr (getD words (s .pred) 0) (2 ^ h .pred)))
-  adding-next h s room m e f =
-      let q = s .pred in
-      let l = room .called in
+  -- h is the head's predicate and q that of subgoal j, which has a word
+  pub adding-next : (h q : ℕ) → q < maxPredicates → j < length (clauseAt rules k .body)
+      → h ≡ clauseAt rules k .head .pred → q ≡ getD (clauseAt rules k .body) j noCall .pred
+      → Adding rules k before (j + 1) (set words q (bitOr (getD words q 0) (2 ^ h)))
+  adding-next h q l m e f =
       let z = o .size in
       record {
         most = omega arith;
-        size = length-set words q (bitOr (getD words q 0) (2 ^ h .pred)) ∙ z;
+        size = length-set words q (bitOr (getD words q 0) (2 ^ h)) ∙ z;
         added = λ r i p.
             let body = clauseAt rules k .body in
             let is = eqb (clauseAt rules k .head .pred) p in
-            stored-more words q (h .pred) (omega arith) r p
-            ∙ ap₂ (λ (a b : Bool). a || b) (o .added r i p) (ap₂ (λ (x y : Call). eqb r (x .pred) && eqb (y .pred) p) f e)
+            stored-more words q h (omega arith) r p
+            ∙ ap₂ (λ (a b : Bool). a || b) (o .added r i p) (ap₂ (λ (x y : ℕ). eqb r x && eqb y p) f e)
             ∙ or-assoc (bitAt (getD before r 0) p) (calledIn (take j body) r && is) _
             ∙ ap (λ (b : Bool). bitAt (getD before r 0) p || b)
             (sym (and-or-distrib-right (calledIn (take j body) r) _ is)
@@ -233,17 +220,17 @@ module _ (set : ℕ) where
 
 -- ---- who calls one of a set has a clause that does
 
-calls-some : (set : ℕ) (body : List Call) → callsBelow maxPredicates body ≡ true
+calls-some : (set : ℕ) (body : List Call) → callable body ≡ true
     → someIn set (λ q. any (λ s. eqb q (s .pred)) body) maxPredicates ≡ any (λ s. bitAt set (s .pred)) body
-unfolding callsBelow
+unfolding callable
 calls-some set [] t = someIn-none set maxPredicates
 calls-some set (s ∷ body) t =
-    let l = ltb-true (s .pred) maxPredicates (and-left (ltb (s .pred) maxPredicates) (callsBelow maxPredicates body) t) in
+    let fits = ltb (s .pred) maxPredicates && all (allows Argument) (s .args) in
+    let l = ltb-true (s .pred) maxPredicates (and-left (ltb (s .pred) maxPredicates) (all (allows Argument) (s .args)) (and-left fits (callable body) t)) in
     someIn-or set (λ q. eqb q (s .pred)) (λ q. any (λ s. eqb q (s .pred)) body) maxPredicates
-    ∙ ap₂ (λ (a b : Bool). a || b) (someIn-eq set (s .pred) maxPredicates l)
-    (calls-some set body (and-right (ltb (s .pred) maxPredicates) (callsBelow maxPredicates body) t))
+    ∙ ap₂ (λ (a b : Bool). a || b) (someIn-eq set (s .pred) maxPredicates l) (calls-some set body (and-right fits (callable body) t))
 
-touched-some : (rules : List ℕ) (set p n : ℕ) → ((k : ℕ) → k < n → callsBelow maxPredicates (clauseAt rules k .body) ≡ true)
+touched-some : (rules : List ℕ) (set p n : ℕ) → ((k : ℕ) → k < n → callable (clauseAt rules k .body) ≡ true)
     → someIn set (λ q. touched (eqb q) (clausesOf rules n) p) maxPredicates ≡ touched (bitAt set) (clausesOf rules n) p
 unfolding touched own calls clausesOf
 touched-some rules set p zero h = someIn-none set maxPredicates
@@ -262,7 +249,7 @@ pub calling-touched : (rules : List ℕ) (n : ℕ) (callers : List ℕ) (changed
     → Holds due (λ p. someIn changed (λ q. bitAt (getD callers q 0) p) maxPredicates) → Holds due (touched (bitAt changed) (clausesOf rules n))
 calling-touched rules n callers changed due f known h p =
     h p
-    ∙ someIn-cong changed (λ q. bitAt (getD callers q 0) p) (λ q. touched (eqb q) (clausesOf rules n) p) maxPredicates (λ q l. f q l p)
+    ∙ someIn-cong changed (λ q. bitAt (getD callers q 0) p) (λ q. touched (eqb q) (clausesOf rules n) p) maxPredicates (λ q l. f .each q l p)
     ∙ touched-some rules changed p n (known .bodies)
 
 -- ---- the clauses of a set are good where the predicate's are
@@ -291,3 +278,10 @@ module _ (rules : List ℕ) (n word p : ℕ) (T : Table) (a : ℕ) where
       ∙ eachIn-past word (λ k. goodClause T (clauseAt rules k) a) n (maxClauses - n)
       (λ k m. h k ∙ ap (λ (b : Bool). b && eqb (clauseAt rules k .head .pred) p) (le-ltb k n m))
       ∙ own-good-below h n (omega arith)
+
+-- fewer clauses are good where more are
+pub eachIn-fewer : (set : ℕ) (f : ℕ → Bool) (n d : ℕ) → eachIn set f (d + n) ≡ true → eachIn set f n ≡ true
+eachIn-fewer set f n zero t = let e : 0 + n ≡ n = omega arith in ap (eachIn set f) (sym e) ∙ t
+eachIn-fewer set f n (suc d) t =
+    let e : suc (d + n) ≡ suc d + n = omega arith in
+    eachIn-fewer set f n d (and-left (eachIn set f (d + n)) (cond (bitAt set (d + n)) (f (d + n)) true) (ap (eachIn set f) e ∙ t))

@@ -1,111 +1,103 @@
--- A round, predicate by predicate: those due get the written form of their good patterns, the others keep what they have, and those marked are the
--- ones whose constraint is another. Since the others would get what they have, that is a step. Assumes nothing.
+-- A round, predicate by predicate: those due get the patterns that they had and under which their clauses are good, the others keep what they have, and
+-- those marked are the ones that have others than before. Since a table only loses patterns, and the others would get what they have, that is a step.
+-- Assumes nothing.
 use mathlib.Core.Path.{_≡_, refl, sym, ap, ap₂, _∙_, subst}
-use mathlib.Core.Bool.{Bool, true, false, not, cond, _&&_, _||_, or-false, or-true}
+use mathlib.Core.Bool.{Bool, true, false, _&&_, _||_, or-false}
 use mathlib.Core.List.{List}
-use Prim.Native.Nat.{ℕ, zero, suc, _^_, _≤_, _<_}
+use Prim.Native.Nat.{ℕ, suc, _+_, _^_, _≤_, _<_}
 use native.Mathlib.Omega.{arith}
-use lib.Bits.{bitOr}
+use lib.Bits.{bitOr, bitXor, and-le-l, and-le-r, or-add-and, xor-self}
 use lib.Dec.{eqb, ltb}
-use lib.ListN.{length, getD}
+use lib.ListN.{length, getD, set, length-set}
+use lib.Seq.{getD-set-same, getD-set-other}
 use borrow.Author.Tests.{eqb-true, eqb-false, ltb-true, leb-true}
-use Rattle.masks.specs.Limits.{maxArity, allPatterns}
-use Rattle.masks.specs.Set.{bitAt, Holds}
-use Rattle.masks.specs.Constraint.{admits, isWritten, written, sameMasks}
-use Rattle.masks.proofs.Laws.Logic.{byBool, clash, and-intro, and-left, and-right}
-use Rattle.masks.proofs.Laws.Set.{bitAt-zero, bitAt-or, bitAt-power}
-use Rattle.masks.proofs.Laws.Constraint.{Up, inRange-mono, written-inRange, written-isWritten, written-cut, sameMasks-refl, sameMasks-other}
-use Rattle.masks.proofs.Laws.Patterns.{same-sets, sets-same}
+use Rattle.masks.specs.Set.{bitAt}
+use Rattle.masks.specs.Constraint.{admits}
+use Rattle.masks.specs.Patterns.{EachLane}
+use Rattle.masks.proofs.Laws.Logic.{byBool, clash, same, and-left, and-right, and-intro, or-case}
+use Rattle.masks.proofs.Laws.Set.{bitAt-zero, bitAt-more}
+use Rattle.masks.proofs.Laws.Words.{new-none}
 use Rattle.book.specs.Limits.{maxPredicates, maxClauses}
 use Rattle.book.specs.Book.{Clause, Book}
-use Rattle.book.specs.Held.{clauseAt, StoredMode}
-use Rattle.book.specs.Table.{Table, entryIn, tableIn, Low}
-use Rattle.book.specs.Sets.{callsBelow, Callable}
+use Rattle.book.specs.Held.{clauseAt}
+use Rattle.book.specs.Table.{Table, entry, entryIn, tableIn, Admitted}
+use Rattle.book.specs.Sets.{callable, Callable}
 use Rattle.book.proofs.Laws.Held.{clausesOf-at}
 use Rattle.book.proofs.Laws.Table.{tableIn-at}
-use Rattle.book.proofs.Laws.Sets.{callsBelow-mono}
-use Rattle.ordering.specs.Good.{goodClause}
-use Rattle.ordering.proofs.Laws.Adorn.{more-refl}
-use Rattle.ordering.proofs.Laws.Good.{good-clause-mono}
-use Rattle.tables.specs.Table.{defined}
-use Rattle.tables.proofs.Laws.Valid.{arity-low, defined-known, clause-calls}
-use Rattle.tables.proofs.Laws.Held.{stored-entry, stored-other, stored-low}
-use Rattle.needs.specs.Sets.{eachIn}
-use Rattle.needs.specs.Round.{allGood, Given, Due}
+use Rattle.tables.specs.Table.{good, defined, step}
+use Rattle.tables.proofs.Laws.Valid.{defined-known, bodies-known, clause-callable}
+use Rattle.tables.proofs.Laws.Round.{good-cut}
+use Rattle.tables.proofs.Laws.Full.{step-full}
+use Rattle.needs.specs.Round.{allGood, Stays, Given, Due, Stepped, AllSame, Compares}
+use Rattle.needs.proofs.Laws.Calls.{own-good}
 
 -- ---- what a book in the arrays gives
 
-module _ (B : Book) (arities rules own : List ℕ) (g : Given B arities rules own) where
+module _ (B : Book) (rules own· : List ℕ) (g : Given B rules own·) where
   pub few-predicates : length (B .arities) ≤ maxPredicates
   few-predicates = leb-true (length (B .arities)) maxPredicates (g .well .fewPredicates)
 
-  pub few-clauses : length (B .clauses) ≤ maxClauses
+  few-clauses : length (B .clauses) ≤ maxClauses
   few-clauses = leb-true (length (B .clauses)) maxClauses (g .well .fewClauses)
 
-  pub given-arity : (p : ℕ) → defined (B .clauses) p ≡ true → getD arities p 0 ≤ maxArity
-  given-arity p d =
-      let e = g .arities· p (defined-known B (g .well) p d) in
-      let l = arity-low B (g .well) p in
-      omega arith
-
-  pub given-callable : (p : ℕ) → p < maxPredicates → Callable rules (getD own p 0)
+  pub given-callable : (p : ℕ) → p < maxPredicates → Callable rules (getD own· p 0)
   given-callable p h k l e =
       let n = length (B .clauses) in
       let m = ltb-true k n (and-left (ltb k n) (eqb (clauseAt rules k .head .pred) p) (sym (g .owns p h k) ∙ e)) in
       let c = clauseAt rules k in
       let q : getD (B .clauses) k c ≡ clauseAt rules k = ap (λ (cs : List Clause). getD cs k c) (sym (g .clauses·)) ∙ clausesOf-at rules c n k m in
-      callsBelow-mono (length (B .arities)) maxPredicates few-predicates (clauseAt rules k .body)
-      (subst (λ (d : Clause). callsBelow (length (B .arities)) (d .body) ≡ true) q (clause-calls B (g .well) c k m))
+      subst (λ (d : Clause). callable (d .body) ≡ true) q (clause-callable B (g .well) c k m)
 
-  -- a predicate due has its constraint in written form
-  pub given-written : (old : List ℕ) {due : ℕ} → Due B (tableIn old (length (B .arities))) due → (p : ℕ) → bitAt due p ≡ true
-      → isWritten (2 ^ getD arities p 0) (entryIn old p) ≡ true
-  given-written old d p e =
-      let l = defined-known B (g .well) p (d .defined· p e) in
-      ap₂ (λ (k : ℕ) (c : List ℕ). isWritten (2 ^ k) c) (g .arities· p l) (sym (tableIn-at old (length (B .arities)) p l)) ∙ d .written· p l e
+  -- the clauses of a predicate are good where its patterns are
+  all-good : (table : List ℕ) (p a : ℕ) → p < maxPredicates → allGood rules (getD own· p 0) table a ≡ good (tableIn table (length (B .arities))) (B .clauses) p a
+  all-good table p a h =
+      own-good rules (length (B .clauses)) (getD own· p 0) p (tableIn table maxPredicates) a few-clauses (g .owns p h)
+      ∙ ap (λ (cs : List Clause). good (tableIn table maxPredicates) cs p a) (g .clauses·)
+      ∙ good-cut table (length (B .arities)) maxPredicates few-predicates (B .clauses) (bodies-known B (g .well)) p a
 
--- where more is bound, clauses stay good
-all-good-up : (rules : List ℕ) (own : ℕ) (table : List ℕ) → Up (allGood rules own table)
-all-good-up rules own table a b w = go maxClauses
-  where
-    T : Table
-    T = tableIn table maxPredicates
-
-    one : (k : ℕ) (x : Bool) → cond x (goodClause T (clauseAt rules k) a) true ≡ true → cond x (goodClause T (clauseAt rules k) b) true ≡ true
-    one k true t = good-clause-mono T T (clauseAt rules k) a b (more-refl T) w t
-    one k false t = t
-
-    each : ℕ → ℕ → Bool
-    each x n = eachIn own (λ k. goodClause T (clauseAt rules k) x) n
-
-    go : (n : ℕ) → each a n ≡ true → each b n ≡ true
-    go zero t = t
-    go (suc n) t =
-        let c = cond (bitAt own n) (goodClause T (clauseAt rules n) a) true in
-        and-intro (go n (and-left (each a n) c t)) (one n (bitAt own n) (and-right (each a n) c t))
+  -- so what stays of the patterns that it had is what the step gives it, since the tables fall
+  pub good-stepped : (table old : List ℕ) {due : ℕ} → Admitted table old → Due B (tableIn table (length (B .arities))) due → (p : ℕ) → bitAt due p ≡ true
+      → (word : ℕ) → EachLane (λ a. bitAt word a ≡ (bitAt (getD old p 0) a && allGood rules (getD own· p 0) table a))
+      → EachLane (λ a. bitAt word a ≡ admits (entry (step B (tableIn table (length (B .arities)))) p) a)
+  good-stepped table old t d p e word f a l =
+      let n = length (B .arities) in
+      let T = tableIn table n in
+      let h = defined-known B (g .well) p (d .defined· p e) in
+      let few = few-predicates in
+      let m : p < maxPredicates = omega arith in
+      let now = step-full B (g .well) T p h (d .defined· p e) a in
+      f a l
+      ∙ ap₂ (λ (x y : Bool). x && y)
+      (t p m a l ∙ ap (λ (c : List ℕ). admits c a) (sym (tableIn-at table n p h))) (all-good table p a m ∙ sym now)
+      ∙ same (admits (entry T p) a && admits (entry (step B T) p) a) (admits (entry (step B T) p) a)
+      (λ q. and-right (admits (entry T p) a) (admits (entry (step B T) p) a) q) (λ q. and-intro (d .falls p a q) q)
 
 -- ---- the loop over the predicates due: those below n are done
 
-module _ (arities rules own old : List ℕ) (due : ℕ) where
-  -- what p gets where it is due
-  abbrev pub gets : ℕ → List ℕ
-  gets p = written (allGood rules (getD own p 0) old) (2 ^ getD arities p 0)
+module _ (rules own· table old : List ℕ) (due : ℕ) where
+  -- what p has where it is due
+  abbrev Gets : ℕ → ℕ → Type 0
+  Gets p word = EachLane (λ a. bitAt word a ≡ (bitAt (getD old p 0) a && allGood rules (getD own· p 0) table a))
+
+  -- the same patterns
+  abbrev Alike : ℕ → ℕ → Type 0
+  Alike x y = EachLane (λ a. bitAt x a ≡ bitAt y a)
 
   pub record Rounding (new : List ℕ) (changed n : ℕ) : Type 0 where
-    pub low : Low new
-    pub done : (p : ℕ) → p < n → bitAt due p ≡ true → entryIn new p ≡ gets p
-    pub kept : (p : ℕ) → (bitAt due p ≡ true → n ≤ p) → entryIn new p ≡ entryIn old p
-    pub marked : (p : ℕ) → bitAt changed p ≡ not (sameMasks (entryIn new p) (entryIn old p))
-    pub inside : (p : ℕ) → bitAt changed p ≡ true → bitAt due p ≡ true
+    pub size : length new ≡ maxPredicates
+    pub done : (p : ℕ) → p < n → bitAt due p ≡ true → Gets p (getD new p 0)
+    pub kept : (p : ℕ) → (bitAt due p ≡ true → n ≤ p) → getD new p 0 ≡ getD old p 0
+    pub unmarked : (p : ℕ) → bitAt changed p ≡ false → getD new p 0 ≡ getD old p 0
+    pub marked : (p : ℕ) → bitAt changed p ≡ true → (bitAt due p ≡ true) × (Alike (getD new p 0) (getD old p 0) → ⊥)
 
-  pub rounding-start : Low old → Rounding old 0 0
-  rounding-start l =
+  pub rounding-start : length old ≡ maxPredicates → Rounding old 0 0
+  rounding-start e =
       record {
-        low = l;
+        size = e;
         done = λ p h. absurd (omega arith);
         kept = λ p h. refl;
-        marked = λ p. bitAt-zero p ∙ sym (ap not (sameMasks-refl (entryIn old p)));
-        inside = λ p e. clash e (bitAt-zero p);
+        unmarked = λ p h. refl;
+        marked = λ p t. clash t (bitAt-zero p);
       }
 
   module _ (new : List ℕ) (changed n : ℕ) where
@@ -113,63 +105,140 @@ module _ (arities rules own old : List ℕ) (due : ℕ) where
     pub rounding-skip : bitAt due n ≡ false → Rounding new changed n → Rounding new changed (suc n)
     rounding-skip e r =
         record {
-          low = r .low;
+          size = r .size;
           done = λ p h d. byBool (eqb p n) (λ t. clash d (ap (bitAt due) (eqb-true p n t) ∙ e)) (λ t. let ne = eqb-false p n t in r .done p (omega arith) d);
           kept = λ p h. r .kept p (λ d. let l = h d in omega arith);
+          unmarked = r .unmarked;
           marked = r .marked;
-          inside = r .inside;
         }
 
-    module _ (e : bitAt due n ≡ true) (r : Rounding new changed n) where
-      kept-old : gets n ≡ entryIn old n → Rounding new changed (suc n)
-      kept-old t =
-          let q : entryIn new n ≡ gets n = r .kept n (λ d. omega arith) ∙ sym t in
+    module _ (good : ℕ) (e : bitAt due n ≡ true) (h : Stays rules (getD own· n 0) table (getD old n 0) good) (r : Rounding new changed n) where
+      g : Gets n good
+      g = h .lanes
+
+      -- it has what it had
+      pub rounding-same : good ≡ getD old n 0 → Rounding new changed (suc n)
+      rounding-same q =
           record {
-            low = r .low;
-            done = λ p h d. byBool (eqb p n)
-                (λ t. let z = eqb-true p n t in ap (entryIn new) z ∙ q ∙ ap gets (sym z)) (λ t. let ne = eqb-false p n t in r .done p (omega arith) d);
+            size = r .size;
+            done = λ p h d.
+                byBool (eqb p n)
+                (λ t.
+                let z = eqb-true p n t in
+                subst (λ (i : ℕ). Gets i (getD new i 0)) (sym z) (subst (Gets n) (q ∙ sym (r .kept n (λ d. omega arith))) g))
+                (λ t. let ne = eqb-false p n t in r .done p (omega arith) d);
             kept = λ p h. r .kept p (λ d. let l = h d in omega arith);
+            unmarked = r .unmarked;
             marked = r .marked;
-            inside = r .inside;
           }
 
-      stored-new : {after : List ℕ} → 2 ^ getD arities n 0 ≤ allPatterns → sameMasks (gets n) (entryIn old n) ≡ false → StoredMode new after n (gets n)
-          → Rounding after (bitOr changed (2 ^ n)) (suc n)
-      stored-new {after} b t s =
+      -- it has others, which are stored, and is marked
+      pub rounding-new : n < maxPredicates → (good ≡ getD old n 0 → ⊥) → Rounding (set new n good) (bitOr changed (2 ^ n)) (suc n)
+      rounding-new l other =
+          let s = r .size in
+          let here = getD-set-same new n good 0 (omega arith) in
           record {
-            low = stored-low s (inRange-mono (2 ^ getD arities n 0) allPatterns (gets n) b
-                (written-inRange (2 ^ getD arities n 0) (gets n) (written-isWritten (allGood rules (getD own n 0) old) (2 ^ getD arities n 0)))) (r .low);
-            done = λ p h d. byBool (eqb p n)
-                (λ t. let z = eqb-true p n t in ap (entryIn after) z ∙ stored-entry s ∙ ap gets (sym z))
-                (λ t. let ne = eqb-false p n t in stored-other s p ne ∙ r .done p (omega arith) d);
-            kept = λ p h. stored-other s p (λ z. let l = h (ap (bitAt due) z ∙ e) in omega arith) ∙ r .kept p (λ d. let l = h d in omega arith);
-            marked = λ p. bitAt-or changed (2 ^ n) p ∙ ap (λ (b : Bool). bitAt changed p || b) (bitAt-power n p) ∙ mark p;
-            inside = λ p q. byBool (eqb p n) (λ t. ap (bitAt due) (eqb-true p n t) ∙ e)
-                (λ t. r .inside p (sym (or-false (bitAt changed p)) ∙ ap (λ (b : Bool). bitAt changed p || b) (sym (bitAt-power n p ∙ t)) ∙ sym (bitAt-or changed (2 ^ n) p) ∙ q));
+            size = length-set new n good ∙ s;
+            done = λ p h d.
+                byBool (eqb p n)
+                (λ t. let z = eqb-true p n t in subst (λ (i : ℕ). Gets i (getD (set new n good) i 0)) (sym z) (subst (Gets n) (sym here) g))
+                (λ t.
+                let ne = eqb-false p n t in
+                subst (Gets p) (sym (getD-set-other new n p good 0 ne)) (r .done p (omega arith) d));
+            kept = λ p h.
+                getD-set-other new n p good 0 (λ z. let k = h (ap (bitAt due) z ∙ e) in omega arith) ∙ r .kept p (λ d. let k = h d in omega arith);
+            unmarked = λ p q.
+                let parts = sym (bitAt-more changed n p) ∙ q in
+                byBool (eqb n p) (λ t. clash (rw t (or-true′ (bitAt changed p))) parts)
+                (λ t.
+                getD-set-other new n p good 0 (λ z. eqb-false n p t (sym z))
+                ∙ r .unmarked p (sym (or-false (bitAt changed p)) ∙ ap (λ (b : Bool). bitAt changed p || b) (sym t) ∙ parts));
+            marked = λ p q.
+                or-case (bitAt changed p) (eqb n p) (sym (bitAt-more changed n p) ∙ q)
+                (λ t.
+                byBool (eqb n p) (λ z. own p (eqb-true n p z))
+                (λ z.
+                let m = r .marked p t in
+                (m .0, λ i. m .1 (subst (λ (word : ℕ). Alike word (getD old p 0)) (getD-set-other new n p good 0 (λ j. eqb-false n p z (sym j))) i))))
+                (λ z. own p (eqb-true n p z));
           }
         where
-          mark : (p : ℕ) → (bitAt changed p || eqb p n) ≡ not (sameMasks (entryIn after p) (entryIn old p))
-          mark p =
-              byBool (eqb p n)
-              (λ q. let z = eqb-true p n q in
-              rw q (or-true (bitAt changed p))
-              ∙ sym (ap not (ap (λ (i : ℕ). sameMasks (entryIn after i) (entryIn old i)) z ∙ ap (λ (c : List ℕ). sameMasks c (entryIn old n)) (stored-entry s) ∙ t)))
-              (λ q. rw q (or-false (bitAt changed p)) ∙ r .marked p
-              ∙ ap (λ (c : List ℕ). not (sameMasks c (entryIn old p))) (sym (stored-other s p (eqb-false p n q))))
+          or-true′ : (b : Bool) → (b || true) ≡ true
+          or-true′ true = refl
+          or-true′ false = refl
 
-      -- its good patterns, and those that it had
-      module _ {good had : ℕ} (few : 2 ^ getD arities n 0 ≤ allPatterns) (g : Holds good (λ a. ltb a (2 ^ getD arities n 0) && allGood rules (getD own n 0) old a))
-          (h : Holds had (λ a. ltb a (2 ^ getD arities n 0) && admits (entryIn old n) a)) where
-        -- they are the same: n gets what it has
-        pub rounding-same : isWritten (2 ^ getD arities n 0) (entryIn old n) ≡ true → good ≡ had → Rounding new changed (suc n)
-        rounding-same w q = kept-old (same-sets (2 ^ getD arities n 0) few (allGood rules (getD own n 0) old) (entryIn old n) good had g h w q)
+          own : (p : ℕ) → n ≡ p → (bitAt due p ≡ true) × (Alike (getD (set new n good) p 0) (getD old p 0) → ⊥)
+          own p z =
+              let s = r .size in (
+                ap (bitAt due) (sym z) ∙ e,
+                λ q.
+                    other (h .whole
+                    (subst (λ (word : ℕ). Alike word (getD old n 0)) (getD-set-same new n good 0 (omega arith))
+                    (subst (λ (i : ℕ). Alike (getD (set new n good) i 0) (getD old i 0)) (sym z) q))),
+              )
 
-        -- they are not: n gets another constraint, which is stored
-        pub rounding-new : {after masks : List ℕ} {more : ℕ} → (good ≡ had → ⊥) → masks ≡ written (bitAt good) allPatterns → StoredMode new after n masks
-            → more ≡ bitOr changed (2 ^ n) → Rounding after more (suc n)
-        rounding-new {after} ne m s q =
-            let f = allGood rules (getD own n 0) old in
-            let c = m ∙ written-cut f (bitAt good) (2 ^ getD arities n 0) allPatterns few (λ a l. g a) in
-            let other : gets n ≡ entryIn old n → ⊥ = λ z. ne (sets-same (2 ^ getD arities n 0) few f (entryIn old n) good had g h (all-good-up rules (getD own n 0) old) z) in
-            subst (λ (x : ℕ). Rounding after x (suc n)) (sym q)
-            (stored-new few (sym (sameMasks-other (gets n) (entryIn old n) other)) (subst (λ (l : List ℕ). StoredMode new after n l) c s))
+  -- ---- the end: what a round made is a step
+
+  module _ (B : Book) (g : Given B rules own·) (t : Admitted table old) (d : Due B (tableIn table (length (B .arities))) due) where
+    stepped : {new : List ℕ} {changed : ℕ} → Rounding new changed maxPredicates → (p : ℕ) → p < length (B .arities)
+        → EachLane (λ a. bitAt (getD new p 0) a ≡ admits (entry (step B (tableIn table (length (B .arities)))) p) a)
+    stepped {new} r p h a l =
+        let n = length (B .arities) in
+        let few = few-predicates B rules own· g in
+        byBool (bitAt due p)
+        (λ e. good-stepped B rules own· g table old t d p e (getD new p 0) (r .done p (omega arith) e) a l)
+        (λ e.
+        ap (λ (w : ℕ). bitAt w a) (r .kept p (λ q. clash q e))
+        ∙ t p (omega arith) a l ∙ ap (λ (c : List ℕ). admits c a) (sym (tableIn-at table n p h) ∙ sym (d .others p h e)))
+
+    -- the tables are not the same
+    pub rounding-end : {new : List ℕ} {changed : ℕ} → Rounding new changed maxPredicates → Stepped B (tableIn table (length (B .arities))) old new changed
+    rounding-end r =
+        record {
+          admitted = stepped r;
+          unmarked = λ p h. r .unmarked p;
+          marked = λ p e. let m = r .marked p e in (defined-known B (g .well) p (d .defined· p (m .0)), m .1);
+        }
+
+    -- they are
+    pub rounding-still : {new : List ℕ} {changed : ℕ} → Rounding new changed maxPredicates → AllSame old new
+        → Stepped B (tableIn table (length (B .arities))) old new 0
+    rounding-still r s =
+        record { admitted = stepped r; unmarked = λ p h e. s p h; marked = λ p e. clash e (bitAt-zero p) }
+
+-- ---- the two tables compared: nothing differs exactly where the first n words are the same
+
+pub record Comparing (old new : List ℕ) (differ n : ℕ) : Type 0 where
+  pub none : differ ≡ 0 → (p : ℕ) → p < n → getD new p 0 ≡ getD old p 0
+  pub some : ((p : ℕ) → p < n → getD new p 0 ≡ getD old p 0) → differ ≡ 0
+
+module _ (old new : List ℕ) where
+  pub comparing-start : Comparing old new 0 0
+  comparing-start = record { none = λ e p h. absurd (omega arith); some = λ f. refl }
+
+  pub comparing-next : (differ n : ℕ) → Comparing old new differ n → Comparing old new (bitOr differ (bitXor (getD old n 0) (getD new n 0))) (n + 1)
+  comparing-next differ n g =
+      let x = bitXor (getD old n 0) (getD new n 0) in
+      let l = and-le-l differ x in
+      let r = and-le-r differ x in
+      let s = or-add-and differ x in
+      record {
+        none = λ e p h.
+            byBool (eqb p n)
+            (λ t. let z = eqb-true p n t in rw z (sym (new-none (getD old n 0) (getD new n 0) (omega arith))))
+            (λ t. let ne = eqb-false p n t in g .none (omega arith) p (omega arith));
+        some = λ f.
+            let d = g .some (λ p h. f p (omega arith)) in
+            let z : x ≡ 0 = ap (bitXor (getD old n 0)) (f n (omega arith)) ∙ xor-self (getD old n 0) in
+            ap₂ bitOr d z ∙ or-zero;
+      }
+    where
+      or-zero : bitOr 0 0 ≡ 0
+      or-zero = refl
+
+  pub comparing-end : (differ n : ℕ) → n ≡ maxPredicates → Comparing old new differ n → Compares old new (eqb differ 0)
+  comparing-end differ n e g =
+      record {
+        same· = λ t p h. g .none (eqb-true differ 0 t) p (omega arith);
+        other = λ t f. eqb-false differ 0 t (g .some (λ p h. f p (omega arith)));
+      }

@@ -1,27 +1,34 @@
--- A table that goes on past the predicates that subgoals call; and the places of an order. Assumes nothing.
+-- A table that goes on past the predicates that subgoals call, or that admits the same patterns; and the places of an order. Assumes nothing.
 use mathlib.Core.Path.{_≡_, refl, sym, ap, _∙_, subst}
 use mathlib.Core.Bool.{Bool, true, false, not, cond}
 use mathlib.Core.List.{List, [], _∷_}
 use mathlib.Core.Option.{none, some}
-use Prim.Native.Nat.{ℕ, _<_, _≤_, min}
+use Prim.Native.Nat.{ℕ, zero, suc, _+_, _*_, _<_, _≤_, min}
 use native.Mathlib.Omega.{arith}
-use lib.Dec.{ltb}
+use lib.Dec.{leb, ltb}
 use lib.ListN.{length, getD, take, length-take}
-use borrow.Author.Tests.{ltb-true, not-true, not-false}
-use Rattle.masks.specs.Lists.{any, all}
+use borrow.Author.Tests.{ltb-true, leb-true, le-leb, not-true, not-false}
+use Rattle.masks.specs.Limits.{maxArity}
+use Rattle.masks.specs.Lists.{any, all, values}
 use Rattle.masks.specs.Constraint.{admits}
-use Rattle.book.specs.Limits.{maxSubgoals}
-use Rattle.book.specs.Book.{Call}
-use Rattle.book.specs.Table.{entryIn, tableIn}
-use Rattle.book.specs.Sets.{callsBelow}
-use Rattle.ordering.specs.Adorn.{Bound, patternOf, ready}
-use Rattle.ordering.specs.Good.{firstGood}
+use Rattle.masks.specs.Patterns.{EachLane}
+use Rattle.book.specs.Limits.{maxPredicates, maxSubgoals}
+use Rattle.book.specs.Book.{Call, noCall}
+use Rattle.book.specs.Table.{Table, entry, entryIn, tableIn}
+use Rattle.book.specs.Sets.{callable}
+use Rattle.book.specs.Held.{callIn, clauseSize, clauseAt}
+use Rattle.ordering.specs.Adorn.{Bound, patternOf, ready, after}
+use Rattle.ordering.specs.Good.{at, readyAt, afterAt, firstGood}
 use Rattle.ordering.specs.Held.{placesOf, orNone}
 use Rattle.ordering.specs.declared.Order.{Order}
-use Rattle.masks.proofs.Laws.Logic.{and-left, and-right}
+use Rattle.masks.proofs.Laws.Logic.{and-intro, and-left, and-right}
+use Rattle.masks.proofs.Laws.Lists.{all-append, all-at}
 use Rattle.book.proofs.Laws.Table.{tableIn-at}
+use Rattle.book.proofs.Laws.Sets.{callsBelow, callable-low}
+use Rattle.book.proofs.Laws.Held.{args-count}
 use Rattle.ordering.proofs.Laws.Good.{first-kept}
-use Rattle.ordering.proofs.Laws.Steps.{first-at}
+use Rattle.ordering.proofs.Laws.Greedy as turns
+use Rattle.ordering.proofs.Laws.Steps.{first-at, pattern-small}
 
 -- what a subgoal needs, for whoever computes it: that its pattern fits the constraint held at its predicate
 pub ready-held : (table : List ℕ) (n : ℕ) (b : Bound) (s : Call) → s .pred < n
@@ -48,6 +55,38 @@ module _ (table : List ℕ) (n m : ℕ) (h : n ≤ m) where
 
   pub first-cut : (body : List Call) (b : Bound) → callsBelow n body ≡ true → firstGood (tableIn table m) body b ≡ firstGood (tableIn table n) body b
   first-cut body b t = first-kept (tableIn table m) (tableIn table n) (outside n) tableIn-cut body b (callsBelow-outside n body t)
+
+-- ---- two tables that admit the same patterns of six positions: of calls with six arguments at most they have the same orders
+
+abbrev few : Call → Bool
+few c = leb (length (c .args)) maxArity
+
+pub first-same : (T U : Table) (body : List Call) → ((p : ℕ) → p < maxPredicates → EachLane (λ a. admits (entry T p) a ≡ admits (entry U p) a))
+    → callable body ≡ true → all (λ c. leb (length (c .args)) maxArity) body ≡ true → (b : Bound) → firstGood T body b ≡ firstGood U body b
+unfolding ready at
+first-same T U body agree known short b =
+    turns.first-same (readyAt T body) (afterAt body) (readyAt U body) (afterAt body) (λ (u v : Bound). u ≡ v) (length body)
+    (λ u v p l e. ap (λ (w : Bound). ready T w (at body p)) e ∙ one v p l)
+    (λ u v p e. ap (λ (w : Bound). after w (at body p)) e) b b refl
+  where
+    one : (v : Bound) (p : ℕ) → p < length body → ready T v (at body p) ≡ ready U v (at body p)
+    one v p l =
+        let s = getD body p noCall in
+        agree (s .pred) (callable-low body p known l) (patternOf v (s .args))
+        (pattern-small v maxArity (s .args) (leb-true (length (s .args)) maxArity (all-at few noCall body p l short)))
+
+-- those of a clause have six at most
+pub body-few : (rules : List ℕ) (k : ℕ) → all (λ c. leb (length (c .args)) maxArity) (clauseAt rules k .body) ≡ true
+unfolding clauseAt
+body-few rules k = go (min (getD rules (k * clauseSize) 0) maxSubgoals)
+  where
+    go : (n : ℕ) → all few (values (λ j. callIn (getD rules (k * clauseSize + 2 + j) 0)) n) ≡ true
+    go zero = refl
+    go (suc n) =
+        let w = getD rules (k * clauseSize + 2 + n) 0 in
+        let l = args-count w in
+        all-append few (values (λ j. callIn (getD rules (k * clauseSize + 2 + j) 0)) n) (callIn w ∷ [])
+        ∙ and-intro (go n) (and-intro (le-leb (length (callIn w .args)) maxArity (omega arith)) refl)
 
 -- ---- how many places an order has
 

@@ -1,25 +1,26 @@
 -- The patterns that the code stores beside the places of an order: each is that of its subgoal where all before it are taken. So an order as the code
 -- holds it tells the calls of the first good order. Assumes nothing.
 use mathlib.Core.Path.{_≡_, refl, sym, ap, ap₂, _∙_}
-use mathlib.Core.Bool.{Bool, true, false}
 use mathlib.Core.List.{List, [], _∷_, _++_, map, map-append}
 use mathlib.Core.Option.{Option, none, some}
-use Prim.Native.Nat.{ℕ, _+_, _≤_, _<_, zero, suc}
+use Prim.Native.Nat.{ℕ, _+_, _-_, _^_, _≤_, _<_, zero, suc}
 use native.Mathlib.Numerals.{add-one}
 use native.Mathlib.Omega.{arith}
-use lib.ListN.{length, getD, set, take, replicate, length-set, length-take}
+use lib.Bits.{bitXor}
+use lib.ListN.{length, getD, set, take, length-set}
 use lib.Seq.{length-take-le, take-suc, take-suc-set}
 use Rattle.masks.specs.Limits.{maxArity, allPatterns}
 use Rattle.masks.specs.Lists.{values}
+use Rattle.book.specs.Limits.{maxSubgoals}
 use Rattle.book.specs.Book.{Call, noCall}
-use Rattle.book.specs.Held.{callOf}
+use Rattle.book.specs.Held.{callIn}
 use Rattle.book.specs.Table.{Table}
-use Rattle.book.specs.declared.clause.Call as call
 use Rattle.ordering.specs.Adorn.{Bound, patternOf}
 use Rattle.ordering.specs.Good.{at, readyAt, afterAt, firstGood}
 use Rattle.ordering.specs.Asks.{Asked, asks, patternsIn}
 use Rattle.ordering.specs.Held.{orderOf, orNone, placesOf, patternsOf, picked, PatternAt}
 use Rattle.ordering.specs.declared.Order.{Order}
+use Rattle.book.proofs.Laws.Held.{args-count}
 use Rattle.ordering.proofs.Laws.Greedy.{allAfter}
 use Rattle.ordering.proofs.Laws.Good.{greedy-is-first, first-below}
 use Rattle.ordering.proofs.Laws.Asks.{asks-snoc, after-snoc}
@@ -76,25 +77,25 @@ module _ {body : List Call} {b₀ b : Bound} {i : ℕ} {places patterns : List �
 -- ---- the loop
 
 -- the run of the greedy rule, and the patterns beside its places
-pub record Going (T : Table) (body : List Call) (b₀ : Bound) (i : ℕ) (b : Bound) (used : List Bool) (places patterns : List ℕ) : Type 0 where
-  pub run : Run (readyAt T body) (afterAt body) b₀ (length body) i b used places
+pub record Going (T : Table) (body : List Call) (b₀ : Bound) (i : ℕ) (b : Bound) (left : ℕ) (places patterns : List ℕ) : Type 0 where
+  pub run : Run (readyAt T body) (afterAt body) b₀ (length body) i b left places
   pub turns : Turns body b₀ i b places patterns
 
-pub going-start : (T : Table) (body : List Call) (b : Bound) (m : ℕ) (places patterns : List ℕ) → length body ≤ m → length body ≤ length places → length body ≤ length patterns
-    → Going T body b 0 b (replicate m false) places patterns
-going-start T body b m places patterns h k l =
-    record { run = run-start b (length body) m places h k; turns = turns-start body b places patterns k l }
+pub going-start : (T : Table) (body : List Call) (b₀ : Bound) {b : Bound} {left : ℕ} (places patterns : List ℕ) → b ≡ b₀ → left ≡ 2 ^ length body - 1
+    → length body ≤ maxSubgoals → length body ≤ length places → length body ≤ length patterns → Going T body b₀ 0 b left places patterns
+going-start T body b₀ places patterns eb el h k l =
+    rw (eb, el) (record { run = run-start b₀ (length body) places h k; turns = turns-start body b₀ places patterns k l })
 
-module _ {T : Table} {body : List Call} {b₀ b : Bound} {i : ℕ} {used : List Bool} {places patterns : List ℕ} (w : Going T body b₀ i b used places patterns) where
+module _ {T : Table} {body : List Call} {b₀ b : Bound} {i left : ℕ} {places patterns : List ℕ} (w : Going T body b₀ i b left places patterns) where
   -- the first place that is ready is taken, with its subgoal's pattern
-  pub going-next : (p a : ℕ) → p ≡ picked used (readyAt T body b) (length body) → PatternAt body b p a → i < length body → p < length body
-      → {b′ : Bound} {used′ : List Bool} {places′ patterns′ : List ℕ} → b′ ≡ afterAt body b p → used′ ≡ set used p true → places′ ≡ set places i p → patterns′ ≡ set patterns i a
-      → Going T body b₀ (i + 1) b′ used′ places′ patterns′
+  pub going-next : (p a : ℕ) → p ≡ picked left (readyAt T body b) → PatternAt body b p a → i < length body → p < length body
+      → {b′ : Bound} {left′ : ℕ} {places′ patterns′ : List ℕ} → b′ ≡ afterAt body b p → left′ ≡ bitXor left (2 ^ p) → places′ ≡ set places i p → patterns′ ≡ set patterns i a
+      → Going T body b₀ (i + 1) b′ left′ places′ patterns′
   going-next p a e t h k eb eu ep ea =
       record { run = run-next (w .run) p e h k eb eu ep; turns = turns-next (w .turns) p a h k t eb ep ea }
 
   -- where no place is ready, no order is good
-  pub going-stuck : (p : ℕ) → p ≡ picked used (readyAt T body b) (length body) → i < length body → length body ≤ p → none ≡ firstGood T body b₀
+  pub going-stuck : (p : ℕ) → p ≡ picked left (readyAt T body b) → i < length body → length body ≤ p → none ≡ firstGood T body b₀
   going-stuck p e h k = sym (run-stuck (w .run) p e h k) ∙ greedy-is-first T body b₀
 
   pub going-end : (n : ℕ) → n ≡ length body → n ≤ i
@@ -154,14 +155,15 @@ module _ (T : Table) (body : List Call) (b : Bound) (o : Order) (e : orderOf o �
       pattern-beside body b o t i h
       ∙ ap (λ (σ : Option (List ℕ)). patternOf (allAfter (afterAt body) b (take i (orNone σ))) (at body (getD (orNone σ) i 0) .args)) e
 
-  -- of a call that was read by value, with six arguments at most
-  pub pattern-low : patternsOf o ≡ patternsIn body b (placesOf o) → (i : ℕ) → i < length (placesOf o) → (s : call.Call)
-      → callOf s ≡ getD body (getD (o .places) i 0) noCall → length (s .args) ≡ maxArity → getD (o .patterns) i 0 < allPatterns
+  -- of a call that was read, with six arguments at most
+  pub pattern-low : patternsOf o ≡ patternsIn body b (placesOf o) → (i : ℕ) → i < length (placesOf o) → (s : ℕ)
+      → callIn s ≡ getD body (getD (o .places) i 0) noCall → getD (o .patterns) i 0 < allPatterns
   unfolding at
-  pattern-low t i h s q n =
+  pattern-low t i h s q =
       let r = order-pattern t i h in
-      let a : callOf s .args ≡ at body (getD order i 0) .args = ap (λ (c : Call). c .args) (q ∙ ap (λ (p : ℕ). getD body p noCall) (order-at i h)) in
-      let l = pattern-small (allAfter (afterAt body) b (take i order)) maxArity (at body (getD order i 0) .args) (rw (← a) (simp length-take (omega arith))) in
+      let n = args-count s in
+      let a : callIn s .args ≡ at body (getD order i 0) .args = ap (λ (c : Call). c .args) (q ∙ ap (λ (p : ℕ). getD body p noCall) (order-at i h)) in
+      let l = pattern-small (allAfter (afterAt body) b (take i order)) maxArity (at body (getD order i 0) .args) (rw (← a) (omega arith)) in
       omega arith
 
 -- ---- the calls of an order, one by one

@@ -1,29 +1,19 @@
--- `ordering::bound_bit` meets its contract. The three tests are those of `isBound`. Assumes nothing.
-use mathlib.Core.Path.{sym}
-use mathlib.Core.Bool.{true, false}
+-- `ordering::bound_bit` meets its contract. The lowest bit of a word moved down by n is its bit n. Assumes nothing.
+use Prim.Native.Nat.{_%_}
 use native.Mathlib.Omega.{arith}
-use Rattle.ordering.proofs.Laws.Steps.{bitOf, bit-literal, bit-other, bit-var}
+use borrow.Author.Needs.{needs}
+use Rattle.ordering.proofs.Laws.Bound.{shift-bit}
 use Rattle.ordering.proofs.bound_bit.Statement.{statement}
 use Rattle.ordering.proofs.bound_bit.Tie as tie
 
+cast-result : tie.Need-cast-result
+cast-result c = search needs
+
+shr-result : tie.Need-shr-result
+shr-result c = search needs
+
 returns : tie.Need-returns
-unfolding bitOf
-returns c = let s = c .before .args in sym (bit-literal (s .t1) (s .v) (omega arith))
-
-returns-2 : tie.Need-returns-2
-unfolding bitOf
-returns-2 c = let s = c .before .before .args in sym (bit-other (s .t1) (s .v) (λ e. omega arith) (omega arith))
-
-array-read-if3 : tie.Need-array-read-if3
-array-read-if3 c = omega arith
-
-returns-3 : tie.Need-returns-3
-unfolding bitOf
-returns-3 c = let s = c .before .before .before .args in sym (bit-var (s .t1) (s .v) true (λ e. omega arith) (omega arith) (c .if3 .taken))
-
-returns-4 : tie.Need-returns-4
-unfolding bitOf
-returns-4 c = let s = c .before .before .before .args in sym (bit-var (s .t1) (s .v) false (λ e. omega arith) (omega arith) (c .if3 .left))
+returns c = (shift-bit (c .args .bound) (c .args .arg % 32), omega arith)
 
 pub bound-bit-spec : {M : Type 1} → statement M
-bound-bit-spec = tie.close (tie.spec returns returns-2 array-read-if3 returns-3 returns-4)
+bound-bit-spec = tie.close (tie.spec cast-result shr-result returns)

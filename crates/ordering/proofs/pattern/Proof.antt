@@ -1,86 +1,68 @@
--- `ordering::pattern` meets its contract. The loop's invariant: a is the pattern of the arguments from i on. Assumes nothing.
-use mathlib.Core.Path.{_≡_, sym, ap, _∙_}
-use Prim.Native.Nat.{ℕ, _-_, _≤_}
+-- `ordering::pattern` meets its contract. The bits of three bytes, or of six, cut to as many as there are arguments, are those of the arguments; and each tells
+-- whether its argument is bound. Assumes nothing.
+use mathlib.Core.Path.{_≡_, ap, ap₂, _∙_}
+use mathlib.Core.Logic.{⊎-elim}
+use Prim.Native.Nat.{ℕ, _+_, _*_, _%_, _^_}
+use native.Mathlib.Nat.{mod-lt}
 use native.Mathlib.Omega.{arith}
-use lib.ListN.{length, length-take, getD, drop}
+use lib.Pow.{pow-pos, pow-lt}
 use borrow.Author.Needs.{needs}
-use Rattle.book.specs.Held.{callOf, countIn}
-use Rattle.ordering.specs.Adorn.{patternOf}
-use Rattle.ordering.proofs.Laws.Steps.{bitOf, bitOf-small, pattern-next, pattern-end, pattern-left}
+use Rattle.ordering.proofs.Laws.Bound.{power-is, counted, pattern-three, pattern-six}
 use Rattle.ordering.proofs.pattern.Statement.{statement}
 use Rattle.ordering.proofs.pattern.Tie as tie
 
-abbrev Inv-loop : tie.InvT-loop
-Inv-loop bound s a₀ i₀ a i = (i ≤ length (callOf s .args)) × (a ≡ patternOf bound (drop i (callOf s .args)))
+three-bits-requires : tie.Need-three-bits-requires
+three-bits-requires c κs = search needs
 
-abbrev μ-loop : tie.MeasureT-loop
-μ-loop bound s a₀ i₀ a i = i
+three-bits-requires-2 : tie.Need-three-bits-requires-2
+three-bits-requires-2 c κs = search needs
 
-arguments-requires : tie.Need-arguments-requires Inv-loop μ-loop
-arguments-requires c κs = search needs
+mul-all : tie.Need-mul-all
+mul-all c = search needs
 
-loop-holds : tie.Need-loop-holds Inv-loop μ-loop
-loop-holds c =
-    let s = c .before .args in
-    let n = c .arguments .ensures .0 in
-    (omega arith, sym (pattern-end (s .bound) (callOf (s .t2) .args) (c .arguments .result) (omega arith)))
+add-all : tie.Need-add-all
+add-all c = search needs
 
-sub-i : tie.Need-sub-i Inv-loop μ-loop
-sub-i c = omega arith
+power-requires : tie.Need-power-requires
+power-requires c κs = search needs
 
-mul-a : tie.Need-mul-a Inv-loop μ-loop
-mul-a c =
-    let s = c .before .before .before .args in
-    let n = c .before .before .arguments .ensures in
-    omega (arith, pattern-left (s .bound) (callOf (s .t2) .args) (c .before .loop .i) (omega arith) (omega arith))
+-- what is divided by
+divisor : (c : tie.After-row-known) → c .before .power .result ≡ 2 ^ counted (c .before .before .before .before .args .s)
+divisor c = power-is _ (counted (c .before .before .before .before .args .s)) (c .before .power .ensures) (omega arith)
 
-element-copy-out-bound-bit : tie.Need-element-copy-out-bound-bit Inv-loop μ-loop
-element-copy-out-bound-bit c =
-    let s = c .before .before .before .args .t2 in
-    omega (arith, length-take (countIn (s .n)) (s .args))
+rem-result : tie.Need-rem-result
+rem-result c = let d = divisor c in let p = pow-pos (counted (c .before .before .before .before .args .s)) in omega arith
 
-bound-bit-requires : tie.Need-bound-bit-requires Inv-loop μ-loop
-bound-bit-requires c κs = search needs
+cast-result : tie.Need-cast-result
+cast-result c =
+    let d = divisor c in
+    let p = pow-pos (counted (c .before .before .before .before .args .s)) in
+    let q = pow-lt {i = counted (c .before .before .before .before .args .s)} {j = 8} (omega arith) in
+    let r = mod-lt (c .before .before .if1 .all) {m = c .before .power .result} (omega arith) in
+    omega arith
 
-add-a : tie.Need-add-a Inv-loop μ-loop
-unfolding bitOf
-add-a c =
-    let s = c .before .before .before .before .before .args in
-    let n = c .before .before .before .before .arguments .ensures in
-    let i = c .before .before .before .loop .i in
-    let e = c .bound-bit .ensures in
-    omega (arith, pattern-left (s .bound) (callOf (s .t2) .args) i (omega arith) (omega arith), bitOf-small (s .bound) (getD (s .t2 .args) (i - 1) 0))
-
-loop-less : tie.Need-loop-less Inv-loop μ-loop
-loop-less c = omega arith
-
-loop-again : tie.Need-loop-again Inv-loop μ-loop
-loop-again c =
-    let s = c .before .before .before .before .before .args in
-    let l = c .before .before .before .loop in
-    let d = pattern-next (s .bound) (countIn (s .t2 .n)) (s .t2 .args) (l .i) (c .bound-bit .result) (omega arith) (omega arith) (c .bound-bit .ensures) in
-    let e = l .inv .1 in
-    (omega arith, omega arith)
-
-returns : tie.Need-returns Inv-loop μ-loop
+returns : tie.Need-returns
 returns c =
-    let s = c .before .before .before .args in
-    let z : c .before .loop .i ≡ 0 = omega arith in
-    c .before .loop .inv .1 ∙ ap (λ (i : ℕ). patternOf (s .bound) (drop i (callOf (s .t2) .args))) z
+    let k = c .before .before .before .before in
+    let s = k .args in
+    let low = c .before .before .before .three-bits .ensures .0 in
+    ap (λ (d : ℕ). c .before .before .if1 .all % d) (divisor c)
+    ∙ ⊎-elim
+    (λ w. ap (λ (x : ℕ). x % 2 ^ counted (s .s)) (w .1 ∙ low) ∙ pattern-three (s .bound) (s .s) (k .pre .0) (k .pre .1) (omega arith))
+    (λ w.
+    ap (λ (x : ℕ). x % 2 ^ counted (s .s)) (w .2 ∙ ap₂ (λ (x y : ℕ). x + 8 * y) low (w .1 .ensures .0))
+    ∙ pattern-six (s .bound) (s .s) (k .pre .0) (k .pre .1))
+    (c .before .before .if1 .came)
 
 pub pattern-spec : {M : Type 1} → statement M
 pattern-spec =
     tie.close
     (tie.spec
-    Inv-loop
-    μ-loop
-    arguments-requires
-    loop-holds
-    sub-i
-    mul-a
-    element-copy-out-bound-bit
-    bound-bit-requires
-    add-a
-    loop-less
-    loop-again
+    three-bits-requires
+    three-bits-requires-2
+    mul-all
+    add-all
+    power-requires
+    rem-result
+    cast-result
     returns)

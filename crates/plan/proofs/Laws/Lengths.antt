@@ -4,21 +4,22 @@ use mathlib.Core.Path.{_≡_, refl, ap, ap₂, _∙_}
 use mathlib.Core.Bool.{Bool, true, false, cond}
 use mathlib.Core.List.{List}
 use Prim.Native.Nat.{ℕ, suc, _+_, _-_, _*_, _^_, _≤_, _<_}
-use native.Mathlib.Nat.{mul-le-mul}
+use native.Mathlib.Nat.{zero-mul, mul-le-mul}
 use native.Mathlib.Numerals.{add-one}
 use native.Mathlib.Omega.{arith}
 use lib.Bits.{bitAnd}
-use lib.Count.{trailingZeros, ones}
+use lib.Count.{trailingZeros}
 use lib.ListN.{length, getD}
 use Rattle.masks.specs.Limits.{allPatterns}
-use Rattle.masks.specs.Set.{bitAt}
+use Rattle.masks.specs.Set.{bitAt, members}
 use Rattle.book.specs.Limits.{maxClauses, maxSubgoals}
 use Rattle.book.specs.Held.{clauseAt}
 use Rattle.tables.specs.Table.{sumBelow}
 use Rattle.plan.specs.Lent.{rowsLength, planLength}
+use Rattle.masks.proofs.Laws.Set.{bitAt-zero}
 use Rattle.masks.proofs.Laws.Members.{Over, over-start, over-end, over-lowest, over-member, over-here, over-next}
 use Rattle.book.proofs.Laws.Held.{clauseAt-few}
-use Rattle.tables.proofs.Laws.Sums.{sum-most}
+use Rattle.tables.proofs.Laws.Sums.{sum-cong, sum-most}
 
 -- ---- a row of each clause of a set
 
@@ -36,6 +37,10 @@ row-most rules own k = let h = clauseAt-few rules k in go (bitAt own k) (omega a
 pub rows-most : (rules : List ℕ) (own : ℕ) → rowsLength rules own ≤ maxClauses * (5 + maxSubgoals)
 unfolding rowsLength
 rows-most rules own = sum-most (rowLength rules own) (5 + maxSubgoals) maxClauses (row-most rules own)
+
+rows-none : (rules : List ℕ) → rowsLength rules 0 ≡ 0
+unfolding rowsLength
+rows-none rules = sum-cong (rowLength rules 0) (λ k. 0) maxClauses (λ k h. ap (λ (b : Bool). cond b (5 + length (clauseAt rules k .body)) 0) (bitAt-zero k))
 
 -- the total of the clauses below k
 abbrev Total : List ℕ → ℕ → ℕ → ℕ → Type 0
@@ -84,7 +89,7 @@ module _ {rules : List ℕ} {own total rest : ℕ} (m : Adding rules own total r
 -- ---- the plan: each predicate's rows, as often as it has patterns
 
 abbrev patternsLength : List ℕ → List ℕ → List ℕ → ℕ → ℕ
-patternsLength rules own words p = rowsLength rules (getD own p 0) * ones (getD words p 0)
+patternsLength rules own words p = rowsLength rules (getD own p 0) * length (members (getD words p 0))
 
 -- the most that a predicate's rows come to
 abbrev pub mostRows : ℕ
@@ -102,7 +107,7 @@ planning-start preds rules own words e = let h = clauseAt-few rules maxClauses i
 
 module _ {preds : ℕ} {rules own words : List ℕ} {p total : ℕ} (m : Planning preds rules own words p total) where
   -- a turn: the predicate's rows, and how many patterns it has
-  module _ {rows patterns : ℕ} (h : p < preds) (e : rows ≡ rowsLength rules (getD own p 0)) (f : (patterns ≡ ones (getD words p 0)) × (patterns ≤ allPatterns)) where
+  module _ {rows patterns : ℕ} (h : p < preds) (e : rows ≡ rowsLength rules (getD own p 0)) (f : (patterns ≡ length (members (getD words p 0))) × (patterns ≤ allPatterns)) where
     pub planning-most : (rows * patterns ≤ mostRows) × (total + rows * patterns ≤ 3 + maxSubgoals + mostRows * (p + 1))
     planning-most =
         let l = rows-most rules (getD own p 0) in
@@ -115,6 +120,14 @@ module _ {preds : ℕ} {rules own words : List ℕ} {p total : ℕ} (m : Plannin
         let a = m .is in
         let b = ap₂ _*_ e (f .0) in
         record { most = omega arith; is = rw add-one (omega arith); small = planning-most .1 }
+
+  -- a predicate without clauses has no rows
+  pub planning-skip : p < preds → getD own p 0 ≡ 0 → Planning preds rules own words (p + 1) total
+  planning-skip h z =
+      let a = m .is in
+      let s = m .small in
+      let b : patternsLength rules own words p ≡ 0 = ap (λ (n : ℕ). n * length (members (getD words p 0))) (ap (rowsLength rules) z ∙ rows-none rules) ∙ zero-mul (length (members (getD words p 0))) in
+      record { most = omega arith; is = rw add-one (omega arith); small = omega arith }
 
   pub planning-end : preds ≤ p → total ≡ planLength preds rules own words
   unfolding planLength

@@ -7,7 +7,6 @@ use mathlib.Core.List.{List, [], _∷_, _++_, append-nil}
 use mathlib.Core.Option.{Option, none, some}
 use Prim.Native.Nat.{ℕ, _+_, _*_, _≤_, _<_, min}
 use native.Mathlib.Omega.{arith}
-use lib.Count.{ones}
 use lib.Dec.{eqb, ltb}
 use lib.ListN.{length, getD, length-append, List·getD-eq-default}
 use lib.Seq.{sets}
@@ -15,14 +14,16 @@ use borrow.Author.Tests.{eqb-true, leb-true, ltb-true, lt-ltb, le-ltb}
 use Rattle.masks.specs.Limits.{allPatterns}
 use Rattle.masks.specs.Lists.{joined}
 use Rattle.masks.specs.Outcome.{Answers, refused, inRoom}
-use Rattle.masks.specs.Set.{bitAt}
+use Rattle.masks.specs.Constraint.{admits}
+use Rattle.masks.specs.Set.{bitAt, members}
+use Rattle.masks.specs.Patterns.{EachLane}
 use Rattle.masks.specs.declared.reply.Reply.{Reply}
 use Rattle.book.specs.Limits.{maxPredicates, maxClauses}
 use Rattle.book.specs.Book.{Call, Clause, noClause, Book}
 use Rattle.book.specs.Encode.{run}
 use Rattle.book.specs.Held.{clauseAt, clausesOf, bookIn}
-use Rattle.book.specs.Table.{Table, tableIn}
-use Rattle.book.specs.Sets.{callsBelow, Owns, Known}
+use Rattle.book.specs.Table.{Table, entry, entryIn, tableIn, Full}
+use Rattle.book.specs.Sets.{callable, Owns, Known}
 use Rattle.reading.specs.Judged.{BookRead}
 use Rattle.reading.specs.declared.Reading.{Reading}
 use Rattle.ordering.specs.Adorn.{Bound, nothing, headBound}
@@ -30,24 +31,27 @@ use Rattle.ordering.specs.Good.{firstGood, isSome}
 use Rattle.ordering.specs.Held.{orNone, orderOf, placesOf}
 use Rattle.ordering.specs.declared.Order.{Order}
 use Rattle.tables.specs.Table.{final}
+use Rattle.needs.specs.Round.{Settled}
 use Rattle.writing.specs.Wrote.{Room, Wrote}
 use Rattle.choices.specs.Choice.{clause, Reaches}
 use Rattle.choices.specs.Reached.{marked, reached}
 use Rattle.choices.specs.Plan.{orStanding, firstChoice, chosen, rowsFor, rowsUnder, rowsOf, planRows, encQuery, encRow, image, planned}
 use Rattle.reach.specs.Marked.{markedAt, taken, ReachedIn}
 use Rattle.plan.specs.Lent.{Lent, EachCallable, rowBy, clauseRows, patternRows, planBytes, rowsLength, planLength}
-use Rattle.masks.proofs.Laws.Logic.{byBool, byRange, same, false-of, clash, and-left, and-right}
+use Rattle.masks.proofs.Laws.Logic.{byBool, byRange, same, clash, and-left, and-right}
 use Rattle.masks.proofs.Laws.Lists.{joined-cong, joined-cut}
 use Rattle.masks.proofs.Laws.Set.{bitAt-zero}
+use Rattle.masks.proofs.Laws.Sets.{admits-full}
 use Rattle.masks.proofs.Laws.Outcome.{answers-short, answers-done}
 use Rattle.reading.proofs.Laws.Judged.{read-well}
 use Rattle.book.proofs.Laws.Encode.{run-joined}
-use Rattle.book.proofs.Laws.Sets.{callsBelow-mono}
-use Rattle.ordering.proofs.Laws.Held.{first-cut}
-use Rattle.tables.proofs.Laws.Sums.{howMany, sum-cong, length-joined, howMany-each, ones-below}
-use Rattle.tables.proofs.Laws.Valid.{query-calls, clause-calls}
-use Rattle.needs.proofs.Laws.Settling.{clauses-count, known-clauses}
-use Rattle.choices.proofs.Laws.Reached.{reaches-low, reached-iff, reaches-agree, reaches-back}
+use Rattle.book.proofs.Laws.Table.{tableIn-at}
+use Rattle.book.proofs.Laws.Sets.{callsBelow}
+use Rattle.ordering.proofs.Laws.Held.{first-cut, first-same, body-few}
+use Rattle.tables.proofs.Laws.Sums.{sum-cong, length-joined, sum-each}
+use Rattle.tables.proofs.Laws.Valid.{query-callable, query-calls, clause-calls}
+use Rattle.needs.proofs.Laws.Settling.{clauses-count, clause-is, known-clauses}
+use Rattle.choices.proofs.Laws.Reached.{reached-iff, reaches-agree, reaches-back}
 use Rattle.choices.proofs.Laws.Moded.{chosen-choice, reached-good}
 use Rattle.choices.proofs.Laws.Plan.{planned-good, planned-none}
 use Rattle.reach.proofs.Laws.Working.{book-clause, own-callable}
@@ -57,7 +61,7 @@ standing-none : (n : ℕ) (o : Option (List ℕ)) → isSome o ≡ true → orSt
 standing-none n none e = clash e refl
 standing-none n (some σ) e = refl
 
-module _ (B : Book) (preds clauses : ℕ) (rules table : List ℕ) (l : Lent B preds clauses rules table) where
+module _ (B : Book) (preds clauses : ℕ) (rules own table : List ℕ) (l : Lent B preds clauses rules own table) where
   abbrev held : Table
   held = tableIn table maxPredicates
 
@@ -70,31 +74,49 @@ module _ (B : Book) (preds clauses : ℕ) (rules table : List ℕ) (l : Lent B p
   pub lent-known : Known rules clauses
   lent-known = known-clauses B rules clauses (l .clauses·) (l .well)
 
+  -- each predicate's clauses can be tried
+  pub lent-callable : EachCallable rules own
+  lent-callable p h = own-callable rules clauses own (l .owns) p h lent-known
+
   here : (k : ℕ) → k < clauses → clause B k ≡ clauseAt rules k
   here = book-clause B rules clauses (l .clauses·)
 
   -- ---- the orders found are those against the final table
 
-  order : (body : List Call) (b : Bound) → callsBelow (length (B .arities)) body ≡ true → firstGood held body b ≡ firstGood (final B) body b
-  order body b t =
-      first-cut table preds maxPredicates few-preds body b (subst (λ (n : ℕ). callsBelow n body ≡ true) (l .preds·) t)
-      ∙ ap (λ (T : Table). firstGood T body b) (l .table·)
+  pub lent-full : Full table
+  lent-full p h a m = l .admitted p h a m ∙ sym (admits-full (entryIn (l .masks) p) (getD table p 0) (l .admitted p h) a m)
+
+  agree : (p : ℕ) → p < maxPredicates → EachLane (λ a. admits (entry held p) a ≡ admits (entry (tableIn (l .masks) maxPredicates) p) a)
+  agree p h a m =
+      ap (λ (c : List ℕ). admits c a) (tableIn-at table maxPredicates p h)
+      ∙ admits-full (entryIn (l .masks) p) (getD table p 0) (l .admitted p h) a m
+      ∙ ap (λ (c : List ℕ). admits c a) (sym (tableIn-at (l .masks) maxPredicates p h))
+
+  order : (k : ℕ) (b : Bound) → callable (clauseAt rules k .body) ≡ true → callsBelow (length (B .arities)) (clauseAt rules k .body) ≡ true
+      → firstGood held (clauseAt rules k .body) b ≡ firstGood (final B) (clauseAt rules k .body) b
+  order k b c t =
+      first-same held (tableIn (l .masks) maxPredicates) (clauseAt rules k .body) agree c (body-few rules k) b
+      ∙ first-cut (l .masks) preds maxPredicates few-preds (clauseAt rules k .body) b (subst (λ (n : ℕ). callsBelow n (clauseAt rules k .body) ≡ true) (l .preds·) t)
+      ∙ ap (λ (T : Table). firstGood T (clauseAt rules k .body) b) (l .final·)
+
+  pub lent-query : callable (clauseAt rules maxClauses .body) ≡ true
+  lent-query = subst (λ (body : List Call). callable body ≡ true) (l .query·) (query-callable B (l .well))
 
   pub query-order : firstGood held (clauseAt rules maxClauses .body) nothing ≡ firstGood (final B) (B .query) nothing
   query-order =
-      ap (λ (body : List Call). firstGood held body nothing) (sym (l .query·)) ∙ order (B .query) nothing (query-calls B (l .well))
-
-  pub query-below : callsBelow maxPredicates (clauseAt rules maxClauses .body) ≡ true
-  query-below =
-      subst (λ (body : List Call). callsBelow maxPredicates body ≡ true) (l .query·)
-      (callsBelow-mono (length (B .arities)) maxPredicates (let e = l .preds· in let h = few-preds in omega arith) (B .query) (query-calls B (l .well)))
+      order maxClauses nothing lent-query (subst (λ (body : List Call). callsBelow (length (B .arities)) body ≡ true) (l .query·) (query-calls B (l .well)))
+      ∙ ap (λ (body : List Call). firstGood (final B) body nothing) (sym (l .query·))
 
   clause-order : (k a : ℕ) → k < clauses
       → firstGood held (clause B k .body) (headBound (clause B k .head .args) a) ≡ firstGood (final B) (clause B k .body) (headBound (clause B k .head .args) a)
-  unfolding clause
   clause-order k a h =
-      order (clause B k .body) (headBound (clause B k .head .args) a)
-      (clause-calls B (l .well) noClause k (let e = count in omega arith))
+      let e = here k h in
+      subst
+      (λ (c : Clause). firstGood held (c .body) (headBound (c .head .args) a) ≡ firstGood (final B) (c .body) (headBound (c .head .args) a))
+      (sym e)
+      (order k (headBound (clauseAt rules k .head .args) a) (lent-known .bodies k h)
+      (subst (λ (c : Clause). callsBelow (length (B .arities)) (c .body) ≡ true) (clause-is B rules clauses (l .clauses·) noClause k h)
+      (clause-calls B (l .well) noClause k (let n = count in omega arith))))
 
   -- ---- a query that has a good order
 
@@ -103,7 +125,7 @@ module _ (B : Book) (preds clauses : ℕ) (rules table : List ℕ) (l : Lent B p
     unfolding chosen firstChoice taken
     same-query =
         standing-none (length (B .query)) (firstGood (final B) (B .query) nothing) found
-        ∙ ap orNone (sym (order (B .query) nothing (query-calls B (l .well))))
+        ∙ ap orNone (sym query-order ∙ ap (λ (body : List Call). firstGood held body nothing) (sym (l .query·)))
 
     same-clause : (k a : ℕ) → k < length (B .clauses) → Reaches B (chosen B) (clause B k .head .pred) a → chosen B .forClause k a ≡ taken held B .forClause k a
     unfolding chosen firstChoice taken
@@ -118,7 +140,7 @@ module _ (B : Book) (preds clauses : ℕ) (rules table : List ℕ) (l : Lent B p
     chosen-reaches : {p a : ℕ} → Reaches B (chosen B) p a → Reaches B (taken held B) p a
     chosen-reaches = reaches-agree B (chosen B) (taken held B) same-query same-clause
 
-    module _ (own words : List ℕ) (o : Owns rules clauses own) (m : ReachedIn rules clauses table words) where
+    module _ (words : List ℕ) (m : ReachedIn rules clauses table words) where
       -- the words mark what the chosen orders reach
       reaches-mark : (p a : ℕ) → markedAt words p a ≡ true → Reaches B (chosen B) p a
       reaches-mark p a e = taken-reaches (m B (l .clauses·) (l .query·) p a .0 e)
@@ -155,7 +177,7 @@ module _ (B : Book) (preds clauses : ℕ) (rules table : List ℕ) (l : Lent B p
       rows-one p a k q e h =
           let c = here k h in
           let w : bitAt (getD own p 0) k ≡ eqb (clause B k .head .pred) p =
-          o p q k ∙ rw (lt-ltb k clauses h) (ap (λ (d : Clause). eqb (d .head .pred) p) (sym c)) in
+          l .owns p q k ∙ rw (lt-ltb k clauses h) (ap (λ (d : Clause). eqb (d .head .pred) p) (sym c)) in
           byBool (eqb (clause B k .head .pred) p)
           (λ t. rw (w, t)
           (row-is k a h
@@ -166,7 +188,7 @@ module _ (B : Book) (preds clauses : ℕ) (rules table : List ℕ) (l : Lent B p
       unfolding clauseRows rowsFor
       rows-cell p a q e =
           joined-cut (λ k. cond (bitAt (getD own p 0) k) (encRow (rowBy rules table k a)) []) clauses maxClauses (l .few)
-          (λ k h. rw (o p q k, le-ltb k clauses h))
+          (λ k h. rw (l .owns p q k, le-ltb k clauses h))
           ∙ joined-cong (λ k. cond (bitAt (getD own p 0) k) (encRow (rowBy rules table k a)) [])
           (λ k. run encRow (cond (eqb (clause B k .head .pred) p) (record { clause· = k; pattern = a; places = chosen B .forClause k a } ∷ []) [])) clauses
           (λ k h. rows-one p a k q e h)
@@ -225,28 +247,19 @@ module _ (B : Book) (preds clauses : ℕ) (rules table : List ℕ) (l : Lent B p
           ∙ sum-cong (λ k. length (cond (bitAt (getD own p 0) k) (encRow (rowBy rules table k a)) [])) (λ k. cond (bitAt (getD own p 0) k) (5 + length (clauseAt rules k .body)) 0) maxClauses
           (λ k h. byBool (bitAt (getD own p 0) k)
           (λ t.
-          let w = sym (o p q k) ∙ t in
+          let w = sym (l .owns p q k) ∙ t in
           let s = eqb-true (clauseAt rules k .head .pred) p (and-right (ltb k clauses) (eqb (clauseAt rules k .head .pred) p) w) in
           let n = ltb-true k clauses (and-left (ltb k clauses) (eqb (clauseAt rules k .head .pred) p) w) in
           rw t (row-long k a n (subst (λ (r : ℕ). Reaches B (chosen B) r a) (sym s) (reaches-mark p a e))))
           (λ t. rw t))
 
-      -- a pattern that is marked is one of six positions
-      marks-low : (p a : ℕ) → allPatterns ≤ a → bitAt (getD words p 0) a ≡ false
-      unfolding chosen
-      marks-low p a h = false-of (λ e. let r = reaches-low B (chosen B) (l .well) (chosen-choice (final B) B) (reaches-mark p a e) .1 in omega arith)
-
-      patterns-count : (p : ℕ) → ones (getD words p 0) ≡ howMany (bitAt (getD words p 0)) allPatterns
-      patterns-count p = ones-below allPatterns (getD words p 0) (marks-low p)
-
-      predicate-long : (p : ℕ) → p < maxPredicates → length (patternRows rules table (getD own p 0) (getD words p 0)) ≡ rowsLength rules (getD own p 0) * ones (getD words p 0)
-      unfolding patternRows
+      predicate-long : (p : ℕ) → p < maxPredicates → length (patternRows rules table (getD own p 0) (getD words p 0)) ≡ rowsLength rules (getD own p 0) * length (members (getD words p 0))
+      unfolding patternRows members
       predicate-long p q =
           length-joined (λ a. cond (bitAt (getD words p 0) a) (clauseRows rules table (getD own p 0) a) []) allPatterns
           ∙ sum-cong (λ a. length (cond (bitAt (getD words p 0) a) (clauseRows rules table (getD own p 0) a) [])) (λ a. cond (bitAt (getD words p 0) a) (rowsLength rules (getD own p 0)) 0) allPatterns
           (λ a h. byBool (bitAt (getD words p 0) a) (λ t. rw t (cell-long p a q t)) (λ t. rw t))
-          ∙ howMany-each (rowsLength rules (getD own p 0)) (bitAt (getD words p 0)) allPatterns
-          ∙ ap (λ (n : ℕ). rowsLength rules (getD own p 0) * n) (sym (patterns-count p))
+          ∙ sum-each (rowsLength rules (getD own p 0)) (bitAt (getD words p 0)) allPatterns
 
       pub plan-long : planLength preds rules own words ≡ length (image B)
       unfolding planLength image chosen
@@ -254,7 +267,7 @@ module _ (B : Book) (preds clauses : ℕ) (rules table : List ℕ) (l : Lent B p
           let q = chosen-choice (final B) B .query· .long in
           let c = ap length (l .query·) in
           let r = length-joined (λ p. patternRows rules table (getD own p 0) (getD words p 0)) preds in
-          let s = sum-cong (λ p. length (patternRows rules table (getD own p 0) (getD words p 0))) (λ p. rowsLength rules (getD own p 0) * ones (getD words p 0)) preds
+          let s = sum-cong (λ p. length (patternRows rules table (getD own p 0) (getD words p 0))) (λ p. rowsLength rules (getD own p 0) * length (members (getD words p 0))) preds
           (λ p h. predicate-long p (let f = few-preds in omega arith)) in
           let t = ap length rows-all in
           let u = length-append (encQuery (chosen B .forQuery)) (run encRow (planRows B)) in
@@ -262,30 +275,23 @@ module _ (B : Book) (preds clauses : ℕ) (rules table : List ℕ) (l : Lent B p
 
 -- ---- what the code gives
 
--- each predicate's clauses can be tried
-pub each-callable : (rules own : List ℕ) (clauses : ℕ) → length own ≤ maxPredicates → Known rules clauses → Owns rules clauses own → EachCallable rules own
-each-callable rules own clauses few known o p k h t =
-    byRange p maxPredicates
-    (λ q. own-callable rules clauses own o p q known k h t)
-    (λ q. clash t (ap (λ (w : ℕ). bitAt w k) (List·getD-eq-default own 0 (omega arith)) ∙ bitAt-zero k))
-
-module _ (B : Book) (preds clauses : ℕ) (rules table : List ℕ) (l : Lent B preds clauses rules table) (q : Order)
+module _ (B : Book) (preds clauses : ℕ) (rules own table : List ℕ) (l : Lent B preds clauses rules own table) (q : Order)
     (e : orderOf q ≡ firstGood (tableIn table maxPredicates) (clauseAt rules maxClauses .body) nothing)
   where
     -- no order was found: 7
     pub given-none : q .found ≡ false → planned B ≡ refused 7 0
-    given-none f = planned-none B (ap isSome (sym (query-order B preds clauses rules table l)) ∙ ap isSome (sym e) ∙ rw f)
+    given-none f = planned-none B (ap isSome (sym (query-order B preds clauses rules own table l)) ∙ ap isSome (sym e) ∙ rw f)
 
     -- one was: a plan
-    module _ (f : q .found ≡ true) (own words : List ℕ) (o : Owns rules clauses own) (m : ReachedIn rules clauses table words) (n : ℕ) (size : n ≡ planLength preds rules own words) where
+    module _ (f : q .found ≡ true) (words : List ℕ) (m : ReachedIn rules clauses table words) (n : ℕ) (size : n ≡ planLength preds rules own words) where
       given-some : isSome (firstGood (final B) (B .query) nothing) ≡ true
-      given-some = ap isSome (sym (query-order B preds clauses rules table l)) ∙ ap isSome (sym e) ∙ rw f
+      given-some = ap isSome (sym (query-order B preds clauses rules own table l)) ∙ ap isSome (sym e) ∙ rw f
 
       given-bytes : planBytes (placesOf q) preds rules table own words ≡ image B
-      given-bytes = plan-bytes B preds clauses rules table l given-some own words o m (placesOf q) (ap orNone e)
+      given-bytes = plan-bytes B preds clauses rules own table l given-some words m (placesOf q) (ap orNone e)
 
       given-size : n ≡ length (image B)
-      given-size = size ∙ plan-long B preds clauses rules table l given-some own words o m
+      given-size = size ∙ plan-long B preds clauses rules own table l given-some words m
 
       -- there is room for it
       pub given-room : (out : List ℕ) → n ≤ length out → Room out 0 (planBytes (placesOf q) preds rules table own words)
@@ -300,13 +306,23 @@ module _ (B : Book) (preds clauses : ℕ) (rules table : List ℕ) (l : Lent B p
             → Wrote out after 0 next (planBytes (placesOf q) preds rules table own words) → Answers (planned B) out r after
         given-done h f w = rw (planned-good B given-some) (answers-done n 0 room g (image B) given-size h f (w .is ∙ ap (sets out 0) given-bytes))
 
--- ---- a book that was read
+-- ---- a book that was read, and settled
 
-pub lent-read : {s : List ℕ} {r : Reading} {arities modes rules : List ℕ} (b : BookRead s r arities modes rules) (table : List ℕ) → r .reply .number ≡ 0
-    → tableIn table (r .preds) ≡ final (bookIn (r .preds) arities modes (r .clauses) rules)
-    → Lent (bookIn (r .preds) arities modes (r .clauses) rules) (r .preds) (r .clauses) rules table
+pub lent-read : {s : List ℕ} {r : Reading} {arities modes rules : List ℕ} (b : BookRead s r arities modes rules) {own masks table : List ℕ} {k : ℕ} → r .reply .number ≡ 0
+    → Settled (bookIn (r .preds) arities modes (r .clauses) rules) (r .clauses) rules own masks table k
+    → Lent (bookIn (r .preds) arities modes (r .clauses) rules) (r .preds) (r .clauses) rules own table
 unfolding bookIn
-lent-read {s} {r} {arities} {modes} {rules} b table z t =
+lent-read {s} {r} {arities} {modes} {rules} b {own} {masks} {table} z t =
     let few = b .few in
     let e : min (r .clauses) maxClauses ≡ r .clauses = omega arith in
-    record { well = read-well b z; preds· = b .listed .each; few = few; clauses· = ap (clausesOf rules) e; query· = refl; table· = t }
+    record {
+      well = read-well b z;
+      preds· = b .listed .each;
+      few = few;
+      clauses· = ap (clausesOf rules) e;
+      query· = refl;
+      owns = t .owns;
+      masks = masks;
+      final· = ap (tableIn masks) (sym (b .listed .each)) ∙ t .final·;
+      admitted = t .admitted;
+    }

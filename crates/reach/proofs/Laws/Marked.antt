@@ -8,11 +8,12 @@ use lib.Dec.{eqb}
 use lib.ListN.{length, getD, set}
 use Rattle.book.specs.Limits.{maxPredicates}
 use Rattle.book.specs.Book.{Call}
-use Rattle.book.specs.Held.{clauseAt}
+use Rattle.book.specs.Held.{callIn, clauseAt}
 use Rattle.book.specs.Table.{tableIn}
 use Rattle.ordering.specs.Adorn.{Bound, headBound}
 use Rattle.ordering.specs.Asks.{Asked, called}
-use Rattle.reach.specs.Marked.{markedAt, Marked, callsBy, clauseBy}
+use Rattle.ordering.specs.declared.Order.{Order}
+use Rattle.reach.specs.Marked.{markedAt, Marked, Found}
 use Rattle.masks.proofs.Laws.Lists.{any-append}
 use Rattle.masks.proofs.Laws.Set.{bitAt-zero, bitAt-or, bitAt-power, eqb-comm}
 use Rattle.book.proofs.Laws.Sets.{stored-more}
@@ -46,8 +47,8 @@ marked-one words p a h = record {
 }
 
 -- the calls of a clause, by its head as it was read and what that binds
-pub marked-clause : (rules table : List ℕ) (k a : ℕ) {before after : List ℕ} {names : ℕ} {h : Call} {b : Bound} → h ≡ clauseAt rules k .head → b ≡ headBound (h .args) a
-    → Marked before after names (callsBy (tableIn table maxPredicates) (clauseAt rules k .body) b) → Marked before after names (clauseBy rules table k a)
-marked-clause rules table k a {before} {after} {names} e f m =
-    subst (λ (c : Bound). Marked before after names (callsBy (tableIn table maxPredicates) (clauseAt rules k .body) c))
-    (f ∙ ap (λ (c : Call). headBound (c .args) a) e) m
+pub found-clause : (rules table : List ℕ) (k a head : ℕ) {b : Bound} {o : Order} → callIn head ≡ clauseAt rules k .head → b ≡ headBound (callIn head .args) a
+    → Found (tableIn table maxPredicates) (clauseAt rules k .body) b o
+    → Found (tableIn table maxPredicates) (clauseAt rules k .body) (headBound (clauseAt rules k .head .args) a) o
+found-clause rules table k a head {o = o} e f =
+    subst (λ (c : Bound). Found (tableIn table maxPredicates) (clauseAt rules k .body) c o) (f ∙ ap (λ (c : Call). headBound (c .args) a) e)

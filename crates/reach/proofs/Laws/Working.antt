@@ -18,7 +18,7 @@ use Rattle.book.specs.Limits.{maxPredicates, maxClauses}
 use Rattle.book.specs.Book.{Call, Clause, noClause, Book}
 use Rattle.book.specs.Held.{clauseAt, clausesOf}
 use Rattle.book.specs.Table.{tableIn}
-use Rattle.book.specs.Sets.{Owns, Known, Callable}
+use Rattle.book.specs.Sets.{Cleared, Owns, Known, Callable}
 use Rattle.ordering.specs.Adorn.{nothing, headBound}
 use Rattle.ordering.specs.Asks.{Asked, called}
 use Rattle.choices.specs.Choice.{clause, queryCalls, clauseCalls, Reaches, by-query, by-clause}
@@ -28,9 +28,9 @@ use Rattle.masks.proofs.Laws.Lists.{any-joined, joined-any}
 use Rattle.masks.proofs.Laws.Set.{bitAt-zero, bitAt-or}
 use Rattle.masks.proofs.Laws.Members.{lowest, others, others-less}
 use Rattle.masks.proofs.Laws.Patterns.{member-below}
+use Rattle.book.proofs.Laws.Sets.{cleared-zeros}
 use Rattle.ordering.proofs.Laws.Asks.{called-pred}
 use Rattle.masks.proofs.Laws.Words.{Within, no-members, in-new, new-in, new-none, new-some}
-use Rattle.book.proofs.Laws.Sets.{bitAt-none}
 use Rattle.needs.proofs.Laws.Settling.{clauses-count, clause-is}
 use Rattle.choices.proofs.Laws.Reached.{closed-reaches}
 use Rattle.reach.proofs.Laws.Space.{space, space-less}
@@ -117,12 +117,13 @@ module _ (rules : List ℕ) (n : ℕ) (own : List ℕ) (o : Owns rules n own) (p
 -- ---- the loop
 
 -- nothing is marked
-markedAt-none : (q b : ℕ) → markedAt (replicate maxPredicates 0) q b ≡ false
-markedAt-none q b =
-    byRange q maxPredicates (bitAt-none q b)
-    (λ h.
-    let e = length-replicate {A = ℕ} maxPredicates 0 in
-    ap (λ (w : ℕ). bitAt w b) (List·getD-eq-default {A = ℕ} (replicate maxPredicates 0) 0 {n = q} (omega arith)) ∙ bitAt-zero b)
+module _ (words : List ℕ) (e : length words ≡ maxPredicates) (c : Cleared words) where
+  marked-none : (q b : ℕ) → markedAt words q b ≡ false
+  marked-none q b =
+      ap (λ (w : ℕ). bitAt w b) (byRange q maxPredicates (c q) (λ h. List·getD-eq-default words 0 {n = q} (omega arith))) ∙ bitAt-zero b
+
+gone-none : (q b : ℕ) → markedAt (replicate maxPredicates 0) q b ≡ false
+gone-none = marked-none (replicate maxPredicates 0) (length-replicate {A = ℕ} maxPredicates 0) cleared-zeros
 
 pub record Working (rules table : List ℕ) (n : ℕ) (reached gone : List ℕ) (work : ℕ) : Type 0 where
   pub small : work < 2 ^ maxPredicates
@@ -136,20 +137,21 @@ pub record Working (rules table : List ℕ) (n : ℕ) (reached gone : List ℕ) 
   pub left : (p a : ℕ) → markedAt reached p a ≡ true → markedAt gone p a ≡ false → bitAt work p ≡ true
 
 -- the query's calls are marked, and nothing is gone over
-pub working-start : {rules table : List ℕ} {n : ℕ} {reached : List ℕ} {names : ℕ} → names < 2 ^ maxPredicates
-    → Marked (replicate maxPredicates 0) reached names (queryBy rules table) → Working rules table n reached (replicate maxPredicates 0) names
-working-start {rules} {table} {n} {reached} {names} s m = record {
+pub working-start : {rules table : List ℕ} {n : ℕ} {before reached : List ℕ} {names : ℕ} → names < 2 ^ maxPredicates
+    → length before ≡ maxPredicates → Cleared before → Marked before reached names (queryBy rules table)
+    → Working rules table n reached (replicate maxPredicates 0) names
+working-start {rules} {table} {n} {before} {reached} {names} s z c m = record {
   small = s;
   size = length-replicate {A = ℕ} maxPredicates 0;
   reaches = λ B e f q b t. by-query (ap (called q b) (book-query rules table n B e f) ∙ sym (is q b) ∙ t);
   query· = λ q b t. is q b ∙ t;
-  clauses· = λ k a q b h t u. clash t (markedAt-none (clauseAt rules k .head .pred) a);
-  within = λ p a t. clash t (markedAt-none p a);
+  clauses· = λ k a q b h t u. clash t (gone-none (clauseAt rules k .head .pred) a);
+  within = λ p a t. clash t (gone-none p a);
   left = λ p a t u. m .names· p ∙ called-pred p a (queryBy rules table) (sym (is p a) ∙ t);
 }
   where
     is : (q b : ℕ) → markedAt reached q b ≡ called q b (queryBy rules table)
-    is q b = m .marks q b ∙ ap (λ (x : Bool). x || called q b (queryBy rules table)) (markedAt-none q b)
+    is q b = m .marks q b ∙ ap (λ (x : Bool). x || called q b (queryBy rules table)) (marked-none before z c q b)
 
 -- a turn for predicate p: `all` are its marks, and the calls under those that are new are marked
 pub record Step (rules table : List ℕ) (n : ℕ) (own reached gone : List ℕ) (p all : ℕ) (after : List ℕ) (names : ℕ) : Type 0 where

@@ -5,7 +5,6 @@ use Prim.Native.Nat.{_+_, _*_, _^_, _<_}
 use native.Mathlib.Omega.{arith}
 use lib.Count.{trailingZeros}
 use borrow.Author.Needs.{needs}
-use Rattle.ordering.specs.Adorn.{nothing}
 use Rattle.reach.proofs.Laws.Space.{space}
 use Rattle.reach.proofs.Laws.Working.{own-callable, Working, working-start, Step, working-low, working-next, working-less, working-end}
 use Rattle.reach.proofs.reach.Statement.{statement}
@@ -18,11 +17,12 @@ abbrev μ-loop : tie.MeasureT-loop
 μ-loop rules table own clauses reached₀ gone₀ work₀ reached gone work = space gone * 2 ^ 64 + work
 
 mark-calls-requires : tie.Need-mark-calls-requires Inv-loop μ-loop
-mark-calls-requires c κs = (omega arith, c .before .pre .2)
+mark-calls-requires c κs = (omega arith, c .before .pre .0 .2, (_, _, c .before .pre .1 .1))
 
 loop-holds : tie.Need-loop-holds Inv-loop μ-loop
-unfolding nothing
-loop-holds c = working-start (search needs) (c .mark-calls .ensures)
+loop-holds c =
+    let s = c .before .before in
+    working-start (search needs) (c .mark-calls .ensures .1) (s .pre .1 .2) (c .mark-calls .ensures .0 _ _ (s .pre .1 .1))
 
 -- in a turn: p is the lowest predicate that has work
 low : (c : tie.In-loop Inv-loop μ-loop) → trailingZeros 64 (c .before .loop .work) < 64
@@ -57,7 +57,7 @@ mark-patterns-requires c κs =
     let d = c .before .before .before .before in
     let s = d .before .before .before .before in
     let l = low d in
-    own-callable (s .args .rules .now) (s .args .clauses) (s .args .own .now) (s .pre .3) _ (omega arith) (s .pre .1)
+    (own-callable (s .args .rules .now) (s .args .clauses) (s .args .own .now) (s .pre .0 .3) _ (omega arith) (s .pre .0 .1), s .pre .1 .0)
 
 -- what the turn makes of the marks
 turn : (c : tie.After-mark-patterns Inv-loop μ-loop)
@@ -68,8 +68,8 @@ turn : (c : tie.After-mark-patterns Inv-loop μ-loop)
 turn c =
     let s = c .before .before .before .before .before .before .before .before .before in
     record {
-      owns = s .pre .3;
-      few = s .pre .0;
+      owns = s .pre .0 .3;
+      few = s .pre .0 .0;
       is = c .before .before .before .word-at .ensures;
       small = search needs;
       called· = search needs;

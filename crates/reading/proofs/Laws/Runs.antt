@@ -1,7 +1,7 @@
 -- A loop over the records of a run: what is still to be read, after the records acc, comes to what the whole run comes to. Assumes nothing.
 use mathlib.Core.Path.{_≡_, refl, sym, ap, _∙_, subst}
 use mathlib.Core.Bool.{true, false}
-use mathlib.Core.List.{List, [], _∷_, _++_, map, map-append}
+use mathlib.Core.List.{List, [], _∷_, _++_}
 use Prim.Native.Nat.{ℕ, zero, suc, _+_, _-_, _≤_, _<_}
 use native.Mathlib.Omega.{arith}
 use native.Mathlib.Numerals.{add-one}
@@ -15,11 +15,12 @@ use Rattle.book.specs.declared.mark.Mark.{Mark}
 use Rattle.book.specs.declared.mark.Phase.{Phase}
 use Rattle.book.specs.declared.mark.Turn.{Turn}
 use Rattle.book.specs.declared.mark.Turn.the-variants.{Mine, Over, No}
-use Rattle.book.proofs.Laws.Marks.{Sole, leads-own, unled, own-two}
+use Rattle.book.proofs.Laws.Marks.{Sole, leads-two, leads-own, unled, own-two}
 use Rattle.records.specs.declared.field.Found.{Found}
 use Rattle.records.specs.declared.field.Found.the-variants.{Next, Bad}
 use Rattle.records.specs.Found.{Reads, stops}
 use Rattle.reading.specs.Judged.{Listed}
+use Rattle.reading.specs.Stored.{Ends}
 use Rattle.records.proofs.Laws.Reads.{then-bad, reads-map}
 
 -- so far the n records acc were read, up to a place
@@ -43,6 +44,19 @@ mark-there p s at t =
     let e = own-two p (drop at s) t in
     let l : length (drop at s) ≡ length s - at = length-drop at s in
     omega arith
+
+-- the end of a run, with whatever value it has
+pub stops-reads : {A : Type 0} (p : Phase) (s : List ℕ) (at : ℕ) (a : A) {r : Found} → Reads s r (λ k. k) (stops p 0 (drop at s)) → Reads s r (λ k. a) (stops p a (drop at s))
+stops-reads {A} p s at a {r} w = let u = reads-map (λ (k : ℕ). a) w in record { inside = u .inside; is = u .is ∙ go (turn p (markAt (drop at s))) }
+  where
+    go : (t : Turn) → andThen (onTurn {A = ℕ} t (got 0 (drop at s)) 0 (drop at s)) (λ k u. got a u) ≡ onTurn t (got a (drop at s)) a (drop at s)
+    go Mine = refl
+    go Over = refl
+    go (No v) = refl
+
+-- a mark that ends a run, by its two bytes
+pub ends-at : (p : Phase) (a b : ℕ) (m : Mark) → ((t : List ℕ) → markAt (a ∷ b ∷ t) ≡ m) → turn p m ≡ Over → Ends p (a ∷ b ∷ [])
+ends-at p a b m is over t l = ap (λ (u : List ℕ). turn p (markAt u)) (leads-two a b t l) ∙ ap (turn p) (is (drop 2 t)) ∙ over
 
 module _ {A : Type 0} (p : Phase) (item : List A → List ℕ → Got A) (s : List ℕ) (room from : ℕ) where
   pub going-start : from ≤ length s → Going p item s room from from 0 []
@@ -80,31 +94,23 @@ module _ {A : Type 0} (p : Phase) (item : List A → List ℕ → Got A) (s : Li
             kept = ap (λ (k : List A). many p item (room - (n + 1)) k (drop next s)) d ∙ (step ∙ l .kept);
           }
 
-    -- the end of the run, or a fault
-    pub going-end : (turn p (markAt (drop at s)) ≡ Mine → ⊥) → {xs : List A} → xs ≡ acc → {r : Found} → Reads s r (λ k. k) (stops p 0 (drop at s))
-        → Reads s r (λ k. xs) (many p item room [] (drop from s))
-    unfolding many
-    going-end other {xs} e {r} w =
-        let u : Reads s r (λ k. xs) (andThen {A = ℕ} (stops p 0 (drop at s)) (λ a t. got xs t)) = reads-map (λ (k : ℕ). xs) w in
-        record { inside = u .inside; is = u .is ∙ (go (turn p (markAt (drop at s))) other ∙ (all (room - n) ∙ l .kept)) }
-      where
-        go : (t : Turn) → (t ≡ Mine → ⊥) → andThen (onTurn {A = ℕ} t (got 0 (drop at s)) 0 (drop at s)) (λ a t. got xs t) ≡ onTurn t (got acc (drop at s)) acc (drop at s)
-        go Mine q = absurd (q refl)
-        go Over q = ap (λ (x : List A). got x (drop at s)) e
-        go (No v) q = refl
+    -- none of its records follows: the end of the run, or a fault
+    module _ (other : turn p (markAt (drop at s)) ≡ Mine → ⊥) where
+      pub going-stops : stops p acc (drop at s) ≡ many p item room [] (drop from s)
+      unfolding many
+      going-stops = all (room - n) ∙ l .kept
+        where
+          same : (t : Turn) → (t ≡ Mine → ⊥) → (x y : Got (List A)) → onTurn t x acc (drop at s) ≡ onTurn t y acc (drop at s)
+          same Mine q x y = absurd (q refl)
+          same Over q x y = refl
+          same (No v) q x y = refl
 
-        same : (t : Turn) → (t ≡ Mine → ⊥) → (x y : Got (List A)) → onTurn t x acc (drop at s) ≡ onTurn t y acc (drop at s)
-        same Mine q x y = absurd (q refl)
-        same Over q x y = refl
-        same (No v) q x y = refl
+          all : (k : ℕ) → stops p acc (drop at s) ≡ many p item k acc (drop at s)
+          all zero = same (turn p (markAt (drop at s))) other _ _
+          all (suc k) = same (turn p (markAt (drop at s))) other _ _
 
-        all : (k : ℕ) → onTurn (turn p (markAt (drop at s))) (got acc (drop at s)) acc (drop at s) ≡ many p item k acc (drop at s)
-        all zero = same (turn p (markAt (drop at s))) other _ _
-        all (suc k) = same (turn p (markAt (drop at s))) other _ _
-
--- one more of the first n of an array
-pub front-more : {X Y : Type 0} (f : X → Y) (l : List X) (n : ℕ) (x : X) → n < length l → map f (take (n + 1) (set l n x)) ≡ map f (take n l) ++ (f x ∷ [])
-front-more f l n x h = rw (add-one, take-suc-set l n x h) (map-append f (take n l) (x ∷ []))
+      pub going-end : {r : Found} → Reads s r (λ k. k) (stops p 0 (drop at s)) → Reads s r (λ k. acc) (many p item room [] (drop from s))
+      going-end w = let u = stops-reads p s at acc w in record { inside = u .inside; is = u .is ∙ going-stops }
 
 pub take-more : (l : List ℕ) (n x : ℕ) → n < length l → take (n + 1) (set l n x) ≡ take n l ++ (x ∷ [])
 take-more l n x h = rw (add-one, take-suc-set l n x h)

@@ -1,15 +1,13 @@
--- `reading::check` meets its contract: what reading a book answers is what the check does. Assumes nothing.
+-- `reading::check` meets its contract: the reply of reading a book is the check's. Assumes nothing.
 use borrow.Author.Needs.{needs}
-use Rattle.book.specs.Held.{modesSize}
-use Rattle.book.proofs.Laws.Held.{modeAt-zeros}
 use Rattle.reading.proofs.check.Statement.{statement}
 use Rattle.reading.proofs.check.Tie as tie
 
-read-book-requires : tie.Need-read-book-requires
-read-book-requires c κs = modeAt-zeros modesSize
+read-only-requires : tie.Need-read-only-requires
+read-only-requires c κs = search needs
 
 returns : tie.Need-returns
-returns c = search needs
+returns c = c .before .read-only .ensures .replies
 
 pub check-spec : {M : Type 1} → statement M
-check-spec = tie.close (tie.spec read-book-requires returns)
+check-spec = tie.close (tie.spec read-only-requires returns)

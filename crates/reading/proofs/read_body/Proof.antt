@@ -1,43 +1,38 @@
 -- `reading::read_body` meets its contract. Each turn adds a subgoal to those read; the room left falls. Assumes nothing.
-use mathlib.Core.List.{map}
-use mathlib.Core.Path.{_≡_, refl, sym, _∙_}
-use Prim.Native.Nat.{_-_}
+use mathlib.Core.Path.{sym, ap, _∙_}
+use Prim.Native.Nat.{_-_, _*_}
 use native.Mathlib.Omega.{arith}
-use lib.ListN.{length-set, length, take}
+use lib.ListN.{length-set}
+use lib.ListN.{length}
 use borrow.Author.Needs.{needs}
-use Rattle.book.specs.declared.mark.Mark.the-variants.{Sg}
-use Rattle.book.specs.Held.{callOf}
-use Rattle.book.specs.Format.{subgoal}
-use Rattle.reading.proofs.Laws.Runs.{Going, mine-at, not-mine-at, mark-there, going-start, going-full, going-bad, going-next, going-end, front-more}
+use Rattle.book.specs.Held.{clauseSize}
+use Rattle.reading.proofs.Laws.Bodies.{Bodying, bodying-start, bodying-inside, bodying-size, bodying-there, bodying-full, bodying-bad, bodying-next, bodying-end}
 use Rattle.reading.proofs.read_body.Statement.{statement}
 use Rattle.reading.proofs.read_body.Tie as tie
 
 abbrev Inv-loop : tie.InvT-loop
-Inv-loop s ar from phase head body₀ at₀ n₀ t15 body at n = (length body ≡ 8) × Going phase (subgoal ar) s 8 from at n (map callOf (take n body))
+Inv-loop s ar from rules₀ k base at₀ n₀ t12 rules at n = Bodying ar s from at n (k * clauseSize) rules₀ rules
 
 abbrev μ-loop : tie.MeasureT-loop
-μ-loop s ar from phase head body₀ at₀ n₀ t15 body at n = 8 - n
+μ-loop s ar from rules₀ k base at₀ n₀ t12 rules at n = 8 - n
 
-no-call-requires : tie.Need-no-call-requires Inv-loop μ-loop
-no-call-requires c κs = search needs
+mul-base : tie.Need-mul-base Inv-loop μ-loop
+mul-base c = search needs
 
 loop-holds : tie.Need-loop-holds Inv-loop μ-loop
-loop-holds c = (refl, going-start _ _ _ _ _ (c .before .before .before .pre .0))
+loop-holds c = bodying-start _ _ _ _ _ (c .before .before .before .pre .0)
 
 is-mark-requires : tie.Need-is-mark-requires Inv-loop μ-loop
-is-mark-requires c κs = c .before .loop .inv .1 .inside
+is-mark-requires c κs = bodying-inside _ _ _ _ _ (c .before .loop .inv)
 
-no-clause-requires : tie.Need-no-clause-requires Inv-loop μ-loop
-no-clause-requires c κs = search needs
+same-length : tie.Need-same-length Inv-loop μ-loop
+same-length c = bodying-size _ _ _ _ _ (c .before .before .before .before .loop .inv)
 
 returns : tie.Need-returns Inv-loop μ-loop
 returns c =
-    let args = c .before .before .before .before .before .before .before .before .before .args in
-    let pre = c .before .before .before .before .before .before .before .before .before .pre in
-    let loop = c .before .before .before .before .before .loop in
-    let is-mark = c .before .before .before .is-mark in
-    let if1 = c .before .before .if1 in
-    (rw (c .no-clause .ensures .0) (going-full _ _ _ _ _ (loop .inv .1) (mine-at (args .phase) Sg (args .s .now) (loop .at) (pre .2 .own) (sym (is-mark .ensures) ∙ if1 .taken)) (omega arith)), c .no-clause .ensures .1)
+    let loop = c .before .before .before .before .loop in
+    let is-mark = c .before .before .is-mark in
+    bodying-full _ _ _ _ _ (loop .inv) (sym (is-mark .ensures) ∙ c .before .if1 .taken) (omega arith)
 
 read-subgoal-requires : tie.Need-read-subgoal-requires Inv-loop μ-loop
 read-subgoal-requires c κs =
@@ -45,64 +40,68 @@ read-subgoal-requires c κs =
     let pre = c .before .before .before .before .before .before .before .before .pre in
     let loop = c .before .before .before .before .loop in
     let is-mark = c .before .before .is-mark in
-    (mark-there (args .phase) (args .s .now) _ (mine-at (args .phase) Sg (args .s .now) (loop .at) (pre .2 .own) (sym (is-mark .ensures) ∙ c .before .if1 .taken)), pre .1)
+    (bodying-there _ (args .s .now) _ _ _ (loop .inv) (sym (is-mark .ensures) ∙ c .before .if1 .taken), pre .1)
 
 enum-told : tie.Need-enum-told Inv-loop μ-loop
 enum-told c = search needs
 
-no-clause-requires-2 : tie.Need-no-clause-requires-2 Inv-loop μ-loop
-no-clause-requires-2 c κs = search needs
+same-length-2 : tie.Need-same-length-2 Inv-loop μ-loop
+same-length-2 c =
+    let loop = c .before .before .before .before .before .before .before .loop in
+    bodying-size _ _ _ _ _ (loop .inv)
 
 returns-2 : tie.Need-returns-2 Inv-loop μ-loop
-unfolding subgoal
 returns-2 c =
-    let args = c .before .before .before .before .before .before .before .before .before .before .before .before .before .args in
-    let pre = c .before .before .before .before .before .before .before .before .before .before .before .before .before .pre in
-    let loop = c .before .before .before .before .before .before .before .before .before .loop in
-    let is-mark = c .before .before .before .before .before .before .before .is-mark in
-    let if1 = c .before .before .before .before .before .before .if1 in
-    let read-subgoal = c .before .before .before .before .read-subgoal in
-    (rw (c .no-clause2 .ensures .0) (going-bad _ _ _ _ _ (loop .inv .1) (mine-at (args .phase) Sg (args .s .now) (loop .at) (pre .2 .own) (sym (is-mark .ensures) ∙ if1 .taken)) (omega arith) (read-subgoal .ensures) (c .before .enum-told .given .1)), c .no-clause2 .ensures .1)
+    let loop = c .before .before .before .before .before .before .before .loop in
+    let is-mark = c .before .before .before .before .before .is-mark in
+    let if1 = c .before .before .before .before .if1 in
+    let read-subgoal = c .before .before .read-subgoal in
+    bodying-bad _ _ _ _ _ (loop .inv) (sym (is-mark .ensures) ∙ if1 .taken) (omega arith) _ (read-subgoal .ensures) (c .enum-told .given .1)
 
 enum-known-g : tie.Need-enum-known-g Inv-loop μ-loop
 enum-known-g c = search needs
 
-mul-body : tie.Need-mul-body Inv-loop μ-loop
-mul-body c = omega arith
+add-put-word : tie.Need-add-put-word Inv-loop μ-loop
+add-put-word c = search needs
 
-array-set-from-body : tie.Need-array-set-from-body Inv-loop μ-loop
-array-set-from-body c = omega arith
+add-put-word-2 : tie.Need-add-put-word-2 Inv-loop μ-loop
+add-put-word-2 c = search needs
+
+put-word-requires : tie.Need-put-word-requires Inv-loop μ-loop
+put-word-requires c κs = search needs
 
 add-n : tie.Need-add-n Inv-loop μ-loop
-add-n c = omega arith
+add-n c = search needs
 
 loop-less : tie.Need-loop-less Inv-loop μ-loop
 loop-less c = omega arith
 
 loop-again : tie.Need-loop-again Inv-loop μ-loop
-unfolding subgoal
 loop-again c =
-    let args = c .before .before .before .before .before .before .before .before .before .before .before .before .before .args in
-    let pre = c .before .before .before .before .before .before .before .before .before .before .before .before .before .pre in
-    let loop = c .before .before .before .before .before .before .before .before .before .loop in
-    let is-mark = c .before .before .before .before .before .before .before .is-mark in
-    let if1 = c .before .before .before .before .before .before .if1 in
-    let read-subgoal = c .before .before .before .before .read-subgoal in
-    (simp length-set (loop .inv .0), going-next _ _ _ _ _ (loop .inv .1) (mine-at (args .phase) Sg (args .s .now) (loop .at) (pre .2 .own) (sym (is-mark .ensures) ∙ if1 .taken)) (omega arith) (read-subgoal .ensures) (c .before .g .given .1) (front-more callOf (loop .body) (loop .n) (read-subgoal .result .call) (let e = loop .inv .0 in omega arith)))
+    let loop = c .before .before .before .before .before .before .before .before .before .before .before .before .loop in
+    let is-mark = c .before .before .before .before .before .before .before .before .before .before .is-mark in
+    let if1 = c .before .before .before .before .before .before .before .before .before .if1 in
+    let read-subgoal = c .before .before .before .before .before .before .before .read-subgoal in
+    let g = c .before .before .before .before .before .g in
+    let put-word = c .before .before .put-word in
+    bodying-next _ _ _ _ _ (loop .inv) (sym (is-mark .ensures) ∙ if1 .taken) (omega arith) (read-subgoal .result .call) (read-subgoal .ensures) (g .given .1) (put-word .ensures)
 
-cast-count : tie.Need-cast-count Inv-loop μ-loop
-cast-count c = let t = c .before .before .before .loop .inv .1 .turns in omega arith
+put-word-requires-2 : tie.Need-put-word-requires-2 Inv-loop μ-loop
+put-word-requires-2 c κs = search needs
 
-run-end-requires : tie.Need-run-end-requires Inv-loop μ-loop
-run-end-requires c κs = c .before .before .before .loop .inv .1 .inside
+same-length-3 : tie.Need-same-length-3 Inv-loop μ-loop
+same-length-3 c =
+    let loop = c .before .before .before .before .before .before .before .loop in
+    let put-word2 = c .before .before .put-word2 in
+    ap length (put-word2 .ensures) ∙ simp length-set (bodying-size _ _ _ _ _ (loop .inv))
 
 returns-3 : tie.Need-returns-3 Inv-loop μ-loop
 returns-3 c =
-    let args = c .before .before .before .before .before .before .before .before .args in
-    let pre = c .before .before .before .before .before .before .before .before .pre in
-    let loop = c .before .before .before .before .loop in
-    let is-mark = c .before .before .is-mark in
-    (going-end _ _ _ _ _ (loop .inv .1) (not-mine-at (args .phase) Sg (args .s .now) (loop .at) (pre .2 .sole) (sym (is-mark .ensures) ∙ c .before .if1 .left)) refl (c .run-end .ensures), refl)
+    let loop = c .before .before .before .before .before .before .before .loop in
+    let is-mark = c .before .before .before .before .before .is-mark in
+    let if1 = c .before .before .before .before .if1 in
+    let put-word2 = c .before .before .put-word2 in
+    bodying-end _ _ _ _ _ (loop .inv) (sym (is-mark .ensures) ∙ if1 .left) 0 (put-word2 .ensures)
 
 pub read-body-spec : {M : Type 1} → statement M
 read-body-spec =
@@ -110,21 +109,22 @@ read-body-spec =
     (tie.spec
     Inv-loop
     μ-loop
-    no-call-requires
+    mul-base
     loop-holds
     is-mark-requires
-    no-clause-requires
+    same-length
     returns
     read-subgoal-requires
     enum-told
-    no-clause-requires-2
+    same-length-2
     returns-2
     enum-known-g
-    mul-body
-    array-set-from-body
+    add-put-word
+    add-put-word-2
+    put-word-requires
     add-n
     loop-less
     loop-again
-    cast-count
-    run-end-requires
+    put-word-requires-2
+    same-length-3
     returns-3)

@@ -2,21 +2,22 @@
 use mathlib.Core.Path.{_≡_, refl, sym, _∙_}
 use Prim.Native.Nat.{_-_}
 use native.Mathlib.Omega.{arith}
-use lib.ListN.{length-set, length, take}
+use lib.ListN.{length-set}
+use lib.ListN.{length, take}
 use borrow.Author.Needs.{needs}
+use Rattle.book.specs.Format.{markAt, predicate}
+use Rattle.book.specs.declared.mark.Mark.the-variants.{Pr, Mo}
 use Rattle.book.specs.declared.mark.Phase.the-variants.{Predicates}
-use Rattle.book.specs.declared.mark.Mark.the-variants.{Pr}
-use Rattle.book.specs.Format.{predicate}
-use Rattle.reading.proofs.Laws.Runs.{Going, mine-at, not-mine-at, mark-there, going-start, going-full, going-bad, going-next, going-end, take-more, listed}
 use Rattle.book.proofs.Laws.Marks.{sole-predicates}
+use Rattle.reading.proofs.Laws.Runs.{Going, mine-at, not-mine-at, mark-there, ends-at, going-start, going-full, going-bad, going-next, going-end, take-more, listed}
 use Rattle.reading.proofs.read_predicates.Statement.{statement}
 use Rattle.reading.proofs.read_predicates.Tie as tie
 
 abbrev Inv-loop : tie.InvT-loop
-Inv-loop s bytes₀ at₀ n₀ t9 bytes at n = (length bytes ≡ 64) × Going Predicates predicate s 64 0 at n (take n bytes)
+Inv-loop s bytes₀ at₀ n₀ t9 t10 bytes at n = (length bytes ≡ 64) × Going Predicates predicate s 64 0 at n (take n bytes)
 
 abbrev μ-loop : tie.MeasureT-loop
-μ-loop s bytes₀ at₀ n₀ t9 bytes at n = 64 - n
+μ-loop s bytes₀ at₀ n₀ t9 t10 bytes at n = 64 - n
 
 loop-holds : tie.Need-loop-holds Inv-loop μ-loop
 loop-holds c = (c .bytes .given .0 .1, going-start _ _ _ _ _ (omega arith))
@@ -60,7 +61,7 @@ slice-write-bytes c =
     let e = loop .inv .0 in omega arith
 
 add-n : tie.Need-add-n Inv-loop μ-loop
-add-n c = omega arith
+add-n c = search needs
 
 loop-less : tie.Need-loop-less Inv-loop μ-loop
 loop-less c = omega arith
@@ -75,15 +76,19 @@ loop-again c =
     let read-predicate = c .before .before .before .read-predicate in
     (simp length-set (loop .inv .0), going-next _ _ _ _ _ (loop .inv .1) (mine-at Predicates Pr (args .s .now) (loop .at) refl (sym (is-mark .ensures) ∙ if1 .taken)) (omega arith) (read-predicate .ensures) (c .before .g .given .1) (take-more (loop .bytes) (loop .n) _ (let e = loop .inv .0 in omega arith)))
 
-run-end-requires : tie.Need-run-end-requires Inv-loop μ-loop
-run-end-requires c κs = c .before .before .before .loop .inv .1 .inside
+ended-requires : tie.Need-ended-requires Inv-loop μ-loop
+unfolding markAt
+ended-requires c κs =
+    let loop = c .before .before .before .before .loop in
+    (loop .inv .1 .inside, ends-at Predicates _ _ Mo (λ t. refl) refl)
 
 returns-3 : tie.Need-returns-3 Inv-loop μ-loop
 returns-3 c =
-    let args = c .before .before .before .before .before .before .before .args in
-    let loop = c .before .before .before .before .loop in
-    let is-mark = c .before .before .is-mark in
-    (going-end _ _ _ _ _ (loop .inv .1) (not-mine-at Predicates Pr (args .s .now) (loop .at) sole-predicates (sym (is-mark .ensures) ∙ c .before .if1 .left)) refl (c .run-end .ensures), listed _ (loop .inv .0) (loop .inv .1 .turns))
+    let args = c .before .before .before .before .before .before .before .before .args in
+    let loop = c .before .before .before .before .before .loop in
+    let is-mark = c .before .before .before .is-mark in
+    let if1 = c .before .before .if1 in
+    (going-end _ _ _ _ _ (loop .inv .1) (not-mine-at Predicates Pr (args .s .now) (loop .at) sole-predicates (sym (is-mark .ensures) ∙ if1 .left)) (c .ended .ensures), listed _ (loop .inv .0) (loop .inv .1 .turns))
 
 pub read-predicates-spec : {M : Type 1} → statement M
 read-predicates-spec =
@@ -102,5 +107,5 @@ read-predicates-spec =
     add-n
     loop-less
     loop-again
-    run-end-requires
+    ended-requires
     returns-3)

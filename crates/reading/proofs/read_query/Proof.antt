@@ -1,27 +1,56 @@
--- `reading::read_query` meets its contract: the subgoals behind the two bytes of the mark are read and stored. Assumes nothing.
-use mathlib.Core.Path.{refl, sym, ap}
+-- `reading::read_query` meets its contract: the subgoals behind the two bytes of the mark, and then what ends them. Assumes nothing.
+use native.Mathlib.Omega.{arith}
 use borrow.Author.Needs.{needs}
-use Rattle.book.specs.Book.{Clause}
-use Rattle.book.specs.Format.{query}
-use Rattle.book.proofs.Laws.Marks.{sole-query}
-use Rattle.records.proofs.Laws.Reads.{reads-as, after-mark}
+use Rattle.reading.proofs.Laws.Clauses.{query-bad, query-ended}
 use Rattle.reading.proofs.read_query.Statement.{statement}
 use Rattle.reading.proofs.read_query.Tie as tie
 
-no-call-requires : tie.Need-no-call-requires
-no-call-requires c κs = search needs
+add-read-body : tie.Need-add-read-body
+add-read-body c = search needs
 
 read-body-requires : tie.Need-read-body-requires
-read-body-requires c κs = let pre = c .before .before .before .pre in (pre .0, pre .1, record { own = refl; sole = sole-query })
+read-body-requires c κs =
+    let pre = c .before .before .before .before .pre in
+    (pre .0, pre .1, omega arith)
 
-put-clause-requires : tie.Need-put-clause-requires
-put-clause-requires c κs = search needs
+enum-told : tie.Need-enum-told
+enum-told c = search needs
+
+enum-known-b : tie.Need-enum-known-b
+enum-known-b c = search needs
+
+run-end-requires : tie.Need-run-end-requires
+run-end-requires c κs =
+    let read-body = c .before .before .before .before .before .read-body in
+    rw (c .before .b .given .1) at (read-body .ensures .inside)
+
+same-length : tie.Need-same-length
+same-length c = search needs
 
 returns : tie.Need-returns
-unfolding query
 returns c =
-    let stored = c .put-clause .ensures in
-    (reads-as (λ n. ap (λ (q : Clause). q .body) (sym (stored .is))) (rw after-mark (c .before .before .before .read-body .ensures .0)), record { is = refl; others = stored .others })
+    let read-body = c .before .before .before .before .read-body in
+    query-bad _ _ _ (read-body .ensures) (c .enum-told .given .1)
+
+same-length-2 : tie.Need-same-length-2
+same-length-2 c = search needs
+
+returns-2 : tie.Need-returns-2
+returns-2 c =
+    let read-body = c .before .before .before .before .before .before .read-body in
+    let b = c .before .before .b in
+    query-ended _ _ _ (read-body .ensures) (b .given .1) (c .run-end .ensures)
 
 pub read-query-spec : {M : Type 1} → statement M
-read-query-spec = tie.close (tie.spec (λ c. search needs) no-call-requires read-body-requires put-clause-requires returns)
+read-query-spec =
+    tie.close
+    (tie.spec
+    add-read-body
+    read-body-requires
+    enum-told
+    enum-known-b
+    run-end-requires
+    same-length
+    returns
+    same-length-2
+    returns-2)

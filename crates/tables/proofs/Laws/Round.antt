@@ -15,7 +15,7 @@ use Rattle.masks.proofs.Laws.Mask.{within-refl}
 use Rattle.masks.proofs.Laws.Constraint.{Up, admits-written-up, written-cong}
 use Rattle.book.specs.Book.{Clause, Book}
 use Rattle.book.specs.Table.{Table, entry, tableIn}
-use Rattle.book.specs.Sets.{callsBelow}
+use Rattle.book.proofs.Laws.Sets.{callsBelow}
 use Rattle.ordering.specs.Good.{goodClause}
 use Rattle.ordering.proofs.Laws.Held.{outside, callsBelow-outside, tableIn-cut}
 use Rattle.ordering.proofs.Laws.Adorn.{More, more-refl}

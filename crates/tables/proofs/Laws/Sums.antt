@@ -2,19 +2,17 @@
 -- a test is such a sum. Assumes nothing.
 use mathlib.Core.Path.{_≡_, refl, sym, ap, ap₂, _∙_}
 use mathlib.Core.Bool.{Bool, true, false, cond}
-use mathlib.Core.List.{List}
-use Prim.Native.Nat.{ℕ, zero, suc, _+_, _*_, _/_, _%_, _^_, _≤_, _<_}
-use native.Mathlib.Nat.{suc-mul, mul-zero, mul-add, pow-suc, pow-le-pow-right}
+use mathlib.Core.List.{List, [], _∷_}
+use Prim.Native.Nat.{ℕ, zero, suc, _+_, _*_, _≤_, _<_}
+use native.Mathlib.Nat.{suc-mul, mul-zero, mul-add}
 use native.Mathlib.Omega.{arith}
-use lib.Count.{ones, ones-step}
 use lib.Dec.{eqb}
 use lib.ListN.{length, length-append}
 use borrow.Author.Tests.{eqb-true, eqb-false, ne-eqb}
-use Rattle.masks.specs.Lists.{joined}
-use Rattle.masks.specs.Set.{bitAt}
+use Rattle.masks.specs.Lists.{below, joined}
 use Rattle.ordering.specs.Adorn.{bit}
 use Rattle.tables.specs.Table.{sumBelow}
-use Rattle.masks.proofs.Laws.Logic.{byBool, byRange}
+use Rattle.masks.proofs.Laws.Logic.{byBool}
 use Rattle.ordering.proofs.Laws.Adorn.{bit-mono}
 
 pub sum-le : (f g : ℕ → ℕ) (n : ℕ) → ((i : ℕ) → i < n → f i ≤ g i) → sumBelow f n ≤ sumBelow g n
@@ -109,48 +107,14 @@ howMany-parted h n zero = omega (arith, sum-most (λ p. 0) 0 n (λ p. omega arit
 howMany-parted h n (suc m) =
     omega (arith, sum-add (λ p. howMany (λ k. eqb (h k) p) m) (λ p. bit (eqb (h m) p)) n, howMany-parted h n m, howMany-one (h m) n)
 
--- where none from n on does
-pub howMany-cut : (q : ℕ → Bool) (n m : ℕ) → n ≤ m → ((a : ℕ) → n ≤ a → q a ≡ false) → howMany q m ≡ howMany q n
-unfolding howMany
-howMany-cut q n zero l h = let e : 0 ≡ n = omega arith in ap (sumBelow (λ a. bit (q a))) e
-howMany-cut q n (suc m) l h =
-    byRange m n
-    (λ k. let e : suc m ≡ n = omega arith in ap (sumBelow (λ a. bit (q a))) e)
-    (λ k. rw (h m k) (omega (arith, howMany-cut q n m k h)))
-
 -- the same number for each that does
-pub howMany-each : (c : ℕ) (q : ℕ → Bool) (n : ℕ) → sumBelow (λ a. cond (q a) c 0) n ≡ c * howMany q n
-unfolding howMany
-howMany-each c q n = sum-cong (λ a. cond (q a) c 0) (λ a. c * bit (q a)) n (λ a l. go (q a)) ∙ sum-times c (λ a. bit (q a)) n
+pub sum-each : (c : ℕ) (q : ℕ → Bool) (n : ℕ) → sumBelow (λ a. cond (q a) c 0) n ≡ c * length (below q n)
+sum-each c q zero = sym (mul-zero c)
+sum-each c q (suc n) =
+    ap₂ _+_ (sum-each c q n) (go (q n))
+    ∙ sym (mul-add c (length (below q n)) (length {A = ℕ} (cond (q n) (n ∷ []) [])))
+    ∙ ap (λ (k : ℕ). c * k) (sym (length-append (below q n) (cond (q n) (n ∷ []) [])))
   where
-    go : (t : Bool) → cond t c 0 ≡ c * bit t
+    go : (t : Bool) → cond t c 0 ≡ c * length {A = ℕ} (cond t (n ∷ []) [])
     go true = omega arith
     go false = sym (mul-zero c)
-
-howMany-first : (q : ℕ → Bool) (n : ℕ) → howMany q (suc n) ≡ bit (q 0) + howMany (λ a. q (suc a)) n
-unfolding howMany
-howMany-first q zero = omega arith
-howMany-first q (suc n) = omega (arith, howMany-first q n)
-
--- the bits that are set in a word of n bits
-ones-howMany : (n w : ℕ) → w < 2 ^ n → ones w ≡ howMany (bitAt w) n
-unfolding howMany bitAt ones
-ones-howMany zero w h = let e : w ≡ 0 = omega arith in ap ones e
-ones-howMany (suc n) w h =
-    let p = pow-suc 2 n in
-    ones-step w ∙ ap₂ _+_ (digit (w % 2) (omega arith)) (ones-howMany n (w / 2) (omega arith)) ∙ sym (howMany-first (bitAt w) n)
-  where
-    digit : (d : ℕ) → d < 2 → d ≡ bit (eqb d 1)
-    digit zero l = refl
-    digit (suc zero) l = refl
-    digit (suc (suc d)) l = absurd (omega arith)
-
-below-pow : (w : ℕ) → w < 2 ^ w
-below-pow zero = omega arith
-below-pow (suc w) = omega (arith, below-pow w, pow-suc 2 w)
-
--- in a word that has none set from bit n on
-pub ones-below : (n w : ℕ) → ((a : ℕ) → n ≤ a → bitAt w a ≡ false) → ones w ≡ howMany (bitAt w) n
-ones-below n w h =
-    let l : 2 ^ w ≤ 2 ^ (w + n) = pow-le-pow-right (omega arith) (omega arith) in
-    ones-howMany (w + n) w (omega (arith, below-pow w)) ∙ howMany-cut (bitAt w) n (w + n) (omega arith) h

@@ -1,37 +1,35 @@
 -- What a well-formed book says of its predicates: their arities and masks are in range, none has both clauses and MO, and every clause is of a
 -- predicate of the book and calls such only, each with as many arguments as its arity. Assumes nothing.
-use mathlib.Core.Path.{_≡_, refl}
-use mathlib.Core.Bool.{true, false}
+use mathlib.Core.Path.{_≡_, refl, ap, _∙_}
+use mathlib.Core.Bool.{Bool, true, false, cond}
 use mathlib.Core.List.{List, [], _∷_}
 use mathlib.Core.Option.{none, some}
 use Prim.Native.Nat.{ℕ, _^_, _≤_, _<_}
-use lib.Dec.{eqb, ltb}
+use lib.Dec.{eqb}
 use lib.ListN.{length, getD}
-use borrow.Author.Tests.{eqb-true, ltb-true}
+use borrow.Author.Tests.{eqb-true, eq-eqb, ltb-true, leb-true}
 use Rattle.masks.specs.Limits.{maxArity}
 use Rattle.masks.specs.Lists.{any, all}
 use Rattle.masks.specs.Constraint.{inRange}
-use Rattle.masks.proofs.Laws.Logic.{clash, and-left, and-right, or-case}
+use Rattle.masks.proofs.Laws.Logic.{clash, and-intro, and-left, and-right, or-case}
 use Rattle.masks.proofs.Laws.Lists.{all-mono, all-at}
 use Rattle.book.specs.Book.{Call, noCall, Mode, Clause, Book}
 use Rattle.book.specs.Format.{allows, hasMode}
+use Rattle.book.specs.Limits.{maxPredicates}
+use Rattle.book.specs.Sets.{callable}
 use Rattle.book.specs.Encode.{callFits, modeFits, clauseFits, WellFormed}
-use Rattle.book.specs.Sets.{callsBelow}
 use Rattle.book.specs.declared.range.Range.the-variants.{Argument, NoWildcard}
 use Rattle.book.proofs.Laws.Trip.{call-known, call-size, mode-range, clause-head, clause-free, clause-goals}
 use Rattle.book.proofs.Laws.Bound.{arities-at}
+use Rattle.book.proofs.Laws.Sets.{callsBelow, fit-below, fit-callable}
 use Rattle.ordering.specs.Good.{at}
-use Rattle.tables.specs.Table.{modeOf, defined}
+use Rattle.tables.specs.Table.{modeOf, own, defined}
 use Rattle.tables.proofs.Laws.Modes.{modeOf-all, mode-none}
 
 -- ---- a clause
 
-pub calls-known : (ar : List ℕ) (body : List Call) → all (callFits Argument ar) body ≡ true → callsBelow (length ar) body ≡ true
-unfolding callsBelow allows
-calls-known ar body = all-mono (callFits Argument ar) (λ s. ltb (s .pred) (length ar)) (λ s. call-known Argument ar s) body
-
 body-known : (ar : List ℕ) (ms : List Mode) (c : Clause) → clauseFits ar ms c ≡ true → callsBelow (length ar) (c .body) ≡ true
-body-known ar ms c t = calls-known ar (c .body) (clause-goals ar ms c t)
+body-known ar ms c t = fit-below ar (c .body) (clause-goals ar ms c t)
 
 head-known : (ar : List ℕ) (ms : List Mode) (c : Clause) → clauseFits ar ms c ≡ true → c .head .pred < length ar
 unfolding allows
@@ -47,6 +45,23 @@ defined-fits ar ms (c ∷ cs) t p d =
     (λ e. let q = eqb-true (c .head .pred) p e in
     (rw (← q) (head-known ar ms c f), rw (← q) (clause-free ar ms c f)))
     (defined-fits ar ms cs (and-right (clauseFits ar ms c) (all (clauseFits ar ms) cs) t) p)
+
+-- the clauses of p have heads of its arity
+pub own-arity : (ar : List ℕ) (ms : List Mode) (cs : List Clause) → all (clauseFits ar ms) cs ≡ true → (p : ℕ)
+    → all (λ c. eqb (length (c .head .args)) (getD ar p 0)) (own cs p) ≡ true
+unfolding own
+own-arity ar ms [] t p = refl
+own-arity ar ms (c ∷ cs) t p =
+    go (eqb (c .head .pred) p) refl (own-arity ar ms cs (and-right (clauseFits ar ms c) (all (clauseFits ar ms) cs) t) p)
+  where
+    go : (b : Bool) → eqb (c .head .pred) p ≡ b → all (λ c. eqb (length (c .head .args)) (getD ar p 0)) (own cs p) ≡ true
+        → all (λ c. eqb (length (c .head .args)) (getD ar p 0)) (cond b (c ∷ own cs p) (own cs p)) ≡ true
+    go true e r =
+        and-intro
+        (eq-eqb (length (c .head .args)) (getD ar p 0)
+        (call-size NoWildcard ar (c .head) (clause-head ar ms c (and-left (clauseFits ar ms c) (all (clauseFits ar ms) cs) t))
+        ∙ ap (λ (q : ℕ). getD ar q 0) (eqb-true (c .head .pred) p e))) r
+    go false e r = r
 
 -- ---- a body or query
 
@@ -83,8 +98,14 @@ module _ (B : Book) (w : WellFormed B) where
       all-mono (clauseFits (B .arities) (B .modes)) (λ c. callsBelow (length (B .arities)) (c .body)) (body-known (B .arities) (B .modes)) (B .clauses)
       (w .clausesFit)
 
+  few-preds : length (B .arities) ≤ maxPredicates
+  few-preds = leb-true (length (B .arities)) maxPredicates (w .fewPredicates)
+
+  pub query-callable : callable (B .query) ≡ true
+  query-callable = fit-callable (B .arities) few-preds (B .query) (w .queryFits)
+
   pub query-calls : callsBelow (length (B .arities)) (B .query) ≡ true
-  query-calls = calls-known (B .arities) (B .query) (w .queryFits)
+  query-calls = fit-below (B .arities) (B .query) (w .queryFits)
 
   module _ (d : Clause) (i : ℕ) (h : i < length (B .clauses)) where
     clause-fits : clauseFits (B .arities) (B .modes) (getD (B .clauses) i d) ≡ true
@@ -98,3 +119,6 @@ module _ (B : Book) (w : WellFormed B) where
 
     pub clause-calls : callsBelow (length (B .arities)) (getD (B .clauses) i d .body) ≡ true
     clause-calls = body-known (B .arities) (B .modes) (getD (B .clauses) i d) clause-fits
+
+    pub clause-callable : callable (getD (B .clauses) i d .body) ≡ true
+    clause-callable = fit-callable (B .arities) few-preds (getD (B .clauses) i d .body) goals-fit

@@ -5,15 +5,14 @@ use native.Mathlib.Omega.{arith}
 use lib.ListN.{length}
 use borrow.Author.Needs.{needs}
 use Rattle.book.specs.Table.{entryIn, tableIn}
+use Rattle.writing.proofs.Laws.Chunks.{Measuring, measuring-start, measuring-next, measuring-end}
 use Rattle.tables.specs.Image.{row, rows}
 use Rattle.tables.proofs.Laws.Held.{rows-chunks}
-use Rattle.writing.proofs.Laws.Chunks.{Measuring, measuring-start, measuring-next, measuring-end}
 use Rattle.tables.proofs.image_length.Statement.{statement}
 use Rattle.tables.proofs.image_length.Tie as tie
-use Rattle.masks.proofs.Laws.Held.{masksOf-few}
 
 abbrev Inv-loop : tie.InvT-loop
-Inv-loop preds table total₀ p₀ total p = Measuring preds (rows (tableIn table preds)) (λ i. row i (entryIn table i)) (rows (tableIn table preds) preds) 24 p total
+Inv-loop preds table total₀ p₀ total p = Measuring preds (rows (tableIn table preds)) (λ i. row i (entryIn table i)) (rows (tableIn table preds) preds) 68 p total
 
 abbrev μ-loop : tie.MeasureT-loop
 μ-loop preds table total₀ p₀ total p = preds - p
@@ -21,26 +20,28 @@ abbrev μ-loop : tie.MeasureT-loop
 loop-holds : tie.Need-loop-holds Inv-loop μ-loop
 loop-holds c = measuring-start (rows-chunks (c .args .table .now) (c .args .preds))
 
-mode-at-requires : tie.Need-mode-at-requires Inv-loop μ-loop
-mode-at-requires c κs = omega arith
+mul-count : tie.Need-mul-count Inv-loop μ-loop
+mul-count c = omega arith
+
+element-copy-out-count : tie.Need-element-copy-out-count Inv-loop μ-loop
+element-copy-out-count c = omega arith
 
 count-requires : tie.Need-count-requires Inv-loop μ-loop
 count-requires c κs = search needs
 
 add-total : tie.Need-add-total Inv-loop μ-loop
-add-total c = let m = c .before .before .before .loop .inv .small in let q = c .before .before .before .loop .inv .most in let n = c .count .ensures in let few = masksOf-few (c .before .mode-at .result) (search needs) in omega arith
+add-total c = omega arith
 
 add-total-2 : tie.Need-add-total-2 Inv-loop μ-loop
-add-total-2 c = let m = c .before .before .before .loop .inv .small in let q = c .before .before .before .loop .inv .most in let n = c .count .ensures in let few = masksOf-few (c .before .mode-at .result) (search needs) in omega arith
-
-add-p : tie.Need-add-p Inv-loop μ-loop
-add-p c = omega arith
-
-loop-less : tie.Need-loop-less Inv-loop μ-loop
-loop-less c = omega arith
+add-total-2 c =
+    let m = c .before .before .before .loop .inv .small in
+    let q = c .before .before .before .loop .inv .most in
+    omega arith
 
 loop-again : tie.Need-loop-again Inv-loop μ-loop
-loop-again c = let n = c .count .ensures in let few = masksOf-few (c .before .mode-at .result) (search needs) in let e = ap length (c .before .mode-at .ensures) in measuring-next (c .before .before .before .loop .inv) (omega arith) (omega arith) (omega arith)
+loop-again c =
+    let n = c .count .ensures in
+    measuring-next (c .before .before .before .loop .inv) (omega arith) (omega arith) (omega arith)
 
 returns : tie.Need-returns Inv-loop μ-loop
 returns c = measuring-end (c .before .loop .inv) (omega arith)
@@ -52,11 +53,12 @@ image-length-spec =
     Inv-loop
     μ-loop
     loop-holds
-    mode-at-requires
+    mul-count
+    element-copy-out-count
     count-requires
     add-total
     add-total-2
-    add-p
-    loop-less
+    (λ c. search needs)
+    (λ c. search needs)
     loop-again
     returns)

@@ -2,7 +2,7 @@
 use mathlib.Core.List.{_∷_}
 use lib.ListN.{length}
 use borrow.Author.Needs.{needs}
-use Rattle.masks.specs.Held.{masksOf}
+use Rattle.masks.specs.Set.{members}
 use Rattle.writing.proofs.Laws.Wrote.{wrote-append, room-second}
 use Rattle.tables.proofs.put_row.Statement.{statement}
 use Rattle.tables.proofs.put_row.Tie as tie
@@ -11,7 +11,9 @@ put-mark-requires : tie.Need-put-mark-requires
 put-mark-requires c κs = search needs
 
 put-constraint-requires : tie.Need-put-constraint-requires
-put-constraint-requires c κs = let masks = masksOf (c .before .before .before .before .before .before .before .args .c) in room-second (c .before .before .before .before .before .before .before .args .p ∷ length masks ∷ masks) (c .before .before .before .put-mark .ensures) (c .before .before .before .before .before .before .before .pre)
+put-constraint-requires c κs =
+    let s = c .before .before .before .before .before .before .before .args in
+    room-second (s .p ∷ length (members (s .masks)) ∷ members (s .masks)) (c .before .before .before .put-mark .ensures) (c .before .before .before .before .before .before .before .pre)
 
 same-length : tie.Need-same-length
 same-length c = search needs

@@ -1,25 +1,24 @@
--- The bytes of a run of records, and how the runs of a book come in chunks, record by record. Assumes nothing.
-use mathlib.Core.Path.{_≡_, refl, sym, ap, _∙_}
-use mathlib.Core.Bool.{true, false}
-use mathlib.Core.List.{List, [], _∷_, _++_, append-assoc, append-nil, map, map-append}
+-- The bytes of a run of records, and how the runs of a book come in chunks: record by record, or a chunk for each member of a set. Assumes nothing.
+use mathlib.Core.Path.{_≡_, refl, ap, _∙_}
+use mathlib.Core.Bool.{Bool, true, false, cond}
+use mathlib.Core.List.{List, [], _∷_, _++_, append-nil}
 use Prim.Native.Nat.{ℕ, _+_, _*_, _≤_, min}
 use native.Mathlib.Omega.{arith}
 use native.Mathlib.Numerals.{add-one}
 use lib.ListN.{length, getD, take, drop, length-append, length-take, length-drop}
 use lib.Seq.{take-suc, take-length}
 use Rattle.masks.specs.Limits.{maxMasks}
-use Rattle.book.specs.Limits.{maxPredicates, maxSubgoals}
-use Rattle.book.specs.Book.{Call, Clause}
+use Rattle.masks.specs.Set.{bitAt}
+use Rattle.masks.proofs.Laws.Lists.{joined-cong}
+use Rattle.book.specs.Limits.{maxPredicates}
+use Rattle.book.specs.Book.{Call, noCall, Clause}
 use Rattle.book.specs.Encode.{run, encPredicate, encMode, encSubgoal, encClause}
-use Rattle.book.specs.Held.{callOf, modeSize, hasIn, masksIn, modeBytes, modeAt, modesOf, clauseAt, clausesOf}
-use Rattle.book.specs.declared.clause.Call as call
-use Rattle.book.proofs.Laws.Held.{blank}
+use Rattle.book.specs.Held.{modeSize, hasIn, masksIn, modeBytes, HaveMode, modeAt, modesOf, clauseAt, clausesOf}
+use Rattle.book.proofs.Laws.Encode.{run-append, run-joined}
+use Rattle.book.proofs.Laws.Held.{modesOf-joined}
 use Rattle.writing.proofs.Laws.Wrote.{front}
 use Rattle.writing.proofs.Laws.Chunks.{Chunks}
-
-pub run-append : {A : Type 0} (f : A → List ℕ) (xs ys : List A) → run f (xs ++ ys) ≡ run f xs ++ run f ys
-run-append f [] ys = refl
-run-append f (x ∷ xs) ys = ap (λ (l : List ℕ). f x ++ l) (run-append f xs ys) ∙ sym (append-assoc (f x) (run f xs) (run f ys))
+use Rattle.writing.proofs.Laws.Members.{memberChunk, memberChunks}
 
 pub run-snoc : {A : Type 0} (f : A → List ℕ) (xs : List A) (x : A) → run f (xs ++ (x ∷ [])) ≡ run f xs ++ f x
 run-snoc f xs x = run-append f xs (x ∷ []) ∙ ap (λ (l : List ℕ). run f xs ++ l) (append-nil (f x))
@@ -42,19 +41,14 @@ module _ (b : List ℕ) where
   abbrev pub byteAt : ℕ → List ℕ
   byteAt i = getD b i 0 ∷ []
 
-  pub bytes-chunks : Chunks (length b) bytesTo byteAt b
-  bytes-chunks = record { none = refl; next = λ i h. rw add-one (take-suc b i 0 h); whole = take-length b }
+  pub bytes-chunks : {n : ℕ} → n ≡ length b → Chunks n bytesTo byteAt b
+  bytes-chunks e = record { none = refl; next = λ i h. rw add-one (take-suc b i 0 (omega arith)); whole = ap bytesTo e ∙ take-length b }
 
--- as many elements of an array of m as its first n are: n may be above m
-elements-chunks : {A : Type 0} (f : List A → List ℕ) (one : A → List ℕ) → f [] ≡ [] → ((xs : List A) (x : A) → f (xs ++ (x ∷ [])) ≡ f xs ++ one x)
-    → (l : List A) (d : A) (m n : ℕ) {k : ℕ} → length l ≡ m → k ≡ min n m → Chunks k (λ i. f (take i l)) (λ i. one (getD l i d)) (f (take n l))
-elements-chunks f one none snoc l d m n {k} e h =
-    let z : k ≡ length (take n l) = omega (arith, length-take n l) in
-    record {
-      none = none;
-      next = λ i q. rw (add-one, take-suc l i d (omega arith)) (snoc (take i l) (getD l i d));
-      whole = ap f (front n l z .is);
-    }
+-- the first k elements of a list
+elements-chunks : {A : Type 0} (one : A → List ℕ) (l : List A) (d : A) {k : ℕ} {bytes : List ℕ} → k ≤ length l → run one (take k l) ≡ bytes
+    → Chunks k (λ i. run one (take i l)) (λ i. one (getD l i d)) bytes
+elements-chunks one l d h w =
+    record { none = refl; next = λ i q. rw (add-one, take-suc l i d (omega arith)) (run-snoc one (take i l) (getD l i d)); whole = w }
 
 module _ (arities : List ℕ) where
   abbrev pub predicatesTo : ℕ → List ℕ
@@ -63,57 +57,25 @@ module _ (arities : List ℕ) where
   abbrev pub predicateAt : ℕ → List ℕ
   predicateAt i = encPredicate (getD arities i 0)
 
+  -- n may be above the number of places
   pub predicates-chunks : (n : ℕ) {k : ℕ} → length arities ≡ maxPredicates → k ≡ min n maxPredicates → Chunks k predicatesTo predicateAt (predicatesTo n)
-  predicates-chunks n = elements-chunks (run encPredicate) encPredicate refl (run-snoc encPredicate) arities 0 maxPredicates n
+  predicates-chunks n {k} e h =
+      let z : k ≡ length (take n arities) = omega (arith, length-take n arities) in
+      elements-chunks encPredicate arities 0 (front n arities z .fits) (ap (run encPredicate) (front n arities z .is))
 
-module _ (body : List call.Call) where
+module _ (rules : List ℕ) (k : ℕ) where
   abbrev pub subgoalsTo : ℕ → List ℕ
-  subgoalsTo i = run encSubgoal (map callOf (take i body))
+  subgoalsTo i = run encSubgoal (take i (clauseAt rules k .body))
 
   abbrev pub callAt : ℕ → Call
-  callAt i = callOf (getD body i blank)
+  callAt i = getD (clauseAt rules k .body) i noCall
 
   abbrev pub subgoalAt : ℕ → List ℕ
   subgoalAt i = encSubgoal (callAt i)
 
-  pub subgoals-chunks : (n : ℕ) {k : ℕ} → length body ≡ maxSubgoals → k ≡ min n maxSubgoals → Chunks k subgoalsTo subgoalAt (subgoalsTo n)
-  subgoals-chunks n =
-      elements-chunks (λ (l : List call.Call). run encSubgoal (map callOf l)) (λ (c : call.Call). encSubgoal (callOf c)) refl
-      (λ xs x. ap (run encSubgoal) (map-append callOf xs (x ∷ [])) ∙ run-snoc encSubgoal (map callOf xs) (callOf x))
-      body blank maxSubgoals n
-
-module _ (modes : List ℕ) where
-  abbrev pub modesTo : ℕ → List ℕ
-  modesTo i = run encMode (modesOf modes i)
-
-  abbrev pub modeBytesAt : ℕ → List ℕ
-  modeBytesAt i = run encMode (modeAt modes i)
-
-  pub modes-chunks : (n : ℕ) → Chunks n modesTo modeBytesAt (modesTo n)
-  unfolding modesOf
-  modes-chunks n =
-      record { none = refl; next = λ i h. rw add-one (run-append encMode (modesOf modes i) (modeAt modes i)); whole = refl }
-
-  -- a predicate's MO, if it has one
-  pub mode-some : (p : ℕ) {masks : List ℕ} → hasIn (modeBytes modes p) ≡ true → masks ≡ masksIn (modeBytes modes p)
-      → encMode (record { pred = p; masks = masks }) ≡ modeBytesAt p
-  unfolding modeAt
-  mode-some p {masks} t e =
-      let m = encMode (record { pred = p; masks = masks }) in
-      rw (t, ← e) (sym (append-nil m))
-
-  pub mode-none : (p : ℕ) → hasIn (modeBytes modes p) ≡ false → modeBytesAt p ≡ []
-  unfolding modeAt
-  mode-none p e = rw e
-
-  pub mode-few : (p : ℕ) {masks : List ℕ} → masks ≡ masksIn (modeBytes modes p) → length masks ≤ maxMasks
-  mode-few p e =
-      let b = modeBytes modes p in
-      let z = ap length e in
-      let f = length-take (getD b 1 0) (drop 2 b) in
-      let g = length-drop 2 b in
-      let h = length-take modeSize (drop (p * modeSize) modes) in
-      omega arith
+  pub subgoals-chunks : {n : ℕ} → n ≡ length (clauseAt rules k .body) → Chunks n subgoalsTo subgoalAt (run encSubgoal (clauseAt rules k .body))
+  subgoals-chunks e =
+      elements-chunks encSubgoal (clauseAt rules k .body) noCall (omega arith) (ap subgoalsTo e ∙ ap (run encSubgoal) (take-length (clauseAt rules k .body)))
 
 module _ (rules : List ℕ) where
   abbrev pub clausesTo : ℕ → List ℕ
@@ -130,3 +92,35 @@ module _ (rules : List ℕ) where
         next = λ i h. rw add-one (run-snoc encClause (clausesOf rules i) (clauseAt rules i));
         whole = ap clausesTo e;
       }
+
+-- ---- the modes: a chunk for each predicate of the set of those that have MO
+
+module _ (modes : List ℕ) where
+  abbrev pub modesTo : ℕ → List ℕ
+  modesTo n = run encMode (modesOf modes n)
+
+  -- the MO of predicate p, where it has one
+  abbrev pub modeBytesAt : ℕ → List ℕ
+  modeBytesAt p = encMode (record { pred = p; masks = masksIn (modeBytes modes p) })
+
+  pub modes-members : (given : ℕ) → HaveMode modes given → modesTo maxPredicates ≡ memberChunks maxPredicates given modeBytesAt
+  unfolding modeAt
+  modes-members given have =
+      ap (run encMode) (modesOf-joined modes maxPredicates) ∙ run-joined encMode (modeAt modes) maxPredicates
+      ∙ joined-cong (λ p. run encMode (modeAt modes p)) (memberChunk given modeBytesAt) maxPredicates (λ p h. one p (have p h))
+    where
+      alone : (p : ℕ) (b : Bool) → run encMode (cond b (record { pred = p; masks = masksIn (modeBytes modes p) } ∷ []) []) ≡ cond b (modeBytesAt p) []
+      alone p true = append-nil (modeBytesAt p)
+      alone p false = refl
+
+      one : (p : ℕ) → bitAt given p ≡ hasIn (modeBytes modes p) → run encMode (modeAt modes p) ≡ memberChunk given modeBytesAt p
+      one p e = rw e (alone p (hasIn (modeBytes modes p)))
+
+  pub mode-few : (p : ℕ) {masks : List ℕ} → masks ≡ masksIn (modeBytes modes p) → length masks ≤ maxMasks
+  mode-few p e =
+      let b = modeBytes modes p in
+      let z = ap length e in
+      let f = length-take (getD b 1 0) (drop 2 b) in
+      let g = length-drop 2 b in
+      let h = length-take modeSize (drop (p * modeSize) modes) in
+      omega arith

@@ -4,9 +4,10 @@ use mathlib.Core.List.{List, [], _∷_, _++_}
 use Prim.Native.Nat.{ℕ, _+_, _≤_}
 use native.Mathlib.Omega.{arith}
 use native.Mathlib.Nat.{add-zero}
-use lib.ListN.{length, getD, take, drop, length-append, length-take}
+use native.Mathlib.Numerals.{add-one}
+use lib.ListN.{length, getD, take, drop, set, length-append, length-take}
 use lib.Seq.{sets, length-sets, sets-eq, take-at}
-use Rattle.masks.proofs.Laws.Lists.{take-front, sets-append}
+use Rattle.masks.proofs.Laws.Lists.{take-front, sets-append, sets-set}
 use Rattle.writing.specs.Wrote.{Room, Wrote}
 
 -- ---- one run after another
@@ -27,6 +28,14 @@ wrote-as e w = rw (← e) w
 
 pub wrote-length : {a b l : List ℕ} {at n : ℕ} → Wrote a b at n l → length b ≡ length a
 wrote-length {a} {b} {l} {at} w = ap length (w .is) ∙ length-sets a at l
+
+-- a byte before a run, written when the run is
+pub wrote-before : {a b c l : List ℕ} {at n m x : ℕ} → b ≡ sets a (at + 1) l → m ≡ at + 1 + length l → Wrote b c at n (x ∷ []) → Wrote a c at m (x ∷ l)
+wrote-before {a} {l = l} {at} {x = x} e f w =
+    record {
+      ends = omega arith;
+      is = w .is ∙ ap (λ (s : List ℕ). set s at x) e ∙ sets-set a at (at + 1) x l (omega arith) ∙ rw add-one;
+    }
 
 -- the front of what was written from the start
 pub wrote-front : {a b l : List ℕ} {n : ℕ} → Wrote a b 0 n l → Room a 0 l → take n b ≡ l

@@ -1,46 +1,45 @@
 -- `writing::put_body` meets its contract. The loop's invariant: the first j subgoals are written. Assumes nothing.
+use mathlib.Core.Path.{ap}
 use Prim.Native.Nat.{_-_}
 use native.Mathlib.Omega.{arith}
-use borrow.Author.Needs.{needs}
-use Rattle.book.specs.Encode.{encCall}
-use Rattle.book.proofs.Laws.Held.{length-of-map}
-use Rattle.writing.proofs.Laws.Wrote.{wrote-append, room-second}
+use lib.ListN.{length}
+use Rattle.book.specs.Book.{Call}
+use Rattle.book.specs.Encode.{run, encCall, encSubgoal}
+use Rattle.book.specs.Held.{clauseAt}
+use Rattle.writing.proofs.Laws.Wrote.{wrote-append, wrote-as, room-second}
 use Rattle.writing.proofs.Laws.Chunks.{Writing, writing-start, writing-length, writing-room, writing-next, writing-end}
 use Rattle.writing.proofs.Laws.Runs.{subgoalsTo, callAt, subgoalAt, subgoals-chunks}
 use Rattle.writing.proofs.put_body.Statement.{statement}
 use Rattle.writing.proofs.put_body.Tie as tie
 
 abbrev Inv-loop : tie.InvT-loop
-Inv-loop out₀ at c n p₀ j₀ t10 out p j = Writing n (subgoalsTo (c .body)) (subgoalAt (c .body)) (subgoalsTo (c .body) (c .n)) out₀ at j out p
+Inv-loop out₀ at rules k n p₀ j₀ t9 out p j = Writing n (subgoalsTo rules k) (subgoalAt rules k) (run encSubgoal (clauseAt rules k .body)) out₀ at j out p
 
 abbrev μ-loop : tie.MeasureT-loop
-μ-loop out₀ at c n p₀ j₀ t10 out p j = n - j
+μ-loop out₀ at rules k n p₀ j₀ t9 out p j = n - j
 
-cast-least : tie.Need-cast-least Inv-loop μ-loop
-cast-least c = search needs
-
-least-requires : tie.Need-least-requires Inv-loop μ-loop
-least-requires c κs = search needs
+subgoals-at-requires : tie.Need-subgoals-at-requires Inv-loop μ-loop
+subgoals-at-requires c κs = c .before .pre .0
 
 loop-holds : tie.Need-loop-holds Inv-loop μ-loop
 loop-holds c =
-    let s = c .before .before .args .t3 in
-    writing-start (subgoals-chunks (s .body) (s .n) (search (needs, length-of-map)) (omega arith)) (c .before .before .pre)
-
-mul-call : tie.Need-mul-call Inv-loop μ-loop
-mul-call c = omega arith
-
-element-copy-out-call : tie.Need-element-copy-out-call Inv-loop μ-loop
-element-copy-out-call c = omega arith
+    let s = c .before .before in
+    writing-start (subgoals-chunks (s .args .rules .now) (s .args .k) (c .subgoals-at .ensures)) (s .pre .1)
 
 put-mark-requires : tie.Need-put-mark-requires Inv-loop μ-loop
-put-mark-requires c κs = let r = writing-room (c .before .before .before .before .loop .inv) (omega arith) in omega arith
+put-mark-requires c κs = let r = writing-room (c .before .before .before .loop .inv) (omega arith) in omega arith
+
+subgoal-at-requires : tie.Need-subgoal-at-requires Inv-loop μ-loop
+subgoal-at-requires c κs = let k = c .before .before .before .before .before .before .before .before in let e = k .subgoals-at .ensures in (k .before .before .pre .0, omega arith)
 
 put-call-requires : tie.Need-put-call-requires Inv-loop μ-loop
 put-call-requires c κs =
-    let l = c .before .before .before .before .before .before .before .before .loop in
-    let body = c .before .before .before .before .before .before .before .before .before .before .before .args .t3 .body in
-    room-second (encCall (callAt body (l .j))) (c .before .before .before .put-mark .ensures) (writing-room (l .inv) (omega arith))
+    let l = c .before .before .before .before .before .before .before .before in
+    let s = l .before .before .before .args in
+    let e = ap (λ (x : Call). length (x .args)) (c .subgoal-at .ensures) in
+    let call = encCall (callAt (s .rules .now) (s .k) (l .loop .j)) in
+    let r = room-second call (c .before .before .before .before .put-mark .ensures) (writing-room (l .loop .inv) (omega arith)) in
+    omega arith
 
 add-j : tie.Need-add-j Inv-loop μ-loop
 add-j c = omega arith
@@ -50,9 +49,9 @@ loop-less c = omega arith
 
 loop-again : tie.Need-loop-again Inv-loop μ-loop
 loop-again c =
-    let l = c .before .before .before .before .before .before .before .before .before .before .before .loop in
-    let mark = c .before .before .before .before .before .before .put-mark .ensures in
-    writing-next (l .inv) (omega arith) (wrote-append mark (c .before .before .put-call .ensures))
+    let mark = c .before .before .before .before .before .before .before .put-mark .ensures in
+    let call = wrote-as (ap encCall (c .before .before .before .subgoal-at .ensures)) (c .before .before .put-call .ensures) in
+    writing-next (c .before .before .before .before .before .before .before .before .before .before .before .loop .inv) (omega arith) (wrote-append mark call)
 
 same-length : tie.Need-same-length Inv-loop μ-loop
 same-length c = writing-length (c .before .loop .inv)
@@ -66,12 +65,10 @@ put-body-spec =
     (tie.spec
     Inv-loop
     μ-loop
-    cast-least
-    least-requires
+    subgoals-at-requires
     loop-holds
-    mul-call
-    element-copy-out-call
     put-mark-requires
+    subgoal-at-requires
     put-call-requires
     add-j
     loop-less

@@ -1,63 +1,63 @@
--- `writing::put_modes` meets its contract. The loop's invariant: the `MO` of the first p predicates are written. Assumes nothing.
-use mathlib.Core.Path.{sym, ap, _∙_}
-use mathlib.Core.Logic.{⊎-elim}
-use Prim.Native.Nat.{_-_}
+-- `writing::put_modes` meets its contract. The loop's invariant: the `MO` of the predicates passed are written. Assumes nothing.
+use mathlib.Core.Path.{sym, ap}
+use mathlib.Core.List.{List}
+use Prim.Native.Nat.{ℕ}
 use native.Mathlib.Omega.{arith}
-use lib.ListN.{length}
+use lib.Count.{trailingZeros}
 use borrow.Author.Needs.{needs}
+use Rattle.masks.proofs.Laws.Members.{others-less}
+use Rattle.book.specs.Limits.{maxPredicates}
+use Rattle.book.specs.Encode.{encMode}
 use Rattle.writing.proofs.Laws.Wrote.{wrote-as}
-use Rattle.writing.proofs.Laws.Chunks.{Writing, writing-start, writing-length, writing-room, writing-next, writing-none, writing-end}
-use Rattle.writing.proofs.Laws.Runs.{modesTo, modeBytesAt, modes-chunks, mode-some, mode-none}
+use Rattle.writing.proofs.Laws.Members.{Members, members-start, members-length, members-low, members-room, members-next, members-end}
+use Rattle.writing.proofs.Laws.Runs.{modeBytesAt, modes-members, mode-few}
 use Rattle.writing.proofs.put_modes.Statement.{statement}
 use Rattle.writing.proofs.put_modes.Tie as tie
 
 abbrev Inv-loop : tie.InvT-loop
-Inv-loop out₀ at modes q₀ p₀ out q p = Writing 64 (modesTo modes) (modeBytesAt modes) (modesTo modes 64) out₀ at p out q
+Inv-loop out₀ at modes given q₀ rest₀ out q rest = Members maxPredicates given (modeBytesAt modes) out₀ at rest out q
 
 abbrev μ-loop : tie.MeasureT-loop
-μ-loop out₀ at modes q₀ p₀ out q p = 64 - p
+μ-loop out₀ at modes given q₀ rest₀ out q rest = rest
 
 loop-holds : tie.Need-loop-holds Inv-loop μ-loop
-loop-holds c = writing-start (modes-chunks (c .before .args .modes .now) 64) (c .before .pre)
+loop-holds c =
+    let s = c .before in
+    members-start (search needs) (rw (modes-members (s .args .modes .now) (s .args .given) (s .pre .0)) at (s .pre .1))
 
-has-mode-requires : tie.Need-has-mode-requires Inv-loop μ-loop
-has-mode-requires c κs = search needs
+cast-p : tie.Need-cast-p Inv-loop μ-loop
+cast-p c = let l = members-low (c .before .loop .inv) (c .loop-test .taken) in omega arith
 
-mode-at-requires : tie.Need-mode-at-requires Inv-loop μ-loop
-mode-at-requires c κs = search needs
+sub-rest : tie.Need-sub-rest Inv-loop μ-loop
+sub-rest c = omega arith
+
+masks-at-requires : tie.Need-masks-at-requires Inv-loop μ-loop
+masks-at-requires c κs = members-low (c .before .before .loop .inv) (c .before .loop-test .taken)
 
 put-mode-requires : tie.Need-put-mode-requires Inv-loop μ-loop
 put-mode-requires c κs =
-    let l = c .before .before .before .before .before .loop in
-    let modes = c .before .before .before .before .before .before .before .args .modes .now in
-    let has = sym (c .before .before .before .has-mode .ensures) ∙ c .before .before .if1 .taken in
-    let r = writing-room (l .inv) (omega arith) in
-    let e = ap length (mode-some modes (l .p) has (c .before .mode-at .ensures)) in
-    omega arith
-
-add-p : tie.Need-add-p Inv-loop μ-loop
-add-p c = omega arith
+    let l = c .before .before .before .loop in
+    let masks = c .masks-at .ensures in (
+      mode-few (c .before .before .before .before .before .args .modes .now) (trailingZeros maxPredicates (l .rest)) masks,
+      rw masks (members-room (l .inv) (c .before .before .loop-test .taken)),
+    )
 
 loop-less : tie.Need-loop-less Inv-loop μ-loop
-loop-less c = omega arith
+loop-less c = others-less (c .before .before .before .before .before .before .loop .rest) (c .before .before .before .before .before .loop-test .taken)
 
 loop-again : tie.Need-loop-again Inv-loop μ-loop
 loop-again c =
-    let l = c .before .before .before .loop in
-    let modes = c .before .before .before .before .before .args .modes .now in
-    let has = sym (c .before .has-mode .ensures) in
-    ⊎-elim
-    (λ w.
-    let mode = wrote-as (mode-some modes (l .p) (has ∙ w .0 .taken) (w .1 .ensures)) (w .3 .ensures) in
-    rw (w .6, w .7) (writing-next (l .inv) (omega arith) mode))
-    (λ w. rw (w .1, w .2) (writing-none (l .inv) (omega arith) (mode-none modes (l .p) (has ∙ w .0 .left))))
-    (c .if1 .came)
+    let l = c .before .before .before .before .before .before .loop in
+    let same = ap (λ (m : List ℕ). encMode (record { pred = trailingZeros maxPredicates (l .rest); masks = m })) (c .before .before .before .masks-at .ensures) in
+    members-next (l .inv) (c .before .before .before .before .before .loop-test .taken) (wrote-as same (c .before .before .put-mode .ensures))
 
 same-length : tie.Need-same-length Inv-loop μ-loop
-same-length c = writing-length (c .before .loop .inv)
+same-length c = members-length (c .before .loop .inv)
 
 returns : tie.Need-returns Inv-loop μ-loop
-returns c = writing-end (c .before .loop .inv) (omega arith)
+returns c =
+    let s = c .before .before .before in
+    wrote-as (sym (modes-members (s .args .modes .now) (s .args .given) (s .pre .0))) (members-end (c .before .loop .inv) (c .loop-test .left))
 
 pub put-modes-spec : {M : Type 1} → statement M
 put-modes-spec =
@@ -66,10 +66,10 @@ put-modes-spec =
     Inv-loop
     μ-loop
     loop-holds
-    has-mode-requires
-    mode-at-requires
+    cast-p
+    sub-rest
+    masks-at-requires
     put-mode-requires
-    add-p
     loop-less
     loop-again
     same-length

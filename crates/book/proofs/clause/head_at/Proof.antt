@@ -1,32 +1,23 @@
--- `book::clause::head_at` meets its contract. It is the call in the clause's second word. Assumes nothing.
+-- `book::clause::head_at` meets its contract. It is the clause's second word. Assumes nothing.
+use mathlib.Core.Path.{refl}
 use borrow.Author.Needs.{needs}
 use Rattle.book.specs.Held.{clauseAt}
 use Rattle.book.proofs.clause.head_at.Statement.{statement}
 use Rattle.book.proofs.clause.head_at.Tie as tie
 
-mul-call-of : tie.Need-mul-call-of
-mul-call-of c = search needs
+mul-result : tie.Need-mul-result
+mul-result c = search needs
 
-mul-call-of-2 : tie.Need-mul-call-of-2
-mul-call-of-2 c = search needs
+mul-result-2 : tie.Need-mul-result-2
+mul-result-2 c = search needs
 
-element-copy-out-call-of : tie.Need-element-copy-out-call-of
-element-copy-out-call-of c = search needs
-
-call-of-requires : tie.Need-call-of-requires
-call-of-requires c κs = search needs
+element-copy-out-result : tie.Need-element-copy-out-result
+element-copy-out-result c = search needs
 
 returns : tie.Need-returns
 unfolding clauseAt
-returns c = c .call-of .ensures
+returns c = refl
 
 pub head-at-spec : {M : Type 1} → statement M
 head-at-spec =
-    tie.close
-    (tie.spec
-    mul-call-of
-    (λ c. search needs)
-    mul-call-of-2
-    element-copy-out-call-of
-    call-of-requires
-    returns)
+    tie.close (tie.spec mul-result (λ c. search needs) mul-result-2 element-copy-out-result returns)

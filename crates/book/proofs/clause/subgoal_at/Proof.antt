@@ -1,39 +1,33 @@
--- `book::clause::subgoal_at` meets its contract. It is the call that stands j words behind the head's. Assumes nothing.
-use mathlib.Core.Path.{sym, _∙_}
+-- `book::clause::subgoal_at` meets its contract. It is the word that stands j words behind the head's. Assumes nothing.
+use mathlib.Core.Path.{sym}
 use native.Mathlib.Omega.{arith}
 use borrow.Author.Needs.{needs}
 use Rattle.book.proofs.Laws.Held.{clauseAt-few, clauseAt-body}
 use Rattle.book.proofs.clause.subgoal_at.Statement.{statement}
 use Rattle.book.proofs.clause.subgoal_at.Tie as tie
 
-mul-call-of : tie.Need-mul-call-of
-mul-call-of c = search needs
+mul-result : tie.Need-mul-result
+mul-result c = search needs
 
-add-call-of-2 : tie.Need-add-call-of-2
-add-call-of-2 c = let n = clauseAt-few (c .args .rules .now) (c .args .k) in omega arith
+add-result-2 : tie.Need-add-result-2
+add-result-2 c = let n = clauseAt-few (c .args .rules .now) (c .args .k) in omega arith
 
-mul-call-of-2 : tie.Need-mul-call-of-2
-mul-call-of-2 c = let n = clauseAt-few (c .args .rules .now) (c .args .k) in omega arith
+mul-result-2 : tie.Need-mul-result-2
+mul-result-2 c = let n = clauseAt-few (c .args .rules .now) (c .args .k) in omega arith
 
-element-copy-out-call-of : tie.Need-element-copy-out-call-of
-element-copy-out-call-of c = let n = clauseAt-few (c .args .rules .now) (c .args .k) in omega arith
-
-call-of-requires : tie.Need-call-of-requires
-call-of-requires c κs = search needs
+element-copy-out-result : tie.Need-element-copy-out-result
+element-copy-out-result c = let n = clauseAt-few (c .args .rules .now) (c .args .k) in omega arith
 
 returns : tie.Need-returns
-returns c =
-    let s = c .before .before .args in
-    c .call-of .ensures ∙ sym (clauseAt-body (s .rules .now) (s .k) _ (s .j) (c .before .before .pre .1))
+returns c = let s = c .before .args in sym (clauseAt-body (s .rules .now) (s .k) _ (s .j) (c .before .pre .1))
 
 pub subgoal-at-spec : {M : Type 1} → statement M
 subgoal-at-spec =
     tie.close
     (tie.spec
-    mul-call-of
+    mul-result
     (λ c. search needs)
-    add-call-of-2
-    mul-call-of-2
-    element-copy-out-call-of
-    call-of-requires
+    add-result-2
+    mul-result-2
+    element-copy-out-result
     returns)

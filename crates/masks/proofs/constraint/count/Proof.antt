@@ -1,25 +1,16 @@
--- `masks::constraint::count` meets its contract. The first n of 20 masks are n or 20, whichever is less. Assumes nothing.
-use mathlib.Core.Path.{_≡_}
+-- `masks::constraint::count` meets its contract. A word of 64 bits has as many members as bits that are set. Assumes nothing.
 use native.Mathlib.Omega.{arith}
-use lib.ListN.{length-take, length}
+use lib.Count.{ones-le}
 use borrow.Author.Needs.{needs}
+use Rattle.masks.proofs.Laws.Sets.{ones-members}
 use Rattle.masks.proofs.constraint.count.Statement.{statement}
 use Rattle.masks.proofs.constraint.count.Tie as tie
 
-cast-n : tie.Need-cast-n
-cast-n c = search needs
+cast-result : tie.Need-cast-result
+cast-result c = let h = ones-le 64 (c .args .set) (search needs) in omega arith
 
 returns : tie.Need-returns
-returns c =
-    let s = c .before .before .args .c in
-    let e : length (s .masks) ≡ 20 = search needs in
-    omega (arith, length-take (s .n) (s .masks))
-
-returns-2 : tie.Need-returns-2
-returns-2 c =
-    let s = c .before .before .args .c in
-    let e : length (s .masks) ≡ 20 = search needs in
-    omega (arith, length-take (s .n) (s .masks))
+returns c = (ones-members (c .args .set) (search needs), ones-le 64 (c .args .set) (search needs))
 
 pub count-spec : {M : Type 1} → statement M
-count-spec = tie.close (tie.spec cast-n returns returns-2)
+count-spec = tie.close (tie.spec cast-result returns)

@@ -1,7 +1,8 @@
 -- `masks::constraint::minimised` meets its contract. The set of the list's unions with the mask 0 holds just the masks of the list. Assumes nothing.
 use mathlib.Core.Path.{_∙_}
 use borrow.Author.Needs.{needs}
-use Rattle.masks.proofs.Laws.Set.{holds-list, minimise-packed}
+use Rattle.masks.proofs.Laws.Set.{holds-list}
+use Rattle.masks.proofs.Laws.Sets.{minimise-held}
 use Rattle.masks.proofs.constraint.minimised.Statement.{statement}
 use Rattle.masks.proofs.constraint.minimised.Tie as tie
 
@@ -15,7 +16,7 @@ returns : tie.Need-returns
 returns c =
     let s = c .before .before .before .args in
     let u = c .before .with-unions in
-    c .written .ensures ∙ minimise-packed (u .result) (s .masks .now) (holds-list (u .result) (s .masks .now) (u .ensures))
+    c .written .ensures ∙ minimise-held (u .result) (s .masks .now) (holds-list (u .result) (s .masks .now) (u .ensures))
 
 pub minimised-spec : {M : Type 1} → statement M
 minimised-spec = tie.close (tie.spec with-unions-requires written-requires returns)

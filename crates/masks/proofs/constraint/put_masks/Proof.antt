@@ -1,64 +1,84 @@
--- `masks::constraint::put_masks` meets its contract. The loop's invariant: the first i masks are stored. Assumes nothing.
-use mathlib.Core.Path.{_≡_, refl, ap, _∙_}
-use Prim.Native.Nat.{ℕ, _-_, _≤_}
+-- `masks::constraint::put_masks` meets its contract. The loop goes over the members of the set; its invariant: those passed stand in the output. Assumes
+-- nothing.
+use mathlib.Core.Path.{_≡_}
+use mathlib.Core.Bool.{true, false}
+use Prim.Native.Nat.{ℕ, suc, _<_}
 use native.Mathlib.Omega.{arith}
-use lib.Seq.{sets}
-use lib.ListN.{length-take, length-set, length, take}
+use lib.Count.{trailingZeros}
 use borrow.Author.Needs.{needs}
-use Rattle.masks.specs.Held.{masksOf}
-use Rattle.masks.proofs.Laws.Lists.{take-front, sets-suc}
+use Rattle.masks.specs.Set.{bitAt, members}
+use Rattle.masks.proofs.Laws.Members.{others-less, Over, over-start, over-end, over-lowest, over-member, over-here, over-next}
+use Rattle.masks.proofs.Laws.Sets.{Put, put-start, put-skip, put-room, put-next}
 use Rattle.masks.proofs.constraint.put_masks.Statement.{statement}
 use Rattle.masks.proofs.constraint.put_masks.Tie as tie
 
 abbrev Inv-loop : tie.InvT-loop
-Inv-loop out₀ at c n i₀ out i = (i ≤ n) × (length out ≡ length out₀) × (out ≡ sets out₀ at (take i (c .masks)))
+Inv-loop out₀ at set p₀ rest₀ out p rest = Over (Put set out₀ at p out) 64 set rest
 
 abbrev μ-loop : tie.MeasureT-loop
-μ-loop out₀ at c n i₀ out i = n - i
-
-count-requires : tie.Need-count-requires Inv-loop μ-loop
-count-requires c κs = search needs
+μ-loop out₀ at set p₀ rest₀ out p rest = rest
 
 loop-holds : tie.Need-loop-holds Inv-loop μ-loop
-loop-holds c = (omega arith, refl, refl)
+loop-holds c =
+    let s = c .args in
+    over-start (Put (s .set) (s .out .now) (s .at) (s .at) (s .out .now)) 64 (s .set) (search needs) (put-start (s .set) (s .out .now) (s .at))
 
-element-copy-out-out : tie.Need-element-copy-out-out Inv-loop μ-loop
-element-copy-out-out c =
-    let s = c .before .before .before .before .args .t3 in
-    let e : length (s .masks) ≡ 20 = search needs in
-    let n = c .before .before .count .ensures in
-    omega (arith, length-take (s .n) (s .masks))
+-- in a turn: m is the lowest member of those left
+module _ (c : tie.In-loop Inv-loop μ-loop) where
+  abbrev set : ℕ
+  set = c .before .before .args .set
 
-add-out : tie.Need-add-out Inv-loop μ-loop
-add-out c =
-    let n = c .before .before .before .count .ensures in
-    let p = c .before .before .before .before .before .pre in
-    omega arith
+  abbrev m : ℕ
+  m = trailingZeros 64 (c .before .loop .rest)
+
+  abbrev Here : ℕ → Type 0
+  Here = Put set (c .before .before .args .out .now) (c .before .before .args .at) (c .before .loop .p) (c .before .loop .out)
+
+  abbrev skip : (k : ℕ) → bitAt set k ≡ false → Here k → Here (suc k)
+  skip = put-skip set
+
+  low : m < 64
+  low = over-lowest Here 64 set (c .before .loop .rest) skip (c .before .loop .inv) (c .loop-test .taken) .small
+
+  member : bitAt set m ≡ true
+  member = over-member Here 64 set (c .before .loop .rest) skip (c .before .loop .inv) (c .loop-test .taken)
+
+  here : Here m
+  here = over-here Here 64 set (c .before .loop .rest) skip (c .before .loop .inv) (c .loop-test .taken)
+
+cast-out : tie.Need-cast-out Inv-loop μ-loop
+cast-out c = let l = low c in omega arith
 
 slice-write-out : tie.Need-slice-write-out Inv-loop μ-loop
-slice-write-out c =
-    let n = c .before .before .before .count .ensures in
-    let p = c .before .before .before .before .before .pre in
-    let l = c .before .before .loop .inv .1 in
+slice-write-out c = put-room (set c) (m c) (member c) (low c) (c .before .before .pre) (here c)
+
+add-p : tie.Need-add-p Inv-loop μ-loop
+add-p c =
+    let r = put-room (set c) (m c) (member c) (low c) (c .before .before .pre) (here c) in
+    let s = here c .size in
     omega arith
+
+loop-less : tie.Need-loop-less Inv-loop μ-loop
+loop-less c = others-less (c .before .loop .rest) (c .loop-test .taken)
 
 loop-again : tie.Need-loop-again Inv-loop μ-loop
 loop-again c =
-    let count = c .before .before .before .count in
-    let s = c .before .before .before .before .before .args in
-    let l = c .before .before .loop in
-    let n = count .ensures in
-    (omega arith, simp length-set (l .inv .1), rw (l .inv .2) (sets-suc 0 (s .out .now) (s .at) (s .t3 .masks) (l .i) (omega (arith, length-take (s .t3 .n) (s .t3 .masks)))))
+    let l = c .before .loop in
+    over-next (Here c) 64 (set c) (l .rest) (skip c) (l .inv) (c .loop-test .taken) (Put (set c) _ _ _ _) (put-next (set c) (m c) (member c) (here c))
+
+-- past the loop: all are written
+ended : (c : tie.After-loop Inv-loop μ-loop) → Put (c .before .before .args .set) (c .before .before .args .out .now) (c .before .before .args .at) (c .before .loop .p) (c .before .loop .out) 64
+ended c =
+    let l = c .before .loop in
+    over-end (Put (c .before .before .args .set) _ _ (l .p) (l .out)) 64 (c .before .before .args .set) (l .rest) (put-skip (c .before .before .args .set)) (l .inv)
+    (c .loop-test .left)
 
 same-length : tie.Need-same-length Inv-loop μ-loop
-same-length c = c .before .loop .inv .1
+same-length c = ended c .size
 
 returns : tie.Need-returns Inv-loop μ-loop
-returns c =
-    let s = c .before .before .before .before .args in
-    let l = c .before .loop in
-    let e : l .i ≡ length (masksOf (s .t3)) = (let n = c .before .before .count .ensures in omega arith) in
-    l .inv .2 ∙ ap (sets (s .out .now) (s .at)) (ap (λ (k : ℕ). take k (s .t3 .masks)) e ∙ take-front (s .t3 .n) (s .t3 .masks))
+unfolding members
+returns c = (ended c .is, ended c .place)
 
 pub put-masks-spec : {M : Type 1} → statement M
 put-masks-spec =
@@ -66,13 +86,12 @@ put-masks-spec =
     (tie.spec
     Inv-loop
     μ-loop
-    count-requires
     loop-holds
-    element-copy-out-out
-    add-out
+    cast-out
     slice-write-out
     (λ c. search needs)
-    (λ c. search needs)
+    add-p
+    loop-less
     loop-again
     same-length
     returns)

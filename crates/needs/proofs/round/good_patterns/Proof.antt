@@ -1,85 +1,84 @@
--- `needs::round::good_patterns` meets its contract. The loop goes over the clauses of the set; its invariant: a pattern of the arity is in the set
--- while each clause tried is good under it. Assumes nothing.
+-- `needs::round::good_patterns` meets its contract. The loop goes over the clauses of the set; its invariant: those of the patterns that are left are good
+-- under the clauses passed. Where none is left, none is under all. Assumes nothing.
+use mathlib.Core.Path.{_≡_, subst}
 use mathlib.Core.Bool.{true, false}
-use mathlib.Core.Path.{_≡_}
-use Prim.Native.Nat.{suc, ℕ, _-_, _<_}
+use Prim.Native.Nat.{ℕ, suc, _≤_, _<_}
 use native.Mathlib.Omega.{arith}
-use lib.Bits.{bitAnd}
 use lib.Count.{trailingZeros}
 use borrow.Author.Needs.{needs}
 use Rattle.masks.specs.Set.{bitAt}
 use Rattle.masks.proofs.Laws.Members.{others-less, Over, over-start, over-end, over-lowest, over-member, over-here, over-next}
-use Rattle.needs.proofs.Laws.Trying.{Tried, tried-start, tried-skip, tried-next}
+use Rattle.needs.specs.Round.{Stays}
+use Rattle.needs.proofs.Laws.Trying.{Tried, tried-start, tried-skip, tried-next, tried-none, tried-end}
 use Rattle.needs.proofs.round.good_patterns.Statement.{statement}
 use Rattle.needs.proofs.round.good_patterns.Tie as tie
 
 abbrev Inv-loop : tie.InvT-loop
-Inv-loop arity rules own table set₀ rest₀ set rest = Over (Tried rules arity own table set) 64 own rest
+Inv-loop rules own table had set₀ rest₀ set rest = Over (Tried rules own table had set) 64 own rest
 
 abbrev μ-loop : tie.MeasureT-loop
-μ-loop arity rules own table set₀ rest₀ set rest = rest
-
-of-arity-requires : tie.Need-of-arity-requires Inv-loop μ-loop
-of-arity-requires c κs = c .pre .0
+μ-loop rules own table had set₀ rest₀ set rest = rest
 
 loop-holds : tie.Need-loop-holds Inv-loop μ-loop
 loop-holds c =
-    let s = c .before .args in
-    over-start (Tried (s .rules .now) (s .arity) (s .own) (s .table .now) _) 64 (s .own) (search needs)
-    (tried-start (s .rules .now) (s .arity) (s .own) (s .table .now) (c .of-arity .result) (c .of-arity .ensures))
+    let s = c .args in
+    over-start (Tried (s .rules .now) (s .own) (s .table .now) (s .had) (s .had)) 64 (s .own) (search needs) (tried-start (s .rules .now) (s .own) (s .table .now) (s .had))
 
 -- in a turn: k is the lowest clause of those left
-module _ (c : tie.In-loop Inv-loop μ-loop) where
+module _ (c : tie.Else1 Inv-loop μ-loop) where
   abbrev own : ℕ
   own = c .before .before .before .args .own
 
-  abbrev rest : ℕ
-  rest = c .before .loop .rest
-
-  abbrev tried : ℕ → ℕ → Type 0
-  tried = let s = c .before .before .before .args in Tried (s .rules .now) (s .arity) own (s .table .now)
-
   abbrev k : ℕ
-  k = trailingZeros 64 rest
+  k = trailingZeros 64 (c .before .before .loop .rest)
 
-  abbrev skip : (i : ℕ) → bitAt own i ≡ false → tried (c .before .loop .set) i → tried (c .before .loop .set) (suc i)
-  skip = let s = c .before .before .before .args in tried-skip (s .rules .now) (s .arity) own (s .table .now) (c .before .loop .set)
+  abbrev Here : ℕ → Type 0
+  Here = Tried (c .before .before .before .args .rules .now) own (c .before .before .before .args .table .now) (c .before .before .before .args .had) (c .before .before .loop .set)
+
+  abbrev skip : (i : ℕ) → bitAt own i ≡ false → Here i → Here (suc i)
+  skip =
+      tried-skip (c .before .before .before .args .rules .now) own (c .before .before .before .args .table .now) (c .before .before .before .args .had) (c .before .before .loop .set)
 
   low : k < 64
-  low = over-lowest (tried (c .before .loop .set)) 64 own rest skip (c .before .loop .inv) (c .loop-test .taken) .small
+  low = over-lowest Here 64 own (c .before .before .loop .rest) skip (c .before .before .loop .inv) (c .before .loop-test .taken) .small
 
   member : bitAt own k ≡ true
-  member = over-member (tried (c .before .loop .set)) 64 own rest skip (c .before .loop .inv) (c .loop-test .taken)
-
-  here : tried (c .before .loop .set) k
-  here = over-here (tried (c .before .loop .set)) 64 own rest skip (c .before .loop .inv) (c .loop-test .taken)
-
-  next : (set : ℕ) → tried set (suc k) → Over (tried set) 64 own (bitAnd rest (rest - 1))
-  next set = over-next (tried (c .before .loop .set)) 64 own rest skip (c .before .loop .inv) (c .loop-test .taken) (tried set)
+  member = over-member Here 64 own (c .before .before .loop .rest) skip (c .before .before .loop .inv) (c .before .loop-test .taken)
 
 cast-k : tie.Need-cast-k Inv-loop μ-loop
 cast-k c = let l = low c in omega arith
 
 good-lanes-requires : tie.Need-good-lanes-requires Inv-loop μ-loop
-good-lanes-requires c κs = let l = low c in (omega arith, c .before .before .before .pre .1 (k c) l (member c), c .before .before .before .pre .2)
+good-lanes-requires c κs = let l = low c in (omega arith, c .before .before .before .pre (k c) l (member c))
 
 loop-less : tie.Need-loop-less Inv-loop μ-loop
-loop-less c = others-less (c .before .before .loop .rest) (c .before .loop-test .taken)
+loop-less c = others-less (c .before .before .before .loop .rest) (c .before .before .loop-test .taken)
 
 loop-again : tie.Need-loop-again Inv-loop μ-loop
 loop-again c =
     let d = c .before in
     let s = d .before .before .before .args in
-    next d _
-    (tried-next (s .rules .now) (s .arity) (s .own) (s .table .now) (d .before .before .before .pre .0) (d .before .loop .set) (k d) (c .good-lanes .result) (member d) (c .good-lanes .ensures)
-    (here d))
+    let l = d .before .before .loop in
+    over-next (Here d) 64 (own d) (l .rest) (skip d) (l .inv) (d .before .loop-test .taken) (Tried (s .rules .now) (own d) (s .table .now) (s .had) _)
+    (tried-next (s .rules .now) (own d) (s .table .now) (s .had) (l .set) (k d) _ (member d) (c .good-lanes .ensures)
+    (over-here (Here d) 64 (own d) (l .rest) (skip d) (l .inv) (d .before .loop-test .taken)))
 
+-- nothing is left
 returns : tie.Need-returns Inv-loop μ-loop
 returns c =
     let s = c .before .before .before .args in
+    let l = c .before .before .loop in
+    subst (Stays (s .rules .now) (s .own) (s .table .now) (s .had)) (c .if1 .taken)
+    (tried-end (s .rules .now) (s .own) (s .table .now) (s .had) (l .set) (search needs)
+    (tried-none (s .rules .now) (s .own) (s .table .now) (s .had) (l .set) (l .inv .place) (l .inv .most) (c .if1 .taken) (l .inv .done)))
+
+returns-2 : tie.Need-returns-2 Inv-loop μ-loop
+returns-2 c =
+    let s = c .before .before .args in
     let l = c .before .loop in
-    over-end (Tried (s .rules .now) (s .arity) (s .own) (s .table .now) (l .set)) 64 (s .own) (l .rest)
-    (tried-skip (s .rules .now) (s .arity) (s .own) (s .table .now) (l .set)) (l .inv) (c .loop-test .left)
+    tried-end (s .rules .now) (s .own) (s .table .now) (s .had) (l .set) (search needs)
+    (over-end (Tried (s .rules .now) (s .own) (s .table .now) (s .had) (l .set)) 64 (s .own) (l .rest)
+    (tried-skip (s .rules .now) (s .own) (s .table .now) (s .had) (l .set)) (l .inv) (c .loop-test .left))
 
 pub good-patterns-spec : {M : Type 1} → statement M
 good-patterns-spec =
@@ -87,11 +86,11 @@ good-patterns-spec =
     (tie.spec
     Inv-loop
     μ-loop
-    of-arity-requires
     loop-holds
+    returns
     cast-k
     (λ c. search needs)
     good-lanes-requires
     loop-less
     loop-again
-    returns)
+    returns-2)

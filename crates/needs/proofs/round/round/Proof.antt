@@ -1,79 +1,62 @@
--- `needs::round::round` meets its contract. The loop goes over the predicates due; its invariant: those passed have what the round gives them, the
--- others what they had, and those marked are the ones whose constraint is another. Assumes nothing.
-use mathlib.Core.Path.{_≡_, ap, _∙_}
+-- `needs::round::round` meets its contract. The loop goes over the predicates due; its invariant: those passed have their good patterns, and those
+-- marked have others than before. Assumes nothing.
+use mathlib.Core.Path.{_≡_, sym, ap, _∙_, subst}
 use mathlib.Core.Bool.{true, false}
 use mathlib.Core.List.{List}
-use Prim.Native.Nat.{suc, _^_, ℕ, _-_, _≤_, _<_}
-use native.Mathlib.Nat.{pow-le-pow-right}
+use Prim.Native.Nat.{ℕ, suc, _-_, _<_}
 use native.Mathlib.Omega.{arith}
 use lib.Bits.{bitAnd}
 use lib.Count.{trailingZeros}
-use lib.ListN.{getD}
+use lib.ListN.{length}
 use borrow.Author.Needs.{needs}
-use Rattle.masks.specs.Constraint.{written}
-use Rattle.masks.specs.Held.{masksOf}
 use Rattle.masks.specs.Set.{bitAt}
-use Rattle.masks.proofs.Laws.Held.{masksOf-packed}
 use Rattle.masks.proofs.Laws.Members.{others-less, Over, over-start, over-end, over-lowest, over-member, over-here, over-next}
-use Rattle.needs.proofs.Laws.AtRound.{rounding-end}
-use Rattle.needs.proofs.Laws.Rounding.{given-arity, given-callable, given-written, Rounding, rounding-start, rounding-skip, rounding-same, rounding-new}
+use Rattle.needs.proofs.Laws.Rounding.{given-callable, Rounding, rounding-start, rounding-skip, rounding-same, rounding-new, rounding-end, rounding-still}
 use Rattle.needs.proofs.round.round.Statement.{statement}
 use Rattle.needs.proofs.round.round.Tie as tie
 
 abbrev Inv-loop : tie.InvT-loop
-Inv-loop arities rules own due old new₀ changed₀ rest₀ new changed rest = Over (Rounding arities rules own (old .needs) due (new .needs) changed) 64 due rest
+Inv-loop rules own table due old words₀ changed₀ rest₀ words changed rest = Over (Rounding rules own table old due words changed) 64 due rest
 
 abbrev μ-loop : tie.MeasureT-loop
-μ-loop arities rules own due old new₀ changed₀ rest₀ new changed rest = rest
+μ-loop rules own table due old words₀ changed₀ rest₀ words changed rest = rest
 
 loop-holds : tie.Need-loop-holds Inv-loop μ-loop
-loop-holds c = over-start (Rounding (c .args .arities .now) (c .args .rules .now) (c .args .own .now) (c .args .t4 .needs) (c .args .due) _ 0) 64 (c .args .due) (search needs) (rounding-start (c .args .arities .now) (c .args .rules .now) (c .args .own .now) (c .args .t4 .needs) (c .args .due) (c .pre .2))
+loop-holds c =
+    let s = c .before .args in
+    let e = c .before .pre .1 in
+    over-start (Rounding (s .rules .now) (s .own .now) (s .table .now) (s .t4) (s .due) (s .new .now) 0) 64 (s .due) (search needs)
+    (subst (λ (l : List ℕ). Rounding (s .rules .now) (s .own .now) (s .table .now) (s .t4) (s .due) l 0 0) (sym e)
+    (rounding-start (s .rules .now) (s .own .now) (s .table .now) (s .t4) (s .due) (ap length (sym e) ∙ c .words .given .0 .1)))
 
--- in a turn: p is the lowest predicate of those due that are left
+-- in a turn: p is the lowest of those left
 module _ (c : tie.In-loop Inv-loop μ-loop) where
-  abbrev arities : List ℕ
-  arities = c .before .before .args .arities .now
-
-  abbrev rules : List ℕ
-  rules = c .before .before .args .rules .now
-
-  abbrev own : List ℕ
-  own = c .before .before .args .own .now
-
-  abbrev old : List ℕ
-  old = c .before .before .args .t4 .needs
-
   abbrev due : ℕ
-  due = c .before .before .args .due
+  due = c .before .before .before .args .due
 
   abbrev p : ℕ
   p = trailingZeros 64 (c .before .loop .rest)
 
-  abbrev rounding : ℕ → Type 0
-  rounding = Rounding arities rules own old due (c .before .loop .new .needs) (c .before .loop .changed)
+  abbrev Round : List ℕ → ℕ → ℕ → Type 0
+  Round = let s = c .before .before .before .args in Rounding (s .rules .now) (s .own .now) (s .table .now) (s .t4) due
 
-  abbrev skip : (i : ℕ) → bitAt due i ≡ false → rounding i → rounding (suc i)
-  skip = rounding-skip arities rules own old due (c .before .loop .new .needs) (c .before .loop .changed)
+  abbrev Here : ℕ → Type 0
+  Here = Round (c .before .loop .words) (c .before .loop .changed)
+
+  abbrev skip : (i : ℕ) → bitAt due i ≡ false → Here i → Here (suc i)
+  skip = let s = c .before .before .before .args in rounding-skip (s .rules .now) (s .own .now) (s .table .now) (s .t4) due (c .before .loop .words) (c .before .loop .changed)
 
   low : p < 64
-  low = over-lowest rounding 64 due (c .before .loop .rest) skip (c .before .loop .inv) (c .loop-test .taken) .small
+  low = over-lowest Here 64 due (c .before .loop .rest) skip (c .before .loop .inv) (c .loop-test .taken) .small
 
   member : bitAt due p ≡ true
-  member = over-member rounding 64 due (c .before .loop .rest) skip (c .before .loop .inv) (c .loop-test .taken)
+  member = over-member Here 64 due (c .before .loop .rest) skip (c .before .loop .inv) (c .loop-test .taken)
 
-  here : rounding p
-  here = over-here rounding 64 due (c .before .loop .rest) skip (c .before .loop .inv) (c .loop-test .taken)
+  here : Here p
+  here = over-here Here 64 due (c .before .loop .rest) skip (c .before .loop .inv) (c .loop-test .taken)
 
-  next : (new : List ℕ) (changed : ℕ) → Rounding arities rules own old due new changed (suc p)
-      → Over (Rounding arities rules own old due new changed) 64 due (bitAnd (c .before .loop .rest) (c .before .loop .rest - 1))
-  next new changed =
-      over-next rounding 64 due (c .before .loop .rest) skip (c .before .loop .inv) (c .loop-test .taken) (Rounding arities rules own old due new changed)
-
-  arity-few : getD arities p 0 ≤ 6
-  arity-few = let r = c .before .before .pre in given-arity (r .0) arities rules own (r .1) p (r .3 .defined· p member)
-
-  few : 2 ^ getD arities p 0 ≤ 64
-  few = pow-le-pow-right (omega arith) arity-few
+  next : (words : List ℕ) (changed : ℕ) → Round words changed (suc p) → Over (Round words changed) 64 due (bitAnd (c .before .loop .rest) (c .before .loop .rest - 1))
+  next words changed = over-next Here 64 due (c .before .loop .rest) skip (c .before .loop .inv) (c .loop-test .taken) (Round words changed)
 
 cast-p : tie.Need-cast-p Inv-loop μ-loop
 cast-p c = let l = low c in omega arith
@@ -81,71 +64,92 @@ cast-p c = let l = low c in omega arith
 cast-q : tie.Need-cast-q Inv-loop μ-loop
 cast-q c = let l = low c in omega arith
 
+mul-good-patterns : tie.Need-mul-good-patterns Inv-loop μ-loop
+mul-good-patterns c = let l = low c in omega arith
+
 element-copy-out-good-patterns : tie.Need-element-copy-out-good-patterns Inv-loop μ-loop
 element-copy-out-good-patterns c = let l = low c in omega arith
 
-mul-good-patterns : tie.Need-mul-good-patterns Inv-loop μ-loop
-mul-good-patterns c = let l = low (c .before) in omega arith
+mul-good-patterns-2 : tie.Need-mul-good-patterns-2 Inv-loop μ-loop
+mul-good-patterns-2 c = let l = low (c .before) in omega arith
 
-element-copy-out-good-patterns-2 : tie.Need-element-copy-out-good-patterns-2 Inv-loop μ-loop
-element-copy-out-good-patterns-2 c = let l = low (c .before) in omega arith
+array-read-good-patterns : tie.Need-array-read-good-patterns Inv-loop μ-loop
+array-read-good-patterns c = let l = low (c .before) in omega arith
 
 good-patterns-requires : tie.Need-good-patterns-requires Inv-loop μ-loop
 good-patterns-requires c κs =
-    let d = c .before .before .before .before in
-    let r = d .before .before .pre in
-    (arity-few d, given-callable (r .0) (arities d) (rules d) (own d) (r .1) (p d) (low d), search (r .2, here d .low))
+    let d = c .before in
+    let s = d .before .before .before .args in
+    let r = d .before .before .before .pre .0 in
+    given-callable (r .0) (s .rules .now) (s .own .now) (r .1) (p d) (low d)
 
-masks-at-requires : tie.Need-masks-at-requires Inv-loop μ-loop
-masks-at-requires c κs = let l = low (c .before .before .before .before .before .before .before) in omega arith
+mul-if1 : tie.Need-mul-if1 Inv-loop μ-loop
+mul-if1 c = let l = low (c .before .before) in omega arith
 
-element-copy-out-admitted : tie.Need-element-copy-out-admitted Inv-loop μ-loop
-element-copy-out-admitted c = let l = low (c .before .before .before .before .before .before .before .before) in omega arith
+array-read-if1 : tie.Need-array-read-if1 Inv-loop μ-loop
+array-read-if1 c = let l = low (c .before .before) in omega arith
 
-admitted-requires : tie.Need-admitted-requires Inv-loop μ-loop
-admitted-requires c κs =
-    let d = c .before .before .before .before .before .before .before .before .before in
-    (arity-few d, rw (c .before .masks-at .ensures) (d .before .before .pre .2 (p d) (low d)))
+mul-words : tie.Need-mul-words Inv-loop μ-loop
+mul-words c = let l = low (c .before .before .before) in omega arith
 
-written-requires : tie.Need-written-requires Inv-loop μ-loop
-written-requires c κs = search needs
-
-put-mode-requires : tie.Need-put-mode-requires Inv-loop μ-loop
-put-mode-requires c κs = let l = low (c .before .before .before .before .before .before .before .before .before .before .before .before .before) in omega arith
+slice-write-words : tie.Need-slice-write-words Inv-loop μ-loop
+slice-write-words c = let l = low (c .before .before .before) in let s = here (c .before .before .before) .size in omega arith
 
 with-member-requires : tie.Need-with-member-requires Inv-loop μ-loop
-with-member-requires c κs = let l = low (c .before .before .before .before .before .before .before .before .before .before .before .before .before .before) in omega arith
+with-member-requires c κs = low (c .before .before .before)
 
 loop-less : tie.Need-loop-less Inv-loop μ-loop
-loop-less c = let d = c .before .before .before .before .before .before .before .before .before .before .before .before .before .before .before in others-less (d .before .loop .rest) (d .loop-test .taken)
+loop-less c = let d = c .before .before .before .before in others-less (d .before .loop .rest) (d .loop-test .taken)
 
 loop-again : tie.Need-loop-again Inv-loop μ-loop
 loop-again c =
-    let d = c .before .before .before .before .before .before .before .before .before .before .before .before .before .before .before in
-    let gives = ap masksOf (c .before .before .before .written .ensures) ∙ masksOf-packed (written (bitAt (c .before .before .before .before .before .before .before .before .before .before .good-patterns .result)) 64) in
-    next d _ _
-    (rounding-new (arities d) (rules d) (own d) (old d) (due d) (d .before .loop .new .needs) (d .before .loop .changed) (p d) (member d) (here d) (few d)
-    (c .before .before .before .before .before .before .before .before .before .before .good-patterns .ensures) (rw (← c .before .before .before .before .before .before .before .masks-at .ensures) (c .before .before .before .before .before .admitted .ensures)) (c .before .before .before .before .if1 .taken) gives (c .before .put-mode .ensures) (c .with-member .ensures))
+    let d = c .before .before .before .before in
+    let s = d .before .before .before .args in
+    let l = d .before .loop in
+    rw (c .with-member .ensures)
+    (next d _ _
+    (rounding-new (s .rules .now) (s .own .now) (s .table .now) (s .t4) (s .due) (l .words) (l .changed) (p d) _ (member d) (c .before .before .good-patterns .ensures)
+    (here d) (low d) (c .before .if1 .taken)))
 
 loop-less-2 : tie.Need-loop-less-2 Inv-loop μ-loop
-loop-less-2 c = let d = c .before .before .before .before .before .before .before .before .before .before .before in others-less (d .before .loop .rest) (d .loop-test .taken)
+loop-less-2 c = let d = c .before .before .before in others-less (d .before .loop .rest) (d .loop-test .taken)
 
 loop-again-2 : tie.Need-loop-again-2 Inv-loop μ-loop
 loop-again-2 c =
-    let d = c .before .before .before .before .before .before .before .before .before .before .before in
-    let r = d .before .before .pre in
+    let d = c .before .before .before in
+    let s = d .before .before .before .args in
+    let l = d .before .loop in
     next d _ _
-    (rounding-same (arities d) (rules d) (own d) (old d) (due d) (d .before .loop .new .needs) (d .before .loop .changed) (p d) (member d) (here d) (few d)
-    (c .before .before .before .before .before .before .good-patterns .ensures) (rw (← c .before .before .before .masks-at .ensures) (c .before .admitted .ensures))
-    (given-written (r .0) (arities d) (rules d) (own d) (r .1) (old d) (r .3) (p d) (member d)) (c .if1 .left))
+    (rounding-same (s .rules .now) (s .own .now) (s .table .now) (s .t4) (s .due) (l .words) (l .changed) (p d) _ (member d) (c .before .good-patterns .ensures)
+    (here d) (c .if1 .left))
+
+-- past the loop: all that are due are done
+ended : (c : tie.After-loop Inv-loop μ-loop)
+    → Rounding (c .before .before .before .args .rules .now) (c .before .before .before .args .own .now) (c .before .before .before .args .table .now) (c .before .before .before .args .t4) (c .before .before .before .args .due)
+    (c .before .loop .words) (c .before .loop .changed) 64
+ended c =
+    let s = c .before .before .before .args in
+    let l = c .before .loop in
+    over-end (Rounding (s .rules .now) (s .own .now) (s .table .now) (s .t4) (s .due) (l .words) (l .changed)) 64 (s .due) (l .rest)
+    (rounding-skip (s .rules .now) (s .own .now) (s .table .now) (s .t4) (s .due) (l .words) (l .changed)) (l .inv) (c .loop-test .left)
+
+same-requires : tie.Need-same-requires Inv-loop μ-loop
+same-requires c κs = ended (c .before .before) .size
 
 returns : tie.Need-returns Inv-loop μ-loop
 returns c =
-    let s = c .before .before .args in
-    let l = c .before .loop in
-    let r = over-end (Rounding (s .arities .now) (s .rules .now) (s .own .now) (s .t4 .needs) (s .due) (l .new .needs) (l .changed)) 64 (s .due) (l .rest)
-    (rounding-skip (s .arities .now) (s .rules .now) (s .own .now) (s .t4 .needs) (s .due) (l .new .needs) (l .changed)) (l .inv) (c .loop-test .left) in
-    λ B g d. rounding-end B (s .arities .now) (s .rules .now) (s .own .now) (s .t4 .needs) (s .due) g r d
+    let d = c .before .before .before .before in
+    let s = d .before .before .before .args in
+    let r = d .before .before .before .pre .0 in
+    λ B g u.
+    rounding-still (s .rules .now) (s .own .now) (s .table .now) (s .t4) (s .due) B g (r .2) u (ended d) (c .before .same .ensures .same· (c .if2 .taken))
+
+returns-2 : tie.Need-returns-2 Inv-loop μ-loop
+returns-2 c =
+    let d = c .before .before .before .before in
+    let s = d .before .before .before .args in
+    let r = d .before .before .before .pre .0 in
+    λ B g u. rounding-end (s .rules .now) (s .own .now) (s .table .now) (s .t4) (s .due) B g (r .2) u (ended d)
 
 pub round-spec : {M : Type 1} → statement M
 round-spec =
@@ -157,18 +161,20 @@ round-spec =
     cast-p
     (λ c. search needs)
     cast-q
-    element-copy-out-good-patterns
     mul-good-patterns
-    element-copy-out-good-patterns-2
+    element-copy-out-good-patterns
+    mul-good-patterns-2
+    array-read-good-patterns
     good-patterns-requires
-    masks-at-requires
-    element-copy-out-admitted
-    admitted-requires
-    written-requires
-    put-mode-requires
+    mul-if1
+    array-read-if1
+    mul-words
+    slice-write-words
     with-member-requires
     loop-less
     loop-again
     loop-less-2
     loop-again-2
-    returns)
+    same-requires
+    returns
+    returns-2)

@@ -17,13 +17,13 @@ abbrev μ-loop : tie.MeasureT-loop
 
 loop-holds : tie.Need-loop-holds Inv-loop μ-loop
 unfolding clauseRows
-loop-holds c = members-start (search needs) (c .before .pre .1)
+loop-holds c = members-start (search needs) (c .before .pre .2)
 
 cast-k : tie.Need-cast-k Inv-loop μ-loop
 cast-k c = let l = members-low (c .before .loop .inv) (c .loop-test .taken) in omega arith
 
 put-row-requires : tie.Need-put-row-requires Inv-loop μ-loop
-put-row-requires c κs = let m = c .before .before .loop .inv in let l = members-low m (c .before .loop-test .taken) in (l, c .before .before .before .before .pre .0 _ l (members-member m (c .before .loop-test .taken)), members-room m (c .before .loop-test .taken))
+put-row-requires c κs = let m = c .before .before .loop .inv in let l = members-low m (c .before .loop-test .taken) in (l, c .before .before .before .before .pre .0 _ l (members-member m (c .before .loop-test .taken)), c .before .before .before .before .pre .1, members-room m (c .before .loop-test .taken))
 
 loop-less : tie.Need-loop-less Inv-loop μ-loop
 loop-less c = others-less (c .before .before .before .before .before .loop .rest) (c .before .before .before .before .loop-test .taken)

@@ -16,13 +16,13 @@ abbrev μ-loop : tie.MeasureT-loop
 
 loop-holds : tie.Need-loop-holds Inv-loop μ-loop
 unfolding patternRows
-loop-holds c = members-start (search needs) (c .before .pre .1)
+loop-holds c = members-start (search needs) (c .before .pre .2)
 
 cast-a : tie.Need-cast-a Inv-loop μ-loop
 cast-a c = let l = members-low (c .before .loop .inv) (c .loop-test .taken) in omega arith
 
 put-clauses-requires : tie.Need-put-clauses-requires Inv-loop μ-loop
-put-clauses-requires c κs = (c .before .before .before .before .pre .0, members-room (c .before .before .loop .inv) (c .before .loop-test .taken))
+put-clauses-requires c κs = (c .before .before .before .before .pre .0, c .before .before .before .before .pre .1, members-room (c .before .before .loop .inv) (c .before .loop-test .taken))
 
 loop-less : tie.Need-loop-less Inv-loop μ-loop
 loop-less c = others-less (c .before .before .before .before .before .loop .rest) (c .before .before .before .before .loop-test .taken)

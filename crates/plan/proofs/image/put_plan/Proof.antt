@@ -26,14 +26,14 @@ abbrev μ-loop : tie.MeasureT-loop
 
 put-query-requires : tie.Need-put-query-requires Inv-loop μ-loop
 unfolding planBytes
-put-query-requires c κs = let s = c .before .before .args in room-first (s .out .now) 0 (encQuery (placesOf (s .query))) (joined (rows (s .rules .now) (s .table .now) (s .own .now) (s .reached .now)) (s .preds)) (c .before .before .pre .2)
+put-query-requires c κs = let s = c .before .before .args in room-first (s .out .now) 0 (encQuery (placesOf (s .query))) (joined (rows (s .rules .now) (s .table .now) (s .own .now) (s .reached .now)) (s .preds)) (c .before .before .pre .3)
 
 loop-holds : tie.Need-loop-holds Inv-loop μ-loop
 unfolding planBytes
 loop-holds c =
     let s = c .before .before .before .before .before .args in
     let chunk = rows (s .rules .now) (s .table .now) (s .own .now) (s .reached .now) in
-    writing-start (joined-chunks chunk (s .preds)) (room-second (joined chunk (s .preds)) (c .before .before .put-query .ensures) (c .before .before .before .before .before .pre .2))
+    writing-start (joined-chunks chunk (s .preds)) (room-second (joined chunk (s .preds)) (c .before .before .put-query .ensures) (c .before .before .before .before .before .pre .3))
 
 cast-q : tie.Need-cast-q Inv-loop μ-loop
 cast-q c = omega arith
@@ -51,7 +51,7 @@ element-copy-out-put-patterns-2 : tie.Need-element-copy-out-put-patterns-2 Inv-l
 element-copy-out-put-patterns-2 c = omega arith
 
 put-patterns-requires : tie.Need-put-patterns-requires Inv-loop μ-loop
-put-patterns-requires c κs = (c .before .before .before .before .before .before .before .before .before .before .pre .1 _, writing-room (c .before .before .before .before .loop .inv) (omega arith))
+put-patterns-requires c κs = let s = c .before .before .before .before .before .before .before .before .before .before .pre in (s .1 _ (omega arith), s .2, writing-room (c .before .before .before .before .loop .inv) (omega arith))
 
 add-p : tie.Need-add-p Inv-loop μ-loop
 add-p c = omega arith

@@ -33,14 +33,14 @@ put-byte-requires-2 c κs = search needs
 
 -- the row of the order found
 row : (c : tie.After-first-order) → let s = c .before .before .before .before .args in let σ = placesOf (c .first-order .result) in 67 ∷ 79 ∷ s .k ∷ s .a ∷ length σ ∷ σ ≡ encRow (rowBy (s .rules .now) (s .table .now) (s .k) (s .a))
-row c = let s = c .before .before .before .before .args in row-found (s .rules .now) (s .table .now) (s .k) (s .a) (c .before .before .head-at .result) (c .first-order .result) (c .before .before .head-at .ensures) (c .before .head-bound .ensures) (c .first-order .ensures .0)
+row c = let s = c .before .before .before .before .args in row-found (s .rules .now) (s .table .now) (s .k) (s .a) (c .before .before .head-at .result) (c .before .head-bound .result) (c .first-order .result) (c .before .before .head-at .ensures) (c .before .head-bound .ensures) (c .first-order .ensures .0)
 
 put-order-requires : tie.Need-put-order-requires
 put-order-requires c κs =
     let found = c .before .before .before .before .before .before .before .before .before .before .before .before .before .before in
     let σ = placesOf (found .first-order .result) in
     let e = ap length (row found) in
-    let r = c .before .before .before .before .before .before .before .before .before .before .before .before .before .before .before .before .before .before .pre .2 in
+    let r = c .before .before .before .before .before .before .before .before .before .before .before .before .before .before .before .before .before .before .pre .3 in
     room-second (length σ ∷ σ) (wrote-append (c .before .before .before .before .before .before .before .before .before .before .before .put-mark .ensures) (wrote-append (c .before .before .before .before .before .before .before .put-byte .ensures) (c .before .before .before .put-byte2 .ensures))) (omega arith)
 
 same-length : tie.Need-same-length

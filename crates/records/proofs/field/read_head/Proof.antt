@@ -1,21 +1,67 @@
--- `records::field::read_head` meets its contract. The fields of a record stand after its mark. Assumes nothing.
+-- `records::field::read_head` meets its contract. A fault of the call comes first; then whether its predicate has MO. Assumes nothing.
+use mathlib.Core.Path.{sym, _∙_}
+use Prim.Native.Nat.{_+_}
+use native.Mathlib.Omega.{arith}
 use borrow.Author.Needs.{needs}
-use Rattle.book.specs.Format.{headFields}
-use Rattle.records.proofs.Laws.Reads.{fields-read}
+use Rattle.records.proofs.Laws.Calls.{called-below, head-faulty, head-clash, head-owns}
 use Rattle.records.proofs.field.read_head.Statement.{statement}
 use Rattle.records.proofs.field.read_head.Tie as tie
 
-read-owner-requires : tie.Need-read-owner-requires
-read-owner-requires c κs = search needs
+add-read-call : tie.Need-add-read-call
+add-read-call c = search needs
+
+read-call-requires : tie.Need-read-call-requires
+read-call-requires c κs = search needs
+
+enum-told : tie.Need-enum-told
+enum-told c = search needs
 
 in-record-requires : tie.Need-in-record-requires
 in-record-requires c κs = search needs
 
+enum-known-g : tie.Need-enum-known-g
+enum-known-g c = search needs
+
+has-member-requires : tie.Need-has-member-requires
+has-member-requires c κs =
+    let args = c .before .before .before .before .before .before .args in
+    let pre = c .before .before .before .before .before .before .pre in
+    let read-call = c .before .before .before .read-call in
+    let h = called-below _ (args .ar .now) (args .s .now) (args .at + 2) (read-call .ensures) (c .before .g .given .1) in let f = pre .1 .few in omega arith
+
 returns : tie.Need-returns
 returns c =
-    let pre = c .before .before .before .before .before .pre in
-    let read-owner = c .before .before .read-owner in
-    rw (c .in-record .ensures) (fields-read (headFields _ _) _ _ (pre .0) (read-owner .ensures))
+    let args = c .before .before .before .before .before .before .before .before .args in
+    let pre = c .before .before .before .before .before .before .before .before .pre in
+    let read-call = c .before .before .before .before .before .read-call in
+    let g = c .before .before .before .g in
+    head-clash (args .ar .now) (args .s .now) _ (args .at) (pre .0) (read-call .ensures) (g .given .1) (sym (c .before .has-member .ensures) ∙ c .if1 .taken)
+
+returns-2 : tie.Need-returns-2
+returns-2 c =
+    let args = c .before .before .before .before .before .before .args in
+    let pre = c .before .before .before .before .before .before .pre in
+    let read-call = c .before .before .before .read-call in
+    head-faulty _ _ _ (args .at) (pre .0) (read-call .ensures) (c .before .enum-told .given .1) (c .in-record .ensures)
+
+returns-3 : tie.Need-returns-3
+returns-3 c =
+    let args = c .before .before .before .before .before .before .before .before .args in
+    let pre = c .before .before .before .before .before .before .before .before .pre in
+    let read-call = c .before .before .before .before .before .read-call in
+    let g = c .before .before .before .g in
+    head-owns _ _ _ (args .at) (pre .0) (read-call .ensures) (g .given .1) (sym (c .before .has-member .ensures) ∙ c .if1 .left)
 
 pub read-head-spec : {M : Type 1} → statement M
-read-head-spec = tie.close (tie.spec (λ c. search needs) read-owner-requires in-record-requires returns)
+read-head-spec =
+    tie.close
+    (tie.spec
+    add-read-call
+    read-call-requires
+    enum-told
+    in-record-requires
+    enum-known-g
+    has-member-requires
+    returns
+    returns-2
+    returns-3)

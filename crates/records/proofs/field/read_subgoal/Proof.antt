@@ -4,6 +4,9 @@ use Rattle.records.proofs.Laws.Reads.{subgoal-reads}
 use Rattle.records.proofs.field.read_subgoal.Statement.{statement}
 use Rattle.records.proofs.field.read_subgoal.Tie as tie
 
+add-read-call : tie.Need-add-read-call
+add-read-call c = search needs
+
 read-call-requires : tie.Need-read-call-requires
 read-call-requires c κs = search needs
 
@@ -12,10 +15,9 @@ in-record-requires c κs = search needs
 
 returns : tie.Need-returns
 returns c =
-    let pre = c .before .before .before .before .before .pre in
-    let read-call = c .before .before .read-call in
-    rw (c .in-record .ensures) (subgoal-reads _ _ _ (pre .0) (read-call .ensures))
+    let pre = c .before .before .before .before .pre in
+    rw (c .in-record .ensures) (subgoal-reads _ _ _ (pre .0) (c .before .read-call .ensures .reads))
 
 pub read-subgoal-spec : {M : Type 1} → statement M
 read-subgoal-spec =
-    tie.close (tie.spec (λ c. search needs) read-call-requires in-record-requires returns)
+    tie.close (tie.spec add-read-call read-call-requires in-record-requires returns)

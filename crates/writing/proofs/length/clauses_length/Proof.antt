@@ -1,19 +1,20 @@
 -- `writing::length::clauses_length` meets its contract. The loop's invariant: the total is the length of the first k clauses. Assumes nothing.
 use mathlib.Core.Path.{ap}
-use Prim.Native.Nat.{min, _-_}
+use Prim.Native.Nat.{min, _+_, _-_, _*_}
 use native.Mathlib.Omega.{arith}
 use lib.ListN.{length}
 use borrow.Author.Needs.{needs}
-use Rattle.book.specs.Book.{Clause}
-use Rattle.book.specs.Encode.{encClause}
-use Rattle.book.specs.Held.{clauseOf}
+use Rattle.masks.specs.Limits.{maxArity}
+use Rattle.book.specs.Limits.{maxClauses, maxSubgoals}
+use Rattle.book.specs.Book.{Call}
+use Rattle.book.specs.Held.{clauseAt}
 use Rattle.writing.proofs.Laws.Chunks.{Measuring, measuring-start, measuring-next, measuring-end}
 use Rattle.writing.proofs.Laws.Runs.{clausesTo, clauseBytesAt, clauses-chunks, clause-length}
 use Rattle.writing.proofs.length.clauses_length.Statement.{statement}
 use Rattle.writing.proofs.length.clauses_length.Tie as tie
 
 abbrev Inv-loop : tie.InvT-loop
-Inv-loop clauses rules n total₀ k₀ total k = Measuring n (clausesTo rules) (clauseBytesAt rules) (clausesTo rules (min clauses 64)) 81 k total
+Inv-loop clauses rules n total₀ k₀ total k = Measuring n (clausesTo rules) (clauseBytesAt rules) (clausesTo rules (min clauses maxClauses)) (3 + maxArity + maxSubgoals * (3 + maxArity)) k total
 
 abbrev μ-loop : tie.MeasureT-loop
 μ-loop clauses rules n total₀ k₀ total k = n - k
@@ -22,12 +23,10 @@ least-requires : tie.Need-least-requires Inv-loop μ-loop
 least-requires c κs = search needs
 
 loop-holds : tie.Need-loop-holds Inv-loop μ-loop
-loop-holds c =
-    let s = c .before .args in
-    measuring-start (clauses-chunks (s .rules .now) (min (s .clauses) 64) (omega arith))
+loop-holds c = measuring-start (clauses-chunks (c .before .args .rules .now) (min (c .before .args .clauses) maxClauses) (omega arith))
 
-clause-at-requires : tie.Need-clause-at-requires Inv-loop μ-loop
-clause-at-requires c κs = search needs
+head-at-requires : tie.Need-head-at-requires Inv-loop μ-loop
+head-at-requires c κs = omega arith
 
 arguments-requires : tie.Need-arguments-requires Inv-loop μ-loop
 arguments-requires c κs = search needs
@@ -36,7 +35,7 @@ add-total : tie.Need-add-total Inv-loop μ-loop
 add-total c = omega arith
 
 body-length-requires : tie.Need-body-length-requires Inv-loop μ-loop
-body-length-requires c κs = search needs
+body-length-requires c κs = omega arith
 
 add-total-2 : tie.Need-add-total-2 Inv-loop μ-loop
 add-total-2 c = omega arith
@@ -52,12 +51,11 @@ loop-less c = omega arith
 
 loop-again : tie.Need-loop-again Inv-loop μ-loop
 loop-again c =
-    let r = c .before .before .before .clause-at in
-    let l = clause-length (clauseOf (r .result)) in
-    let e = ap (λ (x : Clause). length (encClause x)) (r .ensures) in
+    let l = clause-length (clauseAt (c .before .before .before .before .before .before .args .rules .now) (c .before .before .before .before .loop .k)) in
+    let e = ap (λ (x : Call). length (x .args)) (c .before .before .head-at .ensures) in
     let f = c .before .arguments .ensures .0 in
     let g = c .body-length .ensures .0 in
-    measuring-next (c .before .before .before .before .before .loop .inv) (omega arith) (omega arith) (omega arith)
+    measuring-next (c .before .before .before .before .loop .inv) (omega arith) (omega arith) (omega arith)
 
 returns : tie.Need-returns Inv-loop μ-loop
 returns c = (measuring-end (c .before .loop .inv) (omega arith), omega arith)
@@ -70,7 +68,7 @@ clauses-length-spec =
     μ-loop
     least-requires
     loop-holds
-    clause-at-requires
+    head-at-requires
     arguments-requires
     add-total
     body-length-requires

@@ -1,69 +1,60 @@
--- `writing::length::modes_length` meets its contract. The loop's invariant: the total is the length of the `MO` of the first p predicates. Assumes nothing.
+-- `writing::length::modes_length` meets its contract. The loop's invariant: the total is the length of the `MO` of the predicates passed. Assumes nothing.
 use mathlib.Core.Path.{sym, ap, _∙_}
-use mathlib.Core.Logic.{⊎-elim}
-use Prim.Native.Nat.{_-_}
+use Prim.Native.Nat.{_+_}
 use native.Mathlib.Omega.{arith}
+use lib.Count.{trailingZeros}
 use lib.ListN.{length}
 use borrow.Author.Needs.{needs}
-use Rattle.writing.proofs.Laws.Chunks.{Measuring, measuring-start, measuring-next, measuring-none, measuring-end}
-use Rattle.writing.proofs.Laws.Runs.{modesTo, modeBytesAt, modes-chunks, mode-some, mode-none, mode-few}
+use Rattle.masks.specs.Limits.{maxMasks}
+use Rattle.masks.proofs.Laws.Members.{others-less}
+use Rattle.book.specs.Limits.{maxPredicates}
+use Rattle.writing.proofs.Laws.Members.{Measured, measured-start, measured-end, measured-low, measured-small, measured-next}
+use Rattle.writing.proofs.Laws.Runs.{modeBytesAt, modes-members, mode-few}
 use Rattle.writing.proofs.length.modes_length.Statement.{statement}
 use Rattle.writing.proofs.length.modes_length.Tie as tie
 
 abbrev Inv-loop : tie.InvT-loop
-Inv-loop modes total₀ p₀ total p = Measuring 64 (modesTo modes) (modeBytesAt modes) (modesTo modes 64) 24 p total
+Inv-loop modes given total₀ rest₀ total rest = Measured maxPredicates given (modeBytesAt modes) (4 + maxMasks) rest total
 
 abbrev μ-loop : tie.MeasureT-loop
-μ-loop modes total₀ p₀ total p = 64 - p
+μ-loop modes given total₀ rest₀ total rest = rest
 
 loop-holds : tie.Need-loop-holds Inv-loop μ-loop
-loop-holds c = measuring-start (modes-chunks (c .args .modes .now) 64)
+loop-holds c = measured-start (search needs)
 
-has-mode-requires : tie.Need-has-mode-requires Inv-loop μ-loop
-has-mode-requires c κs = search needs
+cast-p : tie.Need-cast-p Inv-loop μ-loop
+cast-p c = let l = measured-low (c .before .loop .inv) (c .loop-test .taken) in omega arith
 
-mode-at-requires : tie.Need-mode-at-requires Inv-loop μ-loop
-mode-at-requires c κs = search needs
+sub-rest : tie.Need-sub-rest Inv-loop μ-loop
+sub-rest c = omega arith
 
-count-requires : tie.Need-count-requires Inv-loop μ-loop
-count-requires c κs = search needs
+masks-at-requires : tie.Need-masks-at-requires Inv-loop μ-loop
+masks-at-requires c κs = measured-low (c .before .loop .inv) (c .loop-test .taken)
 
 add-total : tie.Need-add-total Inv-loop μ-loop
-add-total c =
-    let modes = c .before .before .before .before .before .before .args .modes .now in
-    let n = c .count .ensures in
-    let few = mode-few modes (c .before .before .before .before .before .loop .p) (c .before .mode-at .ensures) in
-    omega arith
+add-total c = let f = mode-few (c .before .before .before .args .modes .now) (trailingZeros maxPredicates (c .before .before .loop .rest)) (c .masks-at .ensures) in omega arith
 
 add-total-2 : tie.Need-add-total-2 Inv-loop μ-loop
 add-total-2 c =
-    let modes = c .before .before .before .before .before .before .args .modes .now in
-    let n = c .count .ensures in
-    let few = mode-few modes (c .before .before .before .before .before .loop .p) (c .before .mode-at .ensures) in
+    let f = mode-few (c .before .before .before .args .modes .now) (trailingZeros maxPredicates (c .before .before .loop .rest)) (c .masks-at .ensures) in
+    let l = measured-low (c .before .before .loop .inv) (c .before .loop-test .taken) in
+    let s = measured-small (c .before .before .loop .inv) (c .before .loop-test .taken) in
     omega arith
 
-add-p : tie.Need-add-p Inv-loop μ-loop
-add-p c = omega arith
-
 loop-less : tie.Need-loop-less Inv-loop μ-loop
-loop-less c = omega arith
+loop-less c = others-less (c .before .before .loop .rest) (c .before .loop-test .taken)
 
 loop-again : tie.Need-loop-again Inv-loop μ-loop
 loop-again c =
-    let l = c .before .before .before .loop in
-    let modes = c .before .before .before .before .args .modes .now in
-    let has = sym (c .before .has-mode .ensures) in
-    ⊎-elim
-    (λ w.
-    let n = w .2 .ensures in
-    let few = mode-few modes (l .p) (w .1 .ensures) in
-    let size = ap length (mode-some modes (l .p) (has ∙ w .0 .taken) (w .1 .ensures)) in
-    measuring-next (l .inv) (omega arith) (omega arith) (omega arith))
-    (λ w. rw (w .1) (measuring-none (l .inv) (omega arith) (mode-none modes (l .p) (has ∙ w .0 .left))))
-    (c .if1 .came)
+    let e = ap length (c .masks-at .ensures) in
+    let f = mode-few (c .before .before .before .args .modes .now) (trailingZeros maxPredicates (c .before .before .loop .rest)) (c .masks-at .ensures) in
+    measured-next (c .before .before .loop .inv) (c .before .loop-test .taken) (omega arith) (omega arith)
 
 returns : tie.Need-returns Inv-loop μ-loop
-returns c = (measuring-end (c .before .loop .inv) (omega arith), omega arith)
+returns c =
+    let e = modes-members (c .before .before .args .modes .now) (c .before .before .args .given) (c .before .before .pre) in
+    let r = measured-end (c .before .loop .inv) (c .loop-test .left) in
+    (r .0 ∙ ap length (sym e), r .1)
 
 pub modes-length-spec : {M : Type 1} → statement M
 modes-length-spec =
@@ -72,12 +63,11 @@ modes-length-spec =
     Inv-loop
     μ-loop
     loop-holds
-    has-mode-requires
-    mode-at-requires
-    count-requires
+    cast-p
+    sub-rest
+    masks-at-requires
     add-total
     add-total-2
-    add-p
     loop-less
     loop-again
     returns)

@@ -1,4 +1,5 @@
 -- `writing::put::put_bytes` meets its contract. The loop's invariant: the first i bytes are written. Assumes nothing.
+use mathlib.Core.Path.{refl}
 use Prim.Native.Nat.{_-_}
 use native.Mathlib.Omega.{arith}
 use lib.ListN.{length}
@@ -14,7 +15,7 @@ abbrev μ-loop : tie.MeasureT-loop
 μ-loop out₀ at b p₀ i₀ out p i = length b - i
 
 loop-holds : tie.Need-loop-holds Inv-loop μ-loop
-loop-holds c = writing-start (bytes-chunks (c .before .before .args .b .now)) (c .before .before .pre)
+loop-holds c = writing-start (bytes-chunks (c .before .before .args .b .now) refl) (c .before .before .pre)
 
 shared-slice-read-put-byte : tie.Need-shared-slice-read-put-byte Inv-loop μ-loop
 shared-slice-read-put-byte c = omega arith
