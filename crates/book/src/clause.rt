@@ -41,7 +41,7 @@ pub fn subgoal_at(rules: &[u64; RULES_SIZE], k: usize, j: usize) -> u64
 pub fn predicate(call: u64) -> u8
     ensures { λ r. ⌜ r ≡ callIn call .pred ⌝ }
 {
-    ((call >> 0) % 256) as u8
+    (call % 256) as u8
 }
 
 // How many arguments a call has. A number above six means six.
