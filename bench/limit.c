@@ -44,7 +44,7 @@ static reply R(u32 n, u64 v)
     return r;
 }
 
-// the book that the bytes are, or its first fault; phases: 0 PR, 1 MO, 2 CL, 3 QU
+// the book that the bytes are, or its first fault and the byte at fault; phases: 0 PR, 1 MO, 2 CL, 3 QU
 static reply read_book(const u8 *s, size_t len, book *b)
 {
     b->np = b->nc = b->nq = 0;
@@ -54,7 +54,7 @@ static reply read_book(const u8 *s, size_t len, book *b)
     int nsub = 0;
     while (at < len) {
         if (len - at < 2)
-            return R(1, at);
+            return R(1, len);
         u8 c0 = s[at], c1 = s[at + 1];
         int k;
         if (c0 == 'P' && c1 == 'R')
@@ -79,9 +79,9 @@ static reply read_book(const u8 *s, size_t len, book *b)
             if (b->np == 64)
                 return R(5, at);
             if (p >= len)
-                return R(1, at);
+                return R(1, len);
             if (s[p] > 6)
-                return R(4, at);
+                return R(4, p);
             b->arity[b->np++] = s[p];
             at = p + 1;
             continue;
@@ -89,24 +89,24 @@ static reply read_book(const u8 *s, size_t len, book *b)
         if (k == 1) {
             phase = 1;
             if (p >= len)
-                return R(1, at);
+                return R(1, len);
             u8 pr = s[p++];
             if (pr >= b->np)
-                return R(4, at);
+                return R(4, p - 1);
             if (p >= len)
-                return R(1, at);
+                return R(1, len);
             u8 n = s[p++];
             if (n > 20)
-                return R(4, at);
+                return R(4, p - 1);
             for (int i = 0; i < n; i++) {
                 if (p >= len)
-                    return R(1, at);
+                    return R(1, len);
                 if (s[p] >> b->arity[pr])
-                    return R(4, at);
+                    return R(4, p);
                 b->mo[pr].m[i] = s[p++];
             }
             if ((int)pr <= lastmo)
-                return R(6, at);
+                return R(6, at + 2);
             lastmo = pr;
             b->has[pr] = 1;
             b->mo[pr].n = n;
@@ -118,21 +118,21 @@ static reply read_book(const u8 *s, size_t len, book *b)
             if (b->nc == 64)
                 return R(5, at);
             if (p >= len)
-                return R(1, at);
+                return R(1, len);
             u8 pr = s[p++];
             if (pr >= b->np)
-                return R(4, at);
+                return R(4, p - 1);
             clause *c = &b->cl[b->nc];
             for (int i = 0; i < b->arity[pr]; i++) {
                 if (p >= len)
-                    return R(1, at);
+                    return R(1, len);
                 u8 a = s[p++];
                 if (a > 15 && a != 255)
-                    return R(4, at);
+                    return R(4, p - 1);
                 c->head[i] = a;
             }
             if (b->has[pr])
-                return R(6, at);
+                return R(6, at + 2);
             c->pred = pr;
             c->n = 0;
             b->cl_at[b->nc] = at;
@@ -153,17 +153,17 @@ static reply read_book(const u8 *s, size_t len, book *b)
         if (nsub == 8)
             return R(5, at);
         if (p >= len)
-            return R(1, at);
+            return R(1, len);
         u8 pr = s[p++];
         if (pr >= b->np)
-            return R(4, at);
+            return R(4, p - 1);
         sub *x = phase == 3 ? &b->q[b->nq] : &b->cl[b->nc - 1].body[nsub];
         for (int i = 0; i < b->arity[pr]; i++) {
             if (p >= len)
-                return R(1, at);
+                return R(1, len);
             u8 a = s[p++];
             if (a > 15 && a < 254)
-                return R(4, at);
+                return R(4, p - 1);
             x->args[i] = a;
         }
         x->pred = pr;

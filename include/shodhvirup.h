@@ -19,17 +19,19 @@
  *
  * Reply. A struct of three numbers, given back by value. `rounds` is 0 but for a successful analysis.
  *
- *   number                value                    given exactly when
- *   0  SHODH_DONE         bytes written            done (the check writes nothing, so its value is 0)
- *   1  SHODH_PAST_END     offset of the record     a byte of the record is past the end of the book
- *   2  SHODH_NO_MARK      offset of the record     its two bytes are none of the five marks
- *   3  SHODH_OUT_OF_TURN  offset of the record     a mark is out of turn; or the book ends without QU, and the value is its length
- *   4  SHODH_OUT_OF_RANGE offset of the record     a byte is out of its range: arity, predicate, n, mask, argument
- *   5  SHODH_TOO_MANY     offset of the record     a 65th PR, a 65th CL, a 9th SG
- *   6  SHODH_CLASH        offset of the record     MO not rising, or CL for a predicate that has MO
- *   7  SHODH_UNORDERABLE  0                        plan only: no orders give every outside call what it must have
- *   8  SHODH_NO_PREDICATE lowest such number       close only: the set names a predicate that the book lacks
- *   9  SHODH_NO_ROOM      bytes needed             the room is too short
+ *   number                value                         given exactly when
+ *   0  SHODH_DONE         bytes written                 done (the check writes nothing, so its value is 0)
+ *   1  SHODH_PAST_END     the book's length             the book ends within a record
+ *   2  SHODH_NO_MARK      offset of the byte at fault   two bytes where a record begins are none of the five marks: the first of them
+ *   3  SHODH_OUT_OF_TURN  offset of the byte at fault   a mark is out of turn: its first byte; or the book ends without QU: its length
+ *   4  SHODH_OUT_OF_RANGE offset of the byte at fault   a byte is out of its range: arity, predicate, n, mask, argument
+ *   5  SHODH_TOO_MANY     offset of the byte at fault   a 65th PR, a 65th CL, a 9th SG: the first byte of its mark
+ *   6  SHODH_CLASH        offset of the byte at fault   MO not rising, or CL for a predicate that has MO: the predicate
+ *   7  SHODH_UNORDERABLE  0                             plan only: no orders give every outside call what it must have
+ *   8  SHODH_NO_PREDICATE lowest such number            close only: the set names a predicate that the book lacks
+ *   9  SHODH_NO_ROOM      bytes needed                  the room is too short
+ *
+ * At 2, 4, 5 and 6 the value is less than the book's length, so that book[value] is a byte of it; at 3 it may be the length, at 1 it always is.
  *
  * Records are judged from the left, and the first fault is given. A valid book is then tried for 8, then 7, then 9. shodh_choice and shodh_joint give
  * 0, 4, 5 and 9 alone, as described there.
@@ -51,7 +53,7 @@
 extern "C" {
 #endif
 
-#define SHODH_VERSION "1.0.2"
+#define SHODH_VERSION "2.0.0"
 
 /* Rooms that are always enough, in bytes. */
 #define SHODH_TABLE_SIZE 1536

@@ -1,8 +1,6 @@
 /* portal BOOK: what a portal's server does with a rule book before it takes it over. The book is loaded from a file and planned; the orders are
  * printed, or in words why there are none. Exit status: 0 the book is taken, 1 it is refused, 2 the file cannot be read. */
-#include <inttypes.h>
 #include <stdio.h>
-#include <string.h>
 
 #include <shodhvirup.h>
 
@@ -24,56 +22,38 @@ static int load(const char *path, uint8_t *bytes, size_t room, size_t *length)
     return !failed;
 }
 
-/* Which field of the record at a place is out of range. The predicate comes first in every record but `PR`; predicates are numbered in the order of
- * the `PR` records, three bytes each, which come first in the book. */
-static const char *field_out_of_range(size_t length, size_t at)
+/* What was wanted at the byte at fault, or at the end of the book. */
+static const char *wanted(uint32_t number, int at_end)
 {
-    size_t predicates = 0;
-
-    if (memcmp(book + at, "PR", 2) == 0)
-        return "arity";
-    while (3 * predicates + 3 <= length && memcmp(book + 3 * predicates, "PR", 2) == 0)
-        predicates++;
-    if (book[at + 2] >= predicates)
-        return "predicate";
-    if (memcmp(book + at, "MO", 2) != 0)
-        return "argument";
-    return book[at + 3] > SHODH_MASKS_SIZE ? "number of masks" : "mask";
+    switch (number) {
+    case SHODH_PAST_END:
+        return "the rest of the record";
+    case SHODH_NO_MARK:
+        return "PR, MO, CL, SG or QU";
+    case SHODH_OUT_OF_TURN:
+        return at_end ? "QU, the query" : "a record in its turn: all PR, all MO, the clauses, then one QU";
+    case SHODH_OUT_OF_RANGE:
+        return "arity 0 to 6, predicate below the number of PR, n 0 to 20, mask below 2^arity, argument 0 to 15, 255, in SG also 254";
+    case SHODH_TOO_MANY:
+        return "another record: there are 64 PR, 64 CL or 8 SG before it";
+    case SHODH_CLASH:
+        return "for MO a predicate above the one before, for CL one without MO";
+    }
+    return "";
 }
 
 static void print_refusal(shodh_reply reply, size_t length)
 {
     size_t at = (size_t)reply.value;
 
-    if (reply.number == SHODH_UNORDERABLE) {
+    if (reply.number == SHODH_UNORDERABLE)
         printf("no order gives every outside call what it must have\n");
-        return;
-    }
-    if (reply.number == SHODH_OUT_OF_TURN && at == length) {
-        printf("the book ends at byte %" PRIu64 " without a query\n", reply.value);
-        return;
-    }
-    printf("record at byte %" PRIu64 ": ", reply.value);
-    switch (reply.number) {
-    case SHODH_PAST_END:
-        printf("the book ends within it\n");
-        break;
-    case SHODH_NO_MARK:
-        printf("unknown mark\n");
-        break;
-    case SHODH_OUT_OF_TURN:
-        printf("%.2s out of turn\n", (const char *)book + at);
-        break;
-    case SHODH_OUT_OF_RANGE:
-        printf("%s out of range\n", field_out_of_range(length, at));
-        break;
-    case SHODH_TOO_MANY:
-        printf("one %.2s too many\n", (const char *)book + at);
-        break;
-    case SHODH_CLASH:
-        printf("%s\n", book[at] == 'M' ? "MO not rising by predicate" : "CL for a predicate that has MO");
-        break;
-    }
+    else if (at < length)
+        printf("byte %zu is %u; wanted: %s\n", at, book[at], wanted(reply.number, 0));
+    else if (length > SHODH_BOOK_SIZE)
+        printf("longer than any book, which has at most %d bytes\n", SHODH_BOOK_SIZE);
+    else
+        printf("the book ends at byte %zu; wanted: %s\n", at, wanted(reply.number, 1));
 }
 
 /* n places, and where they end. */

@@ -3,6 +3,7 @@ pub mod Marks
 pub mod Got
 pub mod Trip
 pub mod Answer
+pub mod Places
 pub mod Encode
 pub mod Bound
 pub mod Longest

@@ -1,9 +1,10 @@
 -- Every string of bytes judged from the left: document 01, "What a rule book says" and "Replies". It is recursion on the bytes that are left, so
 -- that a place is said by how many bytes are left from it on; `judge` turns that into an offset, once. Every definition computes. Assumes
 -- nothing.
+use mathlib.Core.Path.{_≡_}
 use mathlib.Core.Bool.{Bool, cond, _&&_, _||_, false}
 use mathlib.Core.List.{List, [], _∷_, _++_}
-use Prim.Native.Nat.{ℕ, zero, suc, _-_, _^_}
+use Prim.Native.Nat.{ℕ, zero, suc, _-_, _^_, _≤_, _<_}
 use lib.Dec.{eqb, ltb, leb}
 use lib.ListN.{length, getD, drop}
 use Rattle.masks.specs.Limits.{maxArity, maxMasks}
@@ -32,10 +33,25 @@ number OutOfRange = 4
 number TooMany = 5
 number Clash = 6
 
--- "offset of the record": the place of a fault, of two: where its record begins, and the byte at fault. Here a place is how many bytes are left from
--- it on, in the code how many are before it.
+-- W2: "the offset of the mark's first byte for 2, 3 and 5, of the byte out of range for 4, of the predicate byte for 6. For 1, and for 3 where the book
+-- ends without `QU`, it is the book's length.": the place of a fault, of two: the end of the book, and where the fault is found, which is a mark or the
+-- end where one is missing, a byte, or a predicate. Here a place is how many bytes are left from it on, in the code how many are before it.
 abbrev pub placed : Fault → ℕ → ℕ → ℕ
-placed f record· byte = record·
+placed PastEnd end found = end
+placed NoMark end found = found
+placed OutOfTurn end found = found
+placed OutOfRange end found = found
+placed TooMany end found = found
+placed Clash end found = found
+
+-- where the first fault of n bytes stands at all: 1 at their end, 3 at a byte or at the end, the others at a byte
+abbrev pub Stands : Fault → ℕ → ℕ → Type 0
+Stands PastEnd n at = at ≡ n
+Stands NoMark n at = at < n
+Stands OutOfTurn n at = at ≤ n
+Stands OutOfRange n at = at < n
+Stands TooMany n at = at < n
+Stands Clash n at = at < n
 
 -- ---- "each led by a two-byte mark in ASCII"
 
@@ -116,30 +132,29 @@ abbrev pub andThen : {A B : Type 0} → Got A → (A → List ℕ → Got B) →
 andThen (bad f k) next = bad f k
 andThen (got a s) next = next a s
 
+-- a fault that is found at the first of the bytes s
+abbrev pub wrong : {A : Type 0} → Fault → List ℕ → Got A
+wrong f s = bad f (placed f 0 (length s))
+
 -- "byte by byte from the left, present (1) before in range (4)"
 abbrev pub byte : Range → List ℕ → Got ℕ
-byte r [] = bad PastEnd 0
-byte r (x ∷ s) = cond (allows r x) (got x s) (bad OutOfRange (suc (length s)))
+byte r [] = wrong PastEnd []
+byte r (x ∷ s) = cond (allows r x) (got x s) (wrong OutOfRange (x ∷ s))
 
 -- k bytes, after those of acc
 unfoldable pub bytes : Range → ℕ → List ℕ → List ℕ → Got (List ℕ)
 bytes r zero acc s = got acc s
 bytes r (suc k) acc s = andThen (byte r s) (λ x t. bytes r k (acc ++ (x ∷ [])) t)
 
--- the fields of the record at s: a fault of theirs is given its place
-abbrev pub inRecord : {A : Type 0} → List ℕ → Got A → Got A
-inRecord s (bad f k) = bad f (placed f (length s) k)
-inRecord s (got a t) = got a t
-
 -- a record of the run, its end, or a fault
 abbrev pub onTurn : {A : Type 0} → Turn → Got A → A → List ℕ → Got A
 onTurn Mine more a s = more
 onTurn Over more a s = got a s
-onTurn (No f) more a s = bad f (placed f (length s) (length s))
+onTurn (No f) more a s = wrong f s
 
 -- "in turn (3), not one too many (5)": a run of records, at most `room` of them, after those of acc
 unfoldable pub many : {A : Type 0} → Phase → (List A → List ℕ → Got A) → ℕ → List A → List ℕ → Got (List A)
-many p item zero acc s = onTurn (turn p (markAt s)) (bad TooMany (placed TooMany (length s) (length s))) acc s
+many p item zero acc s = onTurn (turn p (markAt s)) (wrong TooMany s) acc s
 many p item (suc room) acc s =
     let more = andThen (item acc s) (λ a t. many p item room (acc ++ (a ∷ [])) t) in
     onTurn (turn p (markAt s)) more acc s
@@ -148,7 +163,7 @@ many p item (suc room) acc s =
 
 -- "PR: arity"
 unfoldable pub predicate : List ℕ → List ℕ → Got ℕ
-predicate acc s = inRecord s (byte (AtMost maxArity) (drop 2 s))
+predicate acc s = byte (AtMost maxArity) (drop 2 s)
 
 -- "MO: predicate, n, n masks", and "MO records rise strictly by predicate": the least predicate that the next may name
 unfoldable pub lowFrom : ℕ → List Mode → ℕ
@@ -167,10 +182,10 @@ unfoldable pub modeFields : List ℕ → ℕ → List ℕ → Got Mode
 modeFields ar b s =
     andThen (byte (Below (length ar)) s) (λ p t.
     andThen (masks (2 ^ getD ar p 0) t) (λ ms u.
-    cond (leb b p) (got (record { pred = p; masks = ms }) u) (bad Clash (length s))))
+    cond (leb b p) (got (record { pred = p; masks = ms }) u) (wrong Clash s)))
 
 unfoldable pub mode : List ℕ → List Mode → List ℕ → Got Mode
-mode ar acc s = inRecord s (modeFields ar (low acc) (drop 2 s))
+mode ar acc s = modeFields ar (low acc) (drop 2 s)
 
 -- "predicate, one argument per position"
 unfoldable pub call : Range → List ℕ → List ℕ → Got Call
@@ -181,7 +196,7 @@ call r ar s =
 
 -- "SG: the next subgoal of the clause or query just begun"
 unfoldable pub subgoal : List ℕ → List Call → List ℕ → Got Call
-subgoal ar acc s = inRecord s (call Argument ar (drop 2 s))
+subgoal ar acc s = call Argument ar (drop 2 s)
 
 unfoldable pub hasMode : List Mode → ℕ → Bool
 hasMode ms p = any (λ (m : Mode). eqb (m .pred) p) ms
@@ -190,12 +205,12 @@ hasMode ms p = any (λ (m : Mode). eqb (m .pred) p) ms
 unfoldable pub headFields : List ℕ → List Mode → List ℕ → Got Call
 headFields ar ms s =
     andThen (call NoWildcard ar s) (λ h t.
-    cond (hasMode ms (h .pred)) (bad Clash (length s)) (got h t))
+    cond (hasMode ms (h .pred)) (wrong Clash s) (got h t))
 
 -- "CL: a clause head", and the subgoals of the clause
 unfoldable pub clause : List ℕ → List Mode → List Clause → List ℕ → Got Clause
 clause ar ms acc s =
-    andThen (inRecord s (headFields ar ms (drop 2 s))) (λ h t.
+    andThen (headFields ar ms (drop 2 s)) (λ h t.
     andThen (many Body (subgoal ar) maxSubgoals [] t) (λ body u.
     got (record { head = h; body = body }) u))
 

@@ -16,7 +16,7 @@ use Rattle.masks.specs.declared.Way.the-variants.{Choice, Joint}
 use Rattle.masks.specs.declared.reply.Reply.{Reply}
 use Rattle.book.specs.Limits.{longest, longestTable, longestPlan, shortest}
 use Rattle.book.specs.Book.{Call, Clause, Book}
-use Rattle.book.specs.Format.{spelling, number, fault, book, judge}
+use Rattle.book.specs.Format.{spelling, number, Stands, fault, book, judge}
 use Rattle.book.specs.Encode.{run, encode, WellFormed}
 use Rattle.book.specs.Held.{bookIn}
 use Rattle.book.specs.Table.{Table, entry}
@@ -64,15 +64,16 @@ pub record OneAnswer (o : Outcome) (out : List ℕ) : Type 0 where
 abbrev pub BookOf : ℕ → Type 0
 BookOf n = (s : List ℕ) × (B : Book) × (judge s ≡ book B) × (length s ≡ n)
 
--- Every operation on a book refuses the bytes with number n, from 1 to 6, and a place in them or at their end.
-pub record Faulty (s : List ℕ) (n at : ℕ) : Type 0 where
-  pub least : 1 ≤ n
-  pub most : n ≤ 6
-  pub place : at ≤ length s
-  pub check· : checked (judge s) ≡ record { number = n; value = at; rounds = 0 }
-  pub analyse· : outcome (analyse s) ≡ refused n at
-  pub plan· : outcome (plan s) ≡ refused n at
-  pub close· : (set : ℕ) → outcome (close set s) ≡ refused n at
+-- Every operation on a book refuses the bytes with the number of the fault, from 1 to 6, and its place: W2's "book's length" for 1, a byte of theirs for 2,
+-- 4, 5 and 6, either for 3.
+pub record Faulty (s : List ℕ) (f : Fault) (at : ℕ) : Type 0 where
+  pub least : 1 ≤ number f
+  pub most : number f ≤ 6
+  pub place : Stands f (length s) at
+  pub check· : checked (judge s) ≡ record { number = number f; value = at; rounds = 0 }
+  pub analyse· : outcome (analyse s) ≡ refused (number f) at
+  pub plan· : outcome (plan s) ≡ refused (number f) at
+  pub close· : (set : ℕ) → outcome (close set s) ≡ refused (number f) at
 
 pub record Demand1 : Type 0 where
   -- every operation answers every input in every buffer, and in one way
@@ -90,7 +91,7 @@ pub record Demand1 : Type 0 where
   -- and the check answers 0 with the value 0 exactly for the books
   pub checks : (s : List ℕ) → (checked (judge s) ≡ record { number = 0; value = 0; rounds = 0 }) ↔ ((B : Book) × (judge s ≡ book B))
   -- all others have a first fault, with which they are refused
-  pub faults : (s : List ℕ) (f : Fault) (at : ℕ) → judge s ≡ fault f at → Faulty s (number f) at
+  pub faults : (s : List ℕ) (f : Fault) (at : ℕ) → judge s ≡ fault f at → Faulty s f at
 
 -- ---- Demand 2: the needs are those of document 01; an accepted book gets orders in which every outside call has what it must have; a book is refused as
 -- unorderable exactly when no orders give that; the order chosen is the first of the good ones

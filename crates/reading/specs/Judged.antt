@@ -27,7 +27,7 @@ abbrev pub judgement : Found → Book → Judged
 judgement (Next at n) b = book b
 judgement (Bad f at) b = fault f at
 
--- "The check writes nothing and answers a valid book with 0 and the value 0"; a fault with its number and the offset of its record
+-- "The check writes nothing and answers a valid book with 0 and the value 0"; a fault with its number and its place
 abbrev pub checked : Judged → Reply
 checked (fault f at) = record { number = number f; value = at; rounds = 0 }
 checked (book b) = record { number = 0; value = 0; rounds = 0 }

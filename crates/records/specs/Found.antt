@@ -7,7 +7,7 @@ use lib.ListN.{length, drop}
 use Rattle.masks.specs.Limits.{maxArity}
 use Rattle.masks.specs.Lists.{all}
 use Rattle.book.specs.Limits.{maxPredicates}
-use Rattle.book.specs.Format.{placed, allows, Got, bad, got, onTurn, turn, markAt}
+use Rattle.book.specs.Format.{allows, Got, bad, got, onTurn, turn, markAt}
 use Rattle.book.specs.declared.mark.Phase.{Phase}
 use Rattle.book.specs.declared.range.Range.the-variants.{AtMost}
 use Rattle.records.specs.declared.field.Found.{Found}
@@ -30,11 +30,6 @@ pub record Reads {A : Type 0} (s : List ℕ) (r : Found) (f : ℕ → A) (g : Go
 -- a run that no further record of its own follows: its end, with the value a, or a fault
 abbrev pub stops : {A : Type 0} → Phase → A → List ℕ → Got A
 stops p a s = onTurn (turn p (markAt s)) (got a s) a s
-
--- what was found in the fields of the record at a place: a fault of theirs stands where `placed` says
-abbrev pub recorded : ℕ → Found → Found
-recorded place (Next at n) = Next at n
-recorded place (Bad f at) = Bad f (placed f place at)
 
 -- the arities of a book
 pub record Arities (ar : List ℕ) : Type 0 where

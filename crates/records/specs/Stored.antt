@@ -3,14 +3,14 @@
 use mathlib.Core.Path.{_≡_}
 use mathlib.Core.Bool.{cond}
 use mathlib.Core.List.{List, [], _∷_}
-use Prim.Native.Nat.{ℕ, _*_, _≤_}
+use Prim.Native.Nat.{ℕ, _+_, _*_, _≤_}
 use lib.Dec.{eqb}
 use lib.ListN.{length, drop}
 use lib.Seq.{sets}
 use Rattle.masks.specs.Limits.{maxMasks}
 use Rattle.masks.specs.Set.{Holds}
 use Rattle.book.specs.Book.{Call, Mode}
-use Rattle.book.specs.Format.{Got, got, andThen, bytes, inRecord, hasMode, headFields}
+use Rattle.book.specs.Format.{Got, got, andThen, bytes, hasMode, headFields}
 use Rattle.book.specs.Held.{callIn, modeSize, modesSize, StoredMode}
 use Rattle.book.specs.declared.range.Range.{Range}
 use Rattle.book.specs.declared.range.Range.the-variants.{Argument, NoWildcard}
@@ -38,7 +38,7 @@ pub record ReadsCall (s : List ℕ) (r : FoundCall) (g : Got Call) : Type 0 wher
 pub record ReadsHead (ar s : List ℕ) (set at : ℕ) (r : FoundCall) : Type 0 where
   pub inside : placeOf (r .found) ≤ length s
   pub reads : (ms : List Mode) → Holds set (hasMode ms)
-      → Reads s (r .found) (λ n. callIn (r .call)) (inRecord (drop at s) (headFields ar ms (drop 2 (drop at s))))
+      → Reads s (r .found) (λ n. callIn (r .call)) (headFields ar ms (drop (at + 2) s))
 
 -- ---- bytes that are stored
 

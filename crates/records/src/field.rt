@@ -17,9 +17,9 @@ ghost use Prim.Native.Nat.{_+_, _*_, _^_, _≤_, _<_};
 ghost use lib.Dec.{leb};
 ghost use lib.ListN.{length, drop, set};
 ghost use Rattle.masks.specs.Limits.{maxArity};
-ghost use Rattle.book.specs.Format.{allows, byte, bytes, inRecord, predicate, call, subgoal, masks, modeFields};
+ghost use Rattle.book.specs.Format.{allows, byte, bytes, predicate, call, subgoal, masks, modeFields};
 ghost use Rattle.book.specs.Held.{callIn};
-ghost use Rattle.records.specs.Found.{Reads, recorded, Arities};
+ghost use Rattle.records.specs.Found.{Reads, Arities};
 ghost use Rattle.records.specs.Stored.{argumentFrom, arguments, ReadsCall, ReadsHead, ReadsBytes, ReadsMasks, ReadsMode};
 
 // What reading comes to: the place after what was read and, where that is a byte, the byte, or a fault and its place. Whatever is counted or larger
@@ -40,15 +40,34 @@ pub fn read_predicate(s: &[u8], at: usize) -> Found
     requires { ⌜ at + 2 ≤ length (now s) ⌝ }
     ensures { λ r. ⌜ Reads (now (s .entry)) r (λ a. a) (predicate [] (drop at (now (s .entry)))) ⌝ }
 {
-    in_record(read_byte(s, at + 2, Range::AtMost(MAX_ARITY)), at)
+    read_byte(s, at + 2, Range::AtMost(MAX_ARITY))
 }
 
-// The mode whose record is at a place, for a predicate not below low, stored where the modes have room: its predicate.
+// The mode whose record is at a place, for a predicate not below low, stored where the modes have room: its predicate. A fault of the predicate comes first,
+// then one of the masks; "6: `MO` not rising" is tried last.
 pub fn read_mode(s: &[u8], ar: &[u8], low: u8, at: usize, modes: &mut [u8]) -> Found
     requires { ⌜ (at + 2 ≤ length (now s)) × Arities (now ar) ⌝ }
-    ensures { λ r. ⌜ ReadsMode (now (s .entry)) r (now (modes .entry)) (now (modes .exit)) (inRecord (drop at (now (s .entry))) (modeFields (now (ar .entry)) low (drop 2 (drop at (now (s .entry)))))) ⌝ }
+    ensures { λ r. ⌜ ReadsMode (now (s .entry)) r (now (modes .entry)) (now (modes .exit)) (modeFields (now (ar .entry)) low (drop (at + 2) (now (s .entry)))) ⌝ }
 {
-    in_record(read_alternatives(s, ar, low, at + 2, modes), at)
+    let from = at + 2;
+    let preds = ar.len() as u8;
+    let g = read_byte(s, from, Range::Below(preds));
+    match g {
+        Found::Bad(_, _) => g,
+        Found::Next(next, pred) => {
+            let arity = ar[pred as usize];
+            let h = read_masks(s, next, patterns(arity), pred, modes);
+            match h {
+                Found::Bad(_, _) => h,
+                Found::Next(end, _) => {
+                    if pred < low {
+                        return Found::Bad(Fault::Clash, from);
+                    }
+                    Found::Next(end, pred)
+                }
+            }
+        }
+    }
 }
 
 // The head of the clause whose record is at a place: "6: `CL` for a predicate that has `MO`", tried last. The set has those predicates.
@@ -56,18 +75,16 @@ pub fn read_head(s: &[u8], ar: &[u8], with_mode: u64, at: usize) -> FoundCall
     requires { ⌜ (at + 2 ≤ length (now s)) × Arities (now ar) ⌝ }
     ensures { λ r. ⌜ ReadsHead (now (ar .entry)) (now (s .entry)) «with_mode» at r ⌝ }
 {
-    let r = read_call(s, ar, at + 2, LITERAL);
+    let from = at + 2;
+    let r = read_call(s, ar, from, LITERAL);
     let g = r.found;
     let call = r.call;
     match g {
-        Found::Bad(_, _) => FoundCall {
-            found: in_record(g, at),
-            call,
-        },
+        Found::Bad(_, _) => r,
         Found::Next(_, pred) => {
             if has_member(with_mode, pred) {
                 return FoundCall {
-                    found: Found::Bad(Fault::Clash, at),
+                    found: Found::Bad(Fault::Clash, from),
                     call,
                 };
             }
@@ -81,37 +98,7 @@ pub fn read_subgoal(s: &[u8], ar: &[u8], at: usize) -> FoundCall
     requires { ⌜ (at + 2 ≤ length (now s)) × Arities (now ar) ⌝ }
     ensures { λ r. ⌜ Reads (now (s .entry)) (r .found) (λ _. callIn (r .call)) (subgoal (now (ar .entry)) [] (drop at (now (s .entry)))) ⌝ }
 {
-    let r = read_call(s, ar, at + 2, WILDCARD);
-    let g = r.found;
-    let call = r.call;
-    FoundCall {
-        found: in_record(g, at),
-        call,
-    }
-}
-
-// The predicate of a mode and its masks: "6: `MO` not rising", tried last.
-fn read_alternatives(s: &[u8], ar: &[u8], low: u8, at: usize, modes: &mut [u8]) -> Found
-    requires { ⌜ (at ≤ length (now s)) × Arities (now ar) ⌝ }
-    ensures { λ r. ⌜ ReadsMode (now (s .entry)) r (now (modes .entry)) (now (modes .exit)) (modeFields (now (ar .entry)) low (drop at (now (s .entry)))) ⌝ }
-{
-    let g = read_byte(s, at, Range::Below(ar.len() as u8));
-    match g {
-        Found::Bad(_, _) => g,
-        Found::Next(next, pred) => {
-            let arity = ar[pred as usize];
-            let h = read_masks(s, next, patterns(arity), pred, modes);
-            match h {
-                Found::Bad(_, _) => h,
-                Found::Next(end, _) => {
-                    if pred < low {
-                        return Found::Bad(Fault::Clash, at);
-                    }
-                    Found::Next(end, pred)
-                }
-            }
-        }
-    }
+    read_call(s, ar, at + 2, WILDCARD)
 }
 
 // "n, n masks", each one of so many patterns, stored as the mode of predicate p.
@@ -184,16 +171,6 @@ fn with_byte(w: u64, shift: u32, x: u8) -> u64
     ensures { λ r. ⌜ r ≡ w + x * 2 ^ shift ⌝ }
 {
     w + ((x as u64) << shift)
-}
-
-// "offset of the record": the place of a fault in the record at a place.
-fn in_record(g: Found, at: usize) -> Found
-    ensures { λ r. ⌜ r ≡ recorded at g ⌝ }
-{
-    match g {
-        Found::Bad(f, _) => Found::Bad(f, at),
-        Found::Next(_, _) => g,
-    }
 }
 
 // k bytes, stored from a place on where there is room.

@@ -1,6 +1,7 @@
 // Marks, and whose turn it is where a record may begin: "all `PR`, then all `MO`, then clauses, then one `QU`; `SG` only after `CL`, `QU` or `SG`".
 use crate::field::Found;
 use book::fault::Fault;
+use book::fault::place;
 use book::mark::Mark;
 use book::mark::Phase;
 use book::mark::Turn;
@@ -32,7 +33,7 @@ pub fn run_end(s: &[u8], at: usize, p: Phase) -> Found
     let m = mark_at(s, at);
     let t = turn(p, m);
     match t {
-        Turn::No(f) => Found::Bad(f, at),
+        Turn::No(f) => Found::Bad(f, place(f, s.len(), at)),
         Turn::Over => Found::Next(at, 0),
         Turn::Mine => Found::Next(at, 0),
     }

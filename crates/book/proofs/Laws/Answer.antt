@@ -1,12 +1,12 @@
 -- What bytes are judged to be, and what an operation on books comes to: the fault of the bytes, or what it makes of the book. Assumes nothing.
-use mathlib.Core.Path.{_≡_, ap}
+use mathlib.Core.Path.{_≡_, refl, ap}
 use mathlib.Core.List.{List}
-use Prim.Native.Nat.{ℕ, _≤_}
+use Prim.Native.Nat.{ℕ, _-_, _≤_}
 use native.Mathlib.Omega.{arith}
 use lib.ListN.{length}
 use Rattle.masks.specs.Outcome.{Outcome, refused}
 use Rattle.book.specs.Book.{Book}
-use Rattle.book.specs.Format.{number, Got, bad, got, readBook, Judged, fault, book, judged, judge}
+use Rattle.book.specs.Format.{number, placed, Got, bad, got, readBook, Judged, fault, book, judged, judge}
 use Rattle.book.specs.Answer.{ofJudged, onBook}
 use Rattle.book.specs.declared.fault.Fault.{Fault}
 use Rattle.book.specs.declared.fault.Fault.the-variants.{PastEnd, NoMark, OutOfTurn, OutOfRange, TooMany, Clash}
@@ -24,6 +24,15 @@ number-range Clash = (omega arith, omega arith)
 
 pub number-some : (f : Fault) → number f ≡ 0 → ⊥
 number-some f e = let r = number-range f in omega arith
+
+-- a place in n bytes is one whether counted from their start or from their end
+pub placed-inside : (f : Fault) {n at : ℕ} → at ≤ n → (placed f n at ≤ n) × (n - placed f n at ≡ placed f 0 (n - at))
+placed-inside PastEnd h = (omega arith, omega arith)
+placed-inside NoMark h = (h, refl)
+placed-inside OutOfTurn h = (h, refl)
+placed-inside OutOfRange h = (h, refl)
+placed-inside TooMany h = (h, refl)
+placed-inside Clash h = (h, refl)
 
 -- a fault's place is in the bytes or at their end
 placeOf : Judged → ℕ

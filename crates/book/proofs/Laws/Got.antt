@@ -8,7 +8,7 @@ use native.Mathlib.Omega.{arith}
 use lib.ListN.{length}
 use Rattle.masks.specs.Lists.{all}
 use Rattle.masks.proofs.Laws.Logic.{and-intro, and-left, and-right}
-use Rattle.book.specs.Format.{Got, bad, got, andThen, byte, bytes, inRecord, onTurn, many, turn, markAt, allows, subgoal}
+use Rattle.book.specs.Format.{Got, bad, got, andThen, byte, bytes, onTurn, many, turn, markAt, allows, subgoal}
 use Rattle.book.specs.Encode.{run}
 use Rattle.book.specs.declared.fault.Fault.{Fault}
 use Rattle.book.specs.declared.fault.Fault.the-variants.{OutOfTurn, OutOfRange}
@@ -36,13 +36,6 @@ then-inv (got a s) f e = (a, s, refl, e)
 
 pub then-got : {A B : Type 0} {g : Got A} (f : A → List ℕ → Got B) {a : A} {r : List ℕ} → g ≡ got a r → andThen g f ≡ f a r
 then-got f e = rw e
-
-pub record-inv : {A : Type 0} (s : List ℕ) (g : Got A) {a : A} {r : List ℕ} → inRecord s g ≡ got a r → g ≡ got a r
-record-inv s (bad w k) e = bad-got e
-record-inv s (got a r) e = e
-
-pub record-got : {A : Type 0} (s : List ℕ) {g : Got A} {a : A} {r : List ℕ} → g ≡ got a r → inRecord s g ≡ got a r
-record-got s e = rw e
 
 pub got-value : {A : Type 0} {a b : A} {r s : List ℕ} → got a r ≡ got b s → a ≡ b
 got-value e = cc

@@ -14,7 +14,7 @@ use Rattle.masks.specs.Lists.{all}
 use Rattle.masks.proofs.Laws.Logic.{byBool, and-intro, and-left, and-right, not-elim}
 use Rattle.book.specs.Limits.{maxPredicates, maxClauses, maxSubgoals}
 use Rattle.book.specs.Book.{Call, noClause, Mode, Clause, Book}
-use Rattle.book.specs.Format.{Got, bad, got, andThen, inRecord, byte, bytes, many, turn, markAt, allows, lowFrom, low, hasMode, spelling, call, predicate, masks, modeFields, mode, subgoal, headFields, clause, query, rules, readBook, book, judged, judge}
+use Rattle.book.specs.Format.{Got, bad, got, andThen, wrong, byte, bytes, many, turn, markAt, allows, lowFrom, low, hasMode, spelling, call, predicate, masks, modeFields, mode, subgoal, headFields, clause, query, rules, readBook, book, judged, judge}
 use Rattle.book.specs.Encode.{run, encPredicate, encMode, encCall, encSubgoal, encClause, encode, callFits, modeFits, rises, clauseFits, WellFormed}
 use Rattle.book.specs.declared.fault.Fault.the-variants.{Clash}
 use Rattle.book.specs.declared.mark.Mark.the-variants.{Pr, Mo, Cl, Sg, Qu}
@@ -23,7 +23,7 @@ use Rattle.book.specs.declared.mark.Turn.the-variants.{Mine, Over}
 use Rattle.book.specs.declared.range.Range.{Range}
 use Rattle.book.specs.declared.range.Range.the-variants.{Below, AtMost, Argument, NoWildcard}
 use Rattle.book.proofs.Laws.Marks.{sole-predicates, sole-modes, sole-clauses, sole-body, sole-query, own-leads, sole-starts, clauses-over-starts, query-over-ends, clause-ends, clauses-end}
-use Rattle.book.proofs.Laws.Got.{then-inv, then-got, record-inv, record-got, test-inv, untest-inv, carry, byte-inv, byte-got, bytes-got, bytes-inv, Each, Follows, each-all, all-each, many-got, many-inv}
+use Rattle.book.proofs.Laws.Got.{then-inv, then-got, test-inv, untest-inv, carry, byte-inv, byte-got, bytes-got, bytes-inv, Each, Follows, each-all, all-each, many-got, many-inv}
 
 -- ---- computed: "all PR, then all MO, then clauses, then one QU", of a book with one of each
 
@@ -77,12 +77,12 @@ PredicateFits acc a = allows (AtMost maxArity) a ≡ true
 
 predicate-got : (acc : List ℕ) (a : ℕ) (r : List ℕ) → PredicateFits acc a → predicate acc (encPredicate a ++ r) ≡ got a r
 unfolding predicate
-predicate-got acc a r h = record-got (encPredicate a ++ r) (byte-got (AtMost maxArity) a r h)
+predicate-got acc a r h = byte-got (AtMost maxArity) a r h
 
 pub predicate-inv : (acc s : List ℕ) (a : ℕ) (r : List ℕ) → turn Predicates (markAt s) ≡ Mine → predicate acc s ≡ got a r → (s ≡ encPredicate a ++ r) × PredicateFits acc a
 unfolding predicate
 predicate-inv acc s a r t e =
-    let b = byte-inv (AtMost maxArity) (drop 2 s) (record-inv s (byte (AtMost maxArity) (drop 2 s)) e) in
+    let b = byte-inv (AtMost maxArity) (drop 2 s) e in
     (sole-starts Predicates s sole-predicates t ∙ ap (λ (l : List ℕ). spelling Pr ++ l) (b .0), b .1)
 
 -- ---- a subgoal
@@ -92,12 +92,12 @@ SubgoalFits ar acc c = callFits Argument ar c ≡ true
 
 subgoal-got : (ar : List ℕ) (acc : List Call) (c : Call) (r : List ℕ) → SubgoalFits ar acc c → subgoal ar acc (encSubgoal c ++ r) ≡ got c r
 unfolding subgoal
-subgoal-got ar acc c r h = record-got (encSubgoal c ++ r) (call-got Argument ar c r h)
+subgoal-got ar acc c r h = call-got Argument ar c r h
 
 subgoal-from : (ar : List ℕ) (acc : List Call) (s : List ℕ) (c : Call) (r : List ℕ) → s ≡ spelling Sg ++ drop 2 s → subgoal ar acc s ≡ got c r → (s ≡ encSubgoal c ++ r) × SubgoalFits ar acc c
 unfolding subgoal
 subgoal-from ar acc s c r t e =
-    let b = call-inv Argument ar (drop 2 s) c r (record-inv s (call Argument ar (drop 2 s)) e) in
+    let b = call-inv Argument ar (drop 2 s) c r e in
     (t ∙ ap (λ (l : List ℕ). spelling Sg ++ l) (b .0), b .1)
 
 pub body-inv : (ar : List ℕ) (acc : List Call) (s : List ℕ) (c : Call) (r : List ℕ) → turn Body (markAt s) ≡ Mine → subgoal ar acc s ≡ got c r → (s ≡ encSubgoal c ++ r) × SubgoalFits ar acc c
@@ -145,16 +145,14 @@ masks-inv k s ms r e =
 mode-got : (ar : List ℕ) (acc : List Mode) (m : Mode) (r : List ℕ) → ModeFits ar acc m → mode ar acc (encMode m ++ r) ≡ got m r
 unfolding mode modeFields
 mode-got ar acc m r h =
-    record-got (encMode m ++ r)
-    {g = modeFields ar (low acc) (m .pred ∷ length (m .masks) ∷ (m .masks ++ r))}
-    (rw (byte-got (Below (length ar)) (m .pred) (length (m .masks) ∷ (m .masks ++ r)) (mode-known ar m (h .0)), masks-got ar m r (h .0), h .1))
+    rw (byte-got (Below (length ar)) (m .pred) (length (m .masks) ∷ (m .masks ++ r)) (mode-known ar m (h .0)), masks-got ar m r (h .0), h .1)
 
 pub mode-inv : (ar : List ℕ) (acc : List Mode) (s : List ℕ) (m : Mode) (r : List ℕ) → turn Modes (markAt s) ≡ Mine → mode ar acc s ≡ got m r → (s ≡ encMode m ++ r) × ModeFits ar acc m
 unfolding mode modeFields
 mode-inv ar acc s m r t e =
     let d = drop 2 s in
-    let last : ℕ → List ℕ → List ℕ → Got Mode = λ p ms u. cond (leb (low acc) p) (got (record { pred = p; masks = ms }) u) (bad Clash (length d)) in
-    let w = then-inv (byte (Below (length ar)) d) (λ p u. andThen (masks (2 ^ getD ar p 0) u) (last p)) (record-inv s (modeFields ar (low acc) d) e) in
+    let last : ℕ → List ℕ → List ℕ → Got Mode = λ p ms u. cond (leb (low acc) p) (got (record { pred = p; masks = ms }) u) (wrong Clash d) in
+    let w = then-inv (byte (Below (length ar)) d) (λ p u. andThen (masks (2 ^ getD ar p 0) u) (last p)) e in
     let p = w .0 in
     let x = byte-inv (Below (length ar)) d (w .2) in
     let v = then-inv (masks (2 ^ getD ar p 0) (w .1)) (last p) (w .3) in
@@ -198,7 +196,7 @@ clause-got ar ms acc c r h o =
     rw (call-got NoWildcard ar (c .head) rest· (clause-head ar ms c h), clause-free ar ms c h) in
     let bytes· : headFields ar ms ((encCall (c .head) ++ run encSubgoal (c .body)) ++ r) ≡ got (c .head) rest· =
     ap (headFields ar ms) (append-assoc (encCall (c .head)) (run encSubgoal (c .body)) r) ∙ head· in
-    then-got _ (record-got (encClause c ++ r) bytes·)
+    then-got _ bytes·
     ∙ then-got _ (many-got Body (subgoal ar) (SubgoalFits ar) encSubgoal (λ s q. own-leads Body (encCall s ++ q) Sg refl) (λ b s q k f. subgoal-got ar b s q k) maxSubgoals [] (c .body) r
     (clause-few ar ms c h) (all-each (callFits Argument ar) [] (c .body) (clause-goals ar ms c h)) o)
 
@@ -209,7 +207,7 @@ head-inv : (ar : List ℕ) (ms : List Mode) (s : List ℕ) (h : Call) (r : List 
     → (s ≡ encCall h ++ r) × (callFits NoWildcard ar h ≡ true) × (hasMode ms (h .pred) ≡ false)
 unfolding headFields
 head-inv ar ms s h r e =
-    let w = then-inv (call NoWildcard ar s) (λ k q. cond (hasMode ms (k .pred)) (bad Clash (length s)) (got k q)) e in
+    let w = then-inv (call NoWildcard ar s) (λ k q. cond (hasMode ms (k .pred)) (wrong Clash s) (got k q)) e in
     let x = untest-inv (hasMode ms (w .0 .pred)) (w .0) (w .1) Clash (length s) (w .3) in
     let b = call-inv NoWildcard ar s (w .0) (w .1) (w .2) in
     carry (λ (y : Call) (l : List ℕ). (s ≡ encCall y ++ l) × (callFits NoWildcard ar y ≡ true) × (hasMode ms (y .pred) ≡ false)) (x .1) (b .0, b .1, x .0)
@@ -218,10 +216,10 @@ pub clause-inv : (ar : List ℕ) (ms : List Mode) (acc : List Clause) (s : List 
 unfolding clause
 clause-inv ar ms acc s c r t e =
     let made : Call → List Call → List ℕ → Got Clause = λ h body u. got (record { head = h; body = body }) u in
-    let w = then-inv (inRecord s (headFields ar ms (drop 2 s))) (λ h q. andThen (many Body (subgoal ar) maxSubgoals [] q) (made h)) e in
+    let w = then-inv (headFields ar ms (drop 2 s)) (λ h q. andThen (many Body (subgoal ar) maxSubgoals [] q) (made h)) e in
     let h = w .0 in
     let v = then-inv (many Body (subgoal ar) maxSubgoals [] (w .1)) (made h) (w .3) in
-    let b = head-inv ar ms (drop 2 s) h (w .1) (record-inv s (headFields ar ms (drop 2 s)) (w .2)) in
+    let b = head-inv ar ms (drop 2 s) h (w .1) (w .2) in
     let n = many-inv Body (subgoal ar) (SubgoalFits ar) encSubgoal (body-inv ar) maxSubgoals (w .1) (v .0) (v .1) (v .2) in
     let free : not (hasMode ms (h .pred)) ≡ true = rw (b .2) in
     let bytes· : drop 2 s ≡ (encCall h ++ run encSubgoal (v .0)) ++ v .1 = b .0 ∙ (ap (λ (l : List ℕ). encCall h ++ l) (n .from) ∙ sym (append-assoc (encCall h) (run encSubgoal (v .0)) (v .1))) in

@@ -14,7 +14,7 @@ use Rattle.masks.specs.Set.{bitAt}
 use Rattle.masks.specs.declared.reply.Reply.{Reply}
 use Rattle.book.specs.Limits.{longest}
 use Rattle.book.specs.Book.{Book}
-use Rattle.book.specs.Format.{number, fault, book, judge}
+use Rattle.book.specs.Format.{fault, book, judge}
 use Rattle.book.specs.Encode.{encode, WellFormed}
 use Rattle.book.specs.Table.{Table, entry}
 use Rattle.book.specs.declared.fault.Fault.{Fault}
@@ -31,7 +31,8 @@ use Rattle.closing.specs.Close.{closeOver, close, lacked, closed, closing}
 use Rattle.demands.specs.Demands as say
 use Rattle.masks.proofs.Laws.Logic.{byRange, clash}
 use Rattle.masks.proofs.Laws.Outcome.{answers-unique, answers-kept, answers-rest, answers-zero, done-bytes}
-use Rattle.book.proofs.Laws.Answer.{number-range, fault-place, book-injective, on-fault, on-book}
+use Rattle.book.proofs.Laws.Answer.{number-range, book-injective, on-fault, on-book}
+use Rattle.book.proofs.Laws.Places.{fault-stands}
 use Rattle.book.proofs.Laws.Bound.{encode-length, judge-length}
 use Rattle.book.proofs.Laws.Examples.{shortest-book}
 use Rattle.book.proofs.Laws.Longest.{longest-book, longest-well, longest-length}
@@ -57,12 +58,12 @@ one-answer o out =
     let this : Answers o out (reply o (length out)) (left o out) = record { replies = refl; leaves = refl } in
     record { reply· = reply o (length out); after = left o out; answers = this; only = λ r a x. answers-unique x this }
 
-faulty : (s : List ℕ) (f : Fault) (at : ℕ) → judge s ≡ fault f at → say.Faulty s (number f) at
+faulty : (s : List ℕ) (f : Fault) (at : ℕ) → judge s ≡ fault f at → say.Faulty s f at
 faulty s f at e =
     record {
       least = number-range f .0;
       most = number-range f .1;
-      place = fault-place s f at e;
+      place = fault-stands s f at e;
       check· = ap checked e;
       analyse· = sym (on-fault analysed s f at (sym e));
       plan· = sym (on-fault planned s f at (sym e));

@@ -9,7 +9,7 @@ use lib.ListN.{length, drop, set}
 use Rattle.masks.specs.Set.{Holds}
 use Rattle.book.specs.Limits.{maxClauses}
 use Rattle.book.specs.Book.{Call, Mode, Clause, noClause}
-use Rattle.book.specs.Format.{spelling, leads, markAt, turn, hasMode, clause, query}
+use Rattle.book.specs.Format.{spelling, leads, markAt, turn, hasMode, headFields, clause, query}
 use Rattle.book.specs.Held.{callIn, clauseSize, rulesSize, clausesOf}
 use Rattle.book.specs.declared.fault.Fault.{Fault}
 use Rattle.book.specs.declared.fault.Fault.the-variants.{TooMany}
@@ -31,10 +31,14 @@ use Rattle.reading.proofs.Laws.Bodies.{in-body, in-query, body-bad, bod
 -- ---- a clause
 
 module _ (ar s : List ℕ) (set· at k : ℕ) {h : FoundCall} (w : ReadsHead ar s set· at h) (before : List ℕ) where
+  -- its head, behind the mark
+  head : (ms : List Mode) → Holds set· (hasMode ms) → Reads s (h .found) (λ n. callIn (h .call)) (headFields ar ms (drop 2 (drop at s)))
+  head ms i = rw after-mark (w .reads ms i)
+
   -- the head has a fault
   pub clause-headless : {v : Fault} {q : ℕ} → h .found ≡ Bad v q → ReadsClause ar s set· at k (h .found) before before
   unfolding clause
-  clause-headless e = record { clause = noClause; inside = w .inside; reads = λ ms i. then-bad _ (w .reads ms i) e; stored = λ a n d. bad-next e d }
+  clause-headless e = record { clause = noClause; inside = w .inside; reads = λ ms i. then-bad _ (head ms i) e; stored = λ a n d. bad-next e d }
 
   module _ {next n : ℕ} (e : h .found ≡ Next next n) {one after : List ℕ} {g : Found} (b : ReadsBody ar s next k g one after) where
     -- the subgoals have one
@@ -44,7 +48,7 @@ module _ (ar s : List ℕ) (set· at k : ℕ) {h : FoundCall} (w : ReadsHead ar 
         record {
           clause = noClause;
           inside = b .inside;
-          reads = λ ms i. then-next _ (w .reads ms i) e (then-bad _ (body-bad b Body in-body {f = λ j. []} d) d);
+          reads = λ ms i. then-next _ (head ms i) e (then-bad _ (body-bad b Body in-body {f = λ j. []} d) d);
           stored = λ a m f. bad-next d f;
         }
 
@@ -56,7 +60,7 @@ module _ (ar s : List ℕ) (set· at k : ℕ) {h : FoundCall} (w : ReadsHead ar 
         record {
           clause = record { head = callIn (h .call); body = map callIn (b .words) };
           inside = v .inside;
-          reads = λ ms i. then-next _ (w .reads ms i) e (reads-map (λ (l : List Call). record { head = callIn (h .call); body = l }) (body-next b Body in-body d v));
+          reads = λ ms i. then-next _ (head ms i) e (reads-map (λ (l : List Call). record { head = callIn (h .call); body = l }) (body-next b Body in-body d v));
           stored = λ a j f room. clause-stored before k (h .call) (b .words) room low (b .few) first (b .stored end m d);
         }
 

@@ -15,7 +15,7 @@ use Rattle.masks.proofs.Laws.Lists.{any-append}
 use Rattle.masks.proofs.Laws.Set.{bitAt-zero, bitAt-more}
 use Rattle.book.specs.Limits.{maxPredicates}
 use Rattle.book.specs.Book.{Mode}
-use Rattle.book.specs.Format.{allows, spelling, leads, low, lowFrom, markAt, turn, inRecord, mode, modeFields, hasMode}
+use Rattle.book.specs.Format.{allows, spelling, leads, low, lowFrom, markAt, turn, mode, modeFields, hasMode}
 use Rattle.book.specs.Encode.{encMode}
 use Rattle.book.specs.Held.{modesSize, modeAt, modesOf}
 use Rattle.book.specs.declared.fault.Fault.{Fault}
@@ -29,7 +29,7 @@ use Rattle.records.specs.declared.field.Found.{Found}
 use Rattle.records.specs.declared.field.Found.the-variants.{Next, Bad}
 use Rattle.records.specs.Found.{Reads, Arities, stops}
 use Rattle.records.specs.Stored.{ReadsMode}
-use Rattle.records.proofs.Laws.Reads.{bad-next}
+use Rattle.records.proofs.Laws.Reads.{bad-next, after-mark}
 use Rattle.reading.specs.Judged.{NoModes}
 use Rattle.reading.specs.Stored.{ReadsModes}
 use Rattle.reading.proofs.Laws.Runs.{Going, mine-at, not-mine-at, mark-there, going-start, going-bad, going-next, going-end}
@@ -81,10 +81,10 @@ module _ (ar s : List ℕ) (arities : Arities ar) (from : ℕ) (before : List �
       pub moding-there : at + 2 ≤ length s
       moding-there = mark-there Modes s at t
 
-      module _ {g : Found} {after : List ℕ} (w : ReadsMode s g now after (inRecord (drop at s) (modeFields ar b (drop 2 (drop at s))))) where
+      module _ {g : Found} {after : List ℕ} (w : ReadsMode s g now after (modeFields ar b (drop (at + 2) s))) where
         reads : Reads s g (λ p. record { pred = p; masks = w .masks }) (mode ar (l .modes) (drop at s))
         unfolding mode
-        reads = rw (l .least) (w .reads)
+        reads = rw (l .least, after-mark) (w .reads)
 
         pub moding-bad : {v : Fault} {q : ℕ} → g ≡ Bad v q → ReadsModes ar s from (record { found = g; «with_mode» = set }) before after
         moding-bad e =

@@ -16,7 +16,7 @@ use Rattle.masks.specs.Set.{bitAt, Holds}
 use Rattle.masks.proofs.Laws.Logic.{byBool, and-intro, and-left, and-right}
 use Rattle.masks.proofs.Laws.Lists.{length-values, getD-values, take-values}
 use Rattle.book.specs.Book.{Call, Mode}
-use Rattle.book.specs.Format.{allows, byte, inRecord, call, hasMode, headFields}
+use Rattle.book.specs.Format.{allows, byte, call, hasMode, headFields}
 use Rattle.book.specs.Held.{countIn, byteOf, callIn}
 use Rattle.book.specs.declared.fault.Fault.{Fault}
 use Rattle.book.specs.declared.fault.Fault.the-variants.{Clash}
@@ -27,9 +27,9 @@ use Rattle.book.proofs.Laws.Words.{wordOf, byteOf-wordOf}
 use Rattle.records.specs.declared.field.Found.{Found}
 use Rattle.records.specs.declared.field.Found.the-variants.{Next, Bad}
 use Rattle.records.specs.declared.field.FoundCall.{FoundCall}
-use Rattle.records.specs.Found.{Reads, recorded}
+use Rattle.records.specs.Found.{Reads}
 use Rattle.records.specs.Stored.{argumentFrom, arguments, ReadsCall, ReadsHead}
-use Rattle.records.proofs.Laws.Reads.{argument-is, no-wildcard-is, bad-next, next-byte, then-bad, then-next, reads-map, next-inside, fields-read, Left, left-start, left-bad, left-next, left-end}
+use Rattle.records.proofs.Laws.Reads.{argument-is, no-wildcard-is, bad-next, next-byte, then-bad, then-next, reads-map, next-inside, Left, left-start, left-bad, left-next, left-end}
 
 -- ---- arguments
 
@@ -170,28 +170,21 @@ called-below range ar s at {r} w {next} {p} e =
     let u : Reads s (Next next p) (λ k. c) (call range ar (drop at s)) = subst (λ (q : Found). Reads s q (λ k. c) (call range ar (drop at s))) e (w .reads) in
     rw (← w .named next p e) (ltb-true (c .pred) (length ar) (call-known range ar c (call-inv range ar (drop at s) c (drop next s) (sym (u .is)) .1)))
 
-module _ (ar s : List ℕ) (set at : ℕ) (h : at + 2 ≤ length s) {r : FoundCall} (w : ReadsCall s r (call NoWildcard ar (drop (at + 2) s))) where
-  pub head-faulty : {v : Fault} {k : ℕ} → r .found ≡ Bad v k → {g : Found} → g ≡ recorded at (r .found) → ReadsHead ar s set at (record { found = g; call = r .call })
+module _ (ar s : List ℕ) (set at : ℕ) {r : FoundCall} (w : ReadsCall s r (call NoWildcard ar (drop (at + 2) s))) where
+  pub head-faulty : {v : Fault} {k : ℕ} → r .found ≡ Bad v k → ReadsHead ar s set at r
   unfolding headFields
-  head-faulty e {g} d =
-      rw d (record { inside = bad [] .inside; reads = λ ms i. bad ms })
-    where
-      bad : (ms : List Mode) → Reads s (recorded at (r .found)) (λ n. callIn (r .call)) (inRecord (drop at s) (headFields ar ms (drop 2 (drop at s))))
-      bad ms = fields-read (headFields ar ms) s at h (then-bad _ (w .reads) e)
+  head-faulty e = record { inside = w .reads .inside; reads = λ ms i. then-bad _ (w .reads) e }
 
   module _ {next p : ℕ} (e : r .found ≡ Next next p) where
     -- whether it has MO
     has : (ms : List Mode) → Holds set (hasMode ms) → hasMode ms (callIn (r .call) .pred) ≡ bitAt set p
     has ms i = ap (hasMode ms) (w .named next p e) ∙ sym (i p)
 
-    pub head-clash : bitAt set p ≡ true → ReadsHead ar s set at (record { found = Bad Clash at; call = r .call })
+    pub head-clash : at + 2 ≤ length s → bitAt set p ≡ true → ReadsHead ar s set at (record { found = Bad Clash (at + 2); call = r .call })
     unfolding headFields
-    head-clash t =
+    head-clash h t =
         let z : length (drop (at + 2) s) ≡ length s - (at + 2) = simp length-drop in
-        record {
-          inside = omega arith;
-          reads = λ ms i. fields-read (headFields ar ms) s at {r = Bad Clash (at + 2)} h (then-next _ (w .reads) e (record { inside = h; is = rw (has ms i ∙ t, z) }));
-        }
+        record { inside = h; reads = λ ms i. then-next _ (w .reads) e (record { inside = h; is = rw (has ms i ∙ t, z) }) }
 
     pub head-owns : bitAt set p ≡ false → ReadsHead ar s set at r
     unfolding headFields
@@ -200,6 +193,6 @@ module _ (ar s : List ℕ) (set at : ℕ) (h : at + 2 ≤ length s) {r : FoundCa
           inside = w .reads .inside;
           reads =
               λ ms i.
-              subst (λ (g : Found). Reads s g (λ n. callIn (r .call)) (inRecord (drop at s) (headFields ar ms (drop 2 (drop at s))))) (sym e)
-              (fields-read (headFields ar ms) s at {r = Next next p} h (then-next _ (w .reads) e (record { inside = next-inside (w .reads) e; is = rw (has ms i ∙ t) })));
+              subst (λ (g : Found). Reads s g (λ n. callIn (r .call)) (headFields ar ms (drop (at + 2) s))) (sym e)
+              (then-next _ (w .reads) e (record { inside = next-inside (w .reads) e; is = rw (has ms i ∙ t) }));
         }

@@ -12,7 +12,7 @@ use borrow.Author.Tests.{leb-true, le-leb, ltb-true, eqb-true, eqb-false, eq-eqb
 use Rattle.masks.specs.Limits.{maxArity}
 use Rattle.masks.proofs.Laws.Logic.{byBool, same, or-left, or-right, or-case}
 use Rattle.book.specs.Book.{Call}
-use Rattle.book.specs.Format.{allows, Got, got, andThen, byte, bytes, inRecord, predicate, call, subgoal}
+use Rattle.book.specs.Format.{allows, Got, got, andThen, byte, bytes, predicate, call, subgoal}
 use Rattle.book.specs.declared.fault.Fault.{Fault}
 use Rattle.book.specs.declared.fault.Fault.the-variants.{PastEnd, OutOfRange}
 use Rattle.book.specs.declared.range.Range.{Range}
@@ -20,7 +20,7 @@ use Rattle.book.specs.declared.range.Range.the-variants.{Below, AtMost, Argumen
 use Rattle.book.proofs.Laws.Got.{byte-inv}
 use Rattle.records.specs.declared.field.Found.{Found}
 use Rattle.records.specs.declared.field.Found.the-variants.{Next, Bad}
-use Rattle.records.specs.Found.{placeOf, means, Reads, recorded}
+use Rattle.records.specs.Found.{placeOf, means, Reads}
 
 -- ---- arguments
 
@@ -88,23 +88,7 @@ reads-map {A} {B} {s} {r} {f} {g} m w = record { inside = w .inside; is = go r �
     go (Next at n) = refl
     go (Bad v at) = refl
 
--- the fields of the record at a place
-pub record-reads : {A : Type 0} {s : List ℕ} {r : Found} {f : ℕ → A} {g : Got A} (at : ℕ) → at ≤ length s → Reads s r f g
-    → Reads s (recorded at r) f (inRecord (drop at s) g)
-record-reads {A} {s} {r} {f} {g} at h w = record { inside = within· r (w .inside); is = go r ∙ ap (inRecord (drop at s)) (w .is) }
-  where
-    within· : (q : Found) → placeOf q ≤ length s → placeOf (recorded at q) ≤ length s
-    within· (Next p n) i = i
-    within· (Bad v p) i = h
-
-    go : (q : Found) → means s (recorded at q) f ≡ inRecord (drop at s) (means s q f)
-    go (Next p n) = refl
-    go (Bad v p) = rw length-drop
-
-pub unrecorded : (at : ℕ) {a p : ℕ} (r : Found) → recorded at r ≡ Next a p → r ≡ Next a p
-unrecorded at (Next q n) e = e
-unrecorded at (Bad v q) e = bad-next refl e
-
+-- the fields of a record stand after its mark
 pub after-mark : (s : List ℕ) (at : ℕ) → drop 2 (drop at s) ≡ drop (at + 2) s
 after-mark s at = drop-drop 2 at s
 
@@ -156,17 +140,11 @@ next-inside {A} {s} w e = subst (λ (q : Found). placeOf q ≤ length s) e (w .i
 
 -- ---- records
 
--- the fields of a record stand after its mark
-pub fields-read : {A : Type 0} (fields : List ℕ → Got A) (s : List ℕ) (at : ℕ) {r : Found} {f : ℕ → A} → at + 2 ≤ length s → Reads s r f (fields (drop (at + 2) s))
-    → Reads s (recorded at r) f (inRecord (drop at s) (fields (drop 2 (drop at s))))
-fields-read fields s at {r} {f} h w = record-reads {r = r} {g = fields (drop 2 (drop at s))} at (omega arith) (rw after-mark w)
+module _ (s : List ℕ) (at : ℕ) {r : Found} where
+  pub predicate-reads : Reads s r (λ a. a) (byte (AtMost maxArity) (drop (at + 2) s)) → Reads s r (λ a. a) (predicate [] (drop at s))
+  unfolding predicate
+  predicate-reads w = rw after-mark w
 
-pub predicate-reads : (s : List ℕ) (at : ℕ) {r : Found} → at + 2 ≤ length s → Reads s r (λ a. a) (byte (AtMost maxArity) (drop (at + 2) s))
-    → Reads s (recorded at r) (λ a. a) (predicate [] (drop at s))
-unfolding predicate
-predicate-reads s at h w = fields-read (byte (AtMost maxArity)) s at h w
-
-pub subgoal-reads : (ar s : List ℕ) (at : ℕ) {r : Found} {f : ℕ → Call} → at + 2 ≤ length s → Reads s r f (call Argument ar (drop (at + 2) s))
-    → Reads s (recorded at r) f (subgoal ar [] (drop at s))
-unfolding subgoal
-subgoal-reads ar s at h w = fields-read (call Argument ar) s at h w
+  pub subgoal-reads : (ar : List ℕ) {f : ℕ → Call} → Reads s r f (call Argument ar (drop (at + 2) s)) → Reads s r f (subgoal ar [] (drop at s))
+  unfolding subgoal
+  subgoal-reads ar w = rw after-mark w

@@ -12,7 +12,7 @@ use Rattle.masks.specs.Limits.{maxMasks}
 use Rattle.masks.proofs.Laws.Lists.{sets-append}
 use Rattle.book.specs.Limits.{maxPredicates}
 use Rattle.book.specs.Book.{Mode}
-use Rattle.book.specs.Format.{allows, byte, bytes, inRecord, masks, modeFields}
+use Rattle.book.specs.Format.{allows, byte, bytes, masks, modeFields}
 use Rattle.book.specs.Held.{modeSize, modesSize, hasIn, masksIn, modeAt, StoredMode}
 use Rattle.book.specs.declared.fault.Fault.{Fault}
 use Rattle.book.specs.declared.fault.Fault.the-variants.{Clash}
@@ -22,9 +22,9 @@ use Rattle.book.proofs.Laws.Windows.{window-others}
 use Rattle.book.proofs.Laws.Got.{bytes-inv}
 use Rattle.records.specs.declared.field.Found.{Found}
 use Rattle.records.specs.declared.field.Found.the-variants.{Next, Bad}
-use Rattle.records.specs.Found.{Reads, recorded, Arities}
+use Rattle.records.specs.Found.{Reads, Arities}
 use Rattle.records.specs.Stored.{ReadsBytes, ReadsMasks, ReadsMode}
-use Rattle.records.proofs.Laws.Reads.{byte-allowed, bad-next, next-byte, then-bad, then-next, unrecorded, next-inside, predicate-known, fields-read, Left, left-start, left-bad, left-next, left-end}
+use Rattle.records.proofs.Laws.Reads.{byte-allowed, bad-next, next-byte, then-bad, then-next, next-inside, predicate-known, Left, left-start, left-bad, left-next, left-end}
 
 -- ---- a store past the end
 
@@ -184,10 +184,3 @@ module _ (ar s : List ℕ) (b at : ℕ) {g : Found} (w : Reads s g (λ x. x) (by
                 (let i = predicate-known ar s at w e in let f = arities .few in omega arith)
                 (v .few end n d)));
           }
-
--- the fields of a mode stand after its mark
-pub mode-recorded : (ar s : List ℕ) (b at : ℕ) {r q : Found} {before after : List ℕ} → at + 2 ≤ length s → q ≡ recorded at r
-    → ReadsMode s r before after (modeFields ar b (drop (at + 2) s)) → ReadsMode s q before after (inRecord (drop at s) (modeFields ar b (drop 2 (drop at s))))
-mode-recorded ar s b at {r} {q} {before} {after} h e w =
-    subst (λ (g : Found). ReadsMode s g before after (inRecord (drop at s) (modeFields ar b (drop 2 (drop at s))))) (sym e)
-    (record { masks = w .masks; reads = fields-read (modeFields ar b) s at h (w .reads); stored = λ a p d. w .stored a p (unrecorded at r d) })

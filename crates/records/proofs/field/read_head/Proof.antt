@@ -7,17 +7,14 @@ use Rattle.records.proofs.Laws.Calls.{called-below, head-faulty, head-c
 use Rattle.records.proofs.field.read_head.Statement.{statement}
 use Rattle.records.proofs.field.read_head.Tie as tie
 
-add-read-call : tie.Need-add-read-call
-add-read-call c = search needs
+add-from : tie.Need-add-from
+add-from c = search needs
 
 read-call-requires : tie.Need-read-call-requires
 read-call-requires c κs = search needs
 
 enum-told : tie.Need-enum-told
 enum-told c = search needs
-
-in-record-requires : tie.Need-in-record-requires
-in-record-requires c κs = search needs
 
 enum-known-g : tie.Need-enum-known-g
 enum-known-g c = search needs
@@ -35,31 +32,28 @@ returns c =
     let pre = c .before .before .before .before .before .before .before .before .pre in
     let read-call = c .before .before .before .before .before .read-call in
     let g = c .before .before .before .g in
-    head-clash (args .ar .now) (args .s .now) _ (args .at) (pre .0) (read-call .ensures) (g .given .1) (sym (c .before .has-member .ensures) ∙ c .if1 .taken)
+    head-clash (args .ar .now) (args .s .now) _ (args .at) (read-call .ensures) (g .given .1) (pre .0) (sym (c .before .has-member .ensures) ∙ c .if1 .taken)
 
 returns-2 : tie.Need-returns-2
 returns-2 c =
-    let args = c .before .before .before .before .before .before .args in
-    let pre = c .before .before .before .before .before .before .pre in
-    let read-call = c .before .before .before .read-call in
-    head-faulty _ _ _ (args .at) (pre .0) (read-call .ensures) (c .before .enum-told .given .1) (c .in-record .ensures)
+    let args = c .before .before .before .before .before .args in
+    let read-call = c .before .before .read-call in
+    head-faulty _ _ _ (args .at) (read-call .ensures) (c .enum-told .given .1)
 
 returns-3 : tie.Need-returns-3
 returns-3 c =
     let args = c .before .before .before .before .before .before .before .before .args in
-    let pre = c .before .before .before .before .before .before .before .before .pre in
     let read-call = c .before .before .before .before .before .read-call in
     let g = c .before .before .before .g in
-    head-owns _ _ _ (args .at) (pre .0) (read-call .ensures) (g .given .1) (sym (c .before .has-member .ensures) ∙ c .if1 .left)
+    head-owns _ _ _ (args .at) (read-call .ensures) (g .given .1) (sym (c .before .has-member .ensures) ∙ c .if1 .left)
 
 pub read-head-spec : {M : Type 1} → statement M
 read-head-spec =
     tie.close
     (tie.spec
-    add-read-call
+    add-from
     read-call-requires
     enum-told
-    in-record-requires
     enum-known-g
     has-member-requires
     returns

@@ -7,14 +7,8 @@ use Rattle.records.proofs.field.read_predicate.Tie as tie
 read-byte-requires : tie.Need-read-byte-requires
 read-byte-requires c κs = search needs
 
-in-record-requires : tie.Need-in-record-requires
-in-record-requires c κs = search needs
-
 returns : tie.Need-returns
-returns c =
-    let pre = c .before .before .before .pre in
-    rw (c .in-record .ensures) (predicate-reads _ _ pre (c .before .read-byte .ensures))
+returns c = predicate-reads _ (c .before .before .args .at) (c .read-byte .ensures)
 
 pub read-predicate-spec : {M : Type 1} → statement M
-read-predicate-spec =
-    tie.close (tie.spec (λ c. search needs) read-byte-requires in-record-requires returns)
+read-predicate-spec = tie.close (tie.spec (λ c. search needs) read-byte-requires returns)

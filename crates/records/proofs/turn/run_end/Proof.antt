@@ -15,6 +15,9 @@ turn-requires c κs = search needs
 enum-known-t : tie.Need-enum-known-t
 enum-known-t c = search needs
 
+place-requires : tie.Need-place-requires
+place-requires c κs = search needs
+
 enum-told : tie.Need-enum-told
 enum-told c = search needs
 
@@ -23,11 +26,13 @@ enum-told-2 c = search needs
 
 returns : tie.Need-returns
 returns c =
-    let args = c .before .before .before .before .before .before .args in
-    let pre = c .before .before .before .before .before .before .pre in
-    let mark-at = c .before .before .before .before .mark-at in
-    let turned = c .before .before .before .turn in
-    stops-no (args .p) (args .s .now) (args .at) pre _ 0 (sym (turned .ensures ∙ ap (turn (args .p)) (mark-at .ensures)) ∙ c .before .t .given .1)
+    let args = c .before .before .before .before .before .before .before .args in
+    let pre = c .before .before .before .before .before .before .before .pre in
+    let mark-at = c .before .before .before .before .before .mark-at in
+    let turned = c .before .before .before .before .turn in
+    let t = c .before .before .t in
+    rw (c .place .ensures)
+    (stops-no (args .p) (args .s .now) (args .at) pre _ 0 (sym (turned .ensures ∙ ap (turn (args .p)) (mark-at .ensures)) ∙ t .given .1))
 
 returns-2 : tie.Need-returns-2
 returns-2 c =
@@ -52,6 +57,7 @@ run-end-spec =
     mark-at-requires
     turn-requires
     enum-known-t
+    place-requires
     enum-told
     enum-told-2
     returns
