@@ -3,11 +3,11 @@
 use mathlib.Core.Path.{_≡_, refl, subst}
 use mathlib.Core.Bool.{Bool, true, false, cond}
 use mathlib.Core.List.{List, [], _∷_, _++_}
-use Prim.Native.Nat.{ℕ, zero, suc, _-_, _^_, _≤_, _<_}
+use Prim.Native.Nat.{ℕ, zero, suc, _-_, _^_, _<_}
 use native.Mathlib.Omega.{arith}
 use lib.Dec.{leb}
 use lib.ListN.{length, getD, drop}
-use Rattle.masks.specs.Limits.{maxArity, maxMasks}
+use Rattle.masks.specs.Limits.{maxMasks}
 use Rattle.book.specs.Limits.{maxPredicates, maxClauses, maxSubgoals}
 use Rattle.book.specs.Book.{Call, Mode, Clause, Book}
 use Rattle.book.specs.Format.{Stands, allows, Got, bad, got, andThen, wrong, byte, bytes, onTurn, many, turn, markAt, hasMode, predicate, masks, modeFields, mode, low, call, subgoal, headFields, clause, query, rules, readBook, Judged, fault, book, judged, judge}
