@@ -33,7 +33,7 @@ static const char *wanted(uint32_t number, int at_end)
     case SHODH_OUT_OF_TURN:
         return at_end ? "QU, the query" : "a record in its turn: all PR, all MO, the clauses, then one QU";
     case SHODH_OUT_OF_RANGE:
-        return "arity 0 to 6, predicate below the number of PR, n 0 to 20, mask below 2^arity, argument 0 to 15, 255, in SG also 254";
+        return "an arity 0 to 6, a predicate below the number of PR, n 0 to 20, a mask below 2^arity, or an argument 0 to 15, 255, in SG 254";
     case SHODH_TOO_MANY:
         return "another record: there are 64 PR, 64 CL or 8 SG before it";
     case SHODH_CLASH:
@@ -49,7 +49,7 @@ static void print_refusal(shodh_reply reply, size_t length)
     if (reply.number == SHODH_UNORDERABLE)
         printf("no order gives every outside call what it must have\n");
     else if (at < length)
-        printf("byte %zu is %u; wanted: %s\n", at, book[at], wanted(reply.number, 0));
+        printf("byte %zu is %u (hex %02x); wanted: %s\n", at, book[at], book[at], wanted(reply.number, 0));
     else if (length > SHODH_BOOK_SIZE)
         printf("longer than any book, which has at most %d bytes\n", SHODH_BOOK_SIZE);
     else
