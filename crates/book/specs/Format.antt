@@ -36,13 +36,13 @@ number Clash = 6
 -- W2: "the offset of the mark's first byte for 2, 3 and 5, of the byte out of range for 4, of the predicate byte for 6. For 1, and for 3 where the book
 -- ends without `QU`, it is the book's length.": the place of a fault, of two: the end of the book, and where the fault is found, which is a mark or the
 -- end where one is missing, a byte, or a predicate. Here a place is how many bytes are left from it on, in the code how many are before it.
-abbrev pub placed : Fault → ℕ → ℕ → ℕ
-placed PastEnd end found = end
-placed NoMark end found = found
-placed OutOfTurn end found = found
-placed OutOfRange end found = found
-placed TooMany end found = found
-placed Clash end found = found
+abbrev pub place : Fault → ℕ → ℕ → ℕ
+place PastEnd end found = end
+place NoMark end found = found
+place OutOfTurn end found = found
+place OutOfRange end found = found
+place TooMany end found = found
+place Clash end found = found
 
 -- where the first fault of n bytes stands at all: 1 at their end, 3 at a byte or at the end, the others at a byte
 abbrev pub Stands : Fault → ℕ → ℕ → Type 0
@@ -134,7 +134,7 @@ andThen (got a s) next = next a s
 
 -- a fault that is found at the first of the bytes s
 abbrev pub wrong : {A : Type 0} → Fault → List ℕ → Got A
-wrong f s = bad f (placed f 0 (length s))
+wrong f s = bad f (place f 0 (length s))
 
 -- "byte by byte from the left, present (1) before in range (4)"
 abbrev pub byte : Range → List ℕ → Got ℕ

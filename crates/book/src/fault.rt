@@ -27,7 +27,7 @@ pub fn number(f: Fault) -> u32
 
 // The place of a fault, of two: the end of the book, and where the fault is found.
 pub fn place(f: Fault, end: usize, found: usize) -> usize
-    ensures { λ r. ⌜ r ≡ format.placed f end found ⌝ }
+    ensures { λ r. ⌜ r ≡ format.place f end found ⌝ }
 {
     match f {
         Fault::PastEnd => end,

@@ -6,7 +6,7 @@ use native.Mathlib.Omega.{arith}
 use lib.ListN.{length}
 use Rattle.masks.specs.Outcome.{Outcome, refused}
 use Rattle.book.specs.Book.{Book}
-use Rattle.book.specs.Format.{number, placed, Got, bad, got, readBook, Judged, fault, book, judged, judge}
+use Rattle.book.specs.Format.{number, place, Got, bad, got, readBook, Judged, fault, book, judged, judge}
 use Rattle.book.specs.Answer.{ofJudged, onBook}
 use Rattle.book.specs.declared.fault.Fault.{Fault}
 use Rattle.book.specs.declared.fault.Fault.the-variants.{PastEnd, NoMark, OutOfTurn, OutOfRange, TooMany, Clash}
@@ -26,13 +26,13 @@ pub number-some : (f : Fault) → number f ≡ 0 → ⊥
 number-some f e = let r = number-range f in omega arith
 
 -- a place in n bytes is one whether counted from their start or from their end
-pub placed-inside : (f : Fault) {n at : ℕ} → at ≤ n → (placed f n at ≤ n) × (n - placed f n at ≡ placed f 0 (n - at))
-placed-inside PastEnd h = (omega arith, omega arith)
-placed-inside NoMark h = (h, refl)
-placed-inside OutOfTurn h = (h, refl)
-placed-inside OutOfRange h = (h, refl)
-placed-inside TooMany h = (h, refl)
-placed-inside Clash h = (h, refl)
+pub place-inside : (f : Fault) {n at : ℕ} → at ≤ n → (place f n at ≤ n) × (n - place f n at ≡ place f 0 (n - at))
+place-inside PastEnd h = (omega arith, omega arith)
+place-inside NoMark h = (h, refl)
+place-inside OutOfTurn h = (h, refl)
+place-inside OutOfRange h = (h, refl)
+place-inside TooMany h = (h, refl)
+place-inside Clash h = (h, refl)
 
 -- a fault's place is in the bytes or at their end
 placeOf : Judged → ℕ

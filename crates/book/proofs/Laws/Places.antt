@@ -22,139 +22,139 @@ use Rattle.book.specs.declared.range.Range.the-variants.{Below, AtMost, 
 
 -- ---- a fault from whose place on k bytes are left
 
-abbrev Left : Fault → ℕ → Type 0
-Left PastEnd k = k ≡ 0
-Left NoMark k = 0 < k
-Left OutOfTurn k = Unit {0}
-Left OutOfRange k = 0 < k
-Left TooMany k = 0 < k
-Left Clash k = 0 < k
+abbrev Leaves : Fault → ℕ → Type 0
+Leaves PastEnd k = k ≡ 0
+Leaves NoMark k = 0 < k
+Leaves OutOfTurn k = Unit {0}
+Leaves OutOfRange k = 0 < k
+Leaves TooMany k = 0 < k
+Leaves Clash k = 0 < k
 
-abbrev leftIn : {A : Type 0} → Got A → Type 0
-leftIn (bad f k) = Left f k
-leftIn (got a s) = Unit {0}
+abbrev leavesIn : {A : Type 0} → Got A → Type 0
+leavesIn (bad f k) = Leaves f k
+leavesIn (got a s) = Unit {0}
 
-record Placed {A : Type 0} (g : Got A) : Type 0 where
-  left : leftIn g
+record Standing {A : Type 0} (g : Got A) : Type 0 where
+  leaves : leavesIn g
 
-at-byte : {A : Type 0} (f : Fault) (x : ℕ) (s : List ℕ) → Placed {A = A} (wrong f (x ∷ s))
-at-byte PastEnd x s = record { left = refl }
-at-byte NoMark x s = record { left = omega arith }
-at-byte OutOfTurn x s = record { left = tt }
-at-byte OutOfRange x s = record { left = omega arith }
-at-byte TooMany x s = record { left = omega arith }
-at-byte Clash x s = record { left = omega arith }
+at-byte : {A : Type 0} (f : Fault) (x : ℕ) (s : List ℕ) → Standing {A = A} (wrong f (x ∷ s))
+at-byte PastEnd x s = record { leaves = refl }
+at-byte NoMark x s = record { leaves = omega arith }
+at-byte OutOfTurn x s = record { leaves = tt }
+at-byte OutOfRange x s = record { leaves = omega arith }
+at-byte TooMany x s = record { leaves = omega arith }
+at-byte Clash x s = record { leaves = omega arith }
 
-past-end : {A : Type 0} → Placed {A = A} (bad PastEnd 0)
-past-end = record { left = refl }
+past-end : {A : Type 0} → Standing {A = A} (bad PastEnd 0)
+past-end = record { leaves = refl }
 
-read : {A : Type 0} {a : A} {s : List ℕ} → Placed (got a s)
-read = record { left = tt }
+read : {A : Type 0} {a : A} {s : List ℕ} → Standing (got a s)
+read = record { leaves = tt }
 
 -- ---- what reading is made of
 
-then-placed : {A B : Type 0} (g : Got A) (f : A → List ℕ → Got B) → Placed g → ((a : A) (t : List ℕ) → Placed (f a t)) → Placed (andThen g f)
-then-placed (bad v k) f p q = record { left = p .left }
-then-placed (got a s) f p q = q a s
+then-standing : {A B : Type 0} (g : Got A) (f : A → List ℕ → Got B) → Standing g → ((a : A) (t : List ℕ) → Standing (f a t)) → Standing (andThen g f)
+then-standing (bad v k) f p q = record { leaves = p .leaves }
+then-standing (got a s) f p q = q a s
 
-test-placed : {A : Type 0} (b : Bool) {g h : Got A} → Placed g → Placed h → Placed (cond b g h)
-test-placed true p q = p
-test-placed false p q = q
+test-standing : {A : Type 0} (b : Bool) {g h : Got A} → Standing g → Standing h → Standing (cond b g h)
+test-standing true p q = p
+test-standing false p q = q
 
-byte-placed : (r : Range) (s : List ℕ) → Placed (byte r s)
-byte-placed r [] = past-end
-byte-placed r (x ∷ s) = test-placed (allows r x) read (at-byte OutOfRange x s)
+byte-standing : (r : Range) (s : List ℕ) → Standing (byte r s)
+byte-standing r [] = past-end
+byte-standing r (x ∷ s) = test-standing (allows r x) read (at-byte OutOfRange x s)
 
-bytes-placed : (r : Range) (k : ℕ) (acc s : List ℕ) → Placed (bytes r k acc s)
+bytes-standing : (r : Range) (k : ℕ) (acc s : List ℕ) → Standing (bytes r k acc s)
 unfolding bytes
-bytes-placed r zero acc s = read
-bytes-placed r (suc k) acc s = then-placed (byte r s) _ (byte-placed r s) (λ x t. bytes-placed r k (acc ++ (x ∷ [])) t)
+bytes-standing r zero acc s = read
+bytes-standing r (suc k) acc s = then-standing (byte r s) _ (byte-standing r s) (λ x t. bytes-standing r k (acc ++ (x ∷ [])) t)
 
 -- no record begins where nothing is left, and 3 is the only fault there
-none-placed : {A : Type 0} (p : Phase) (more : Got A) (a : A) → Placed (onTurn (turn p (markAt [])) more a [])
+none-standing : {A : Type 0} (p : Phase) (more : Got A) (a : A) → Standing (onTurn (turn p (markAt [])) more a [])
 unfolding markAt
-none-placed Predicates more a = record { left = tt }
-none-placed Modes more a = record { left = tt }
-none-placed Clauses more a = record { left = tt }
-none-placed Body more a = record { left = tt }
-none-placed Query more a = record { left = tt }
+none-standing Predicates more a = record { leaves = tt }
+none-standing Modes more a = record { leaves = tt }
+none-standing Clauses more a = record { leaves = tt }
+none-standing Body more a = record { leaves = tt }
+none-standing Query more a = record { leaves = tt }
 
-turn-placed : {A : Type 0} (t : Turn) {more : Got A} (a : A) (x : ℕ) (s : List ℕ) → Placed more → Placed (onTurn t more a (x ∷ s))
-turn-placed Mine a x s p = p
-turn-placed Over a x s p = read
-turn-placed (No f) a x s p = at-byte f x s
+turn-standing : {A : Type 0} (t : Turn) {more : Got A} (a : A) (x : ℕ) (s : List ℕ) → Standing more → Standing (onTurn t more a (x ∷ s))
+turn-standing Mine a x s p = p
+turn-standing Over a x s p = read
+turn-standing (No f) a x s p = at-byte f x s
 
-many-placed : {A : Type 0} (p : Phase) (item : List A → List ℕ → Got A) → ((acc : List A) (s : List ℕ) → Placed (item acc s)) → (room : ℕ) (acc : List A) (s : List ℕ)
-    → Placed (many p item room acc s)
+many-standing : {A : Type 0} (p : Phase) (item : List A → List ℕ → Got A) → ((acc : List A) (s : List ℕ) → Standing (item acc s)) → (room : ℕ) (acc : List A) (s : List ℕ)
+    → Standing (many p item room acc s)
 unfolding many
-many-placed p item each zero acc [] = none-placed p _ acc
-many-placed p item each zero acc (x ∷ s) = turn-placed (turn p (markAt (x ∷ s))) acc x s (at-byte TooMany x s)
-many-placed p item each (suc room) acc [] = none-placed p _ acc
-many-placed p item each (suc room) acc (x ∷ s) =
-    turn-placed (turn p (markAt (x ∷ s))) acc x s (then-placed (item acc (x ∷ s)) _ (each acc (x ∷ s)) (λ a t. many-placed p item each room (acc ++ (a ∷ [])) t))
+many-standing p item each zero acc [] = none-standing p _ acc
+many-standing p item each zero acc (x ∷ s) = turn-standing (turn p (markAt (x ∷ s))) acc x s (at-byte TooMany x s)
+many-standing p item each (suc room) acc [] = none-standing p _ acc
+many-standing p item each (suc room) acc (x ∷ s) =
+    turn-standing (turn p (markAt (x ∷ s))) acc x s (then-standing (item acc (x ∷ s)) _ (each acc (x ∷ s)) (λ a t. many-standing p item each room (acc ++ (a ∷ [])) t))
 
 -- ---- the records
 
-call-placed : (r : Range) (ar s : List ℕ) → Placed (call r ar s)
+call-standing : (r : Range) (ar s : List ℕ) → Standing (call r ar s)
 unfolding call
-call-placed r ar s = then-placed (byte (Below (length ar)) s) _ (byte-placed _ s) (λ p t. then-placed (bytes r (getD ar p 0) [] t) _ (bytes-placed r _ [] t) (λ args u. read))
+call-standing r ar s = then-standing (byte (Below (length ar)) s) _ (byte-standing _ s) (λ p t. then-standing (bytes r (getD ar p 0) [] t) _ (bytes-standing r _ [] t) (λ args u. read))
 
-predicate-placed : (acc s : List ℕ) → Placed (predicate acc s)
+predicate-standing : (acc s : List ℕ) → Standing (predicate acc s)
 unfolding predicate
-predicate-placed acc s = byte-placed _ (drop 2 s)
+predicate-standing acc s = byte-standing _ (drop 2 s)
 
-subgoal-placed : (ar : List ℕ) (acc : List Call) (s : List ℕ) → Placed (subgoal ar acc s)
+subgoal-standing : (ar : List ℕ) (acc : List Call) (s : List ℕ) → Standing (subgoal ar acc s)
 unfolding subgoal
-subgoal-placed ar acc s = call-placed Argument ar (drop 2 s)
+subgoal-standing ar acc s = call-standing Argument ar (drop 2 s)
 
-masks-placed : (k : ℕ) (s : List ℕ) → Placed (masks k s)
+masks-standing : (k : ℕ) (s : List ℕ) → Standing (masks k s)
 unfolding masks
-masks-placed k s = then-placed (byte (AtMost maxMasks) s) _ (byte-placed _ s) (λ n t. bytes-placed (Below k) n [] t)
+masks-standing k s = then-standing (byte (AtMost maxMasks) s) _ (byte-standing _ s) (λ n t. bytes-standing (Below k) n [] t)
 
-fields-placed : (ar : List ℕ) (b : ℕ) (s : List ℕ) → Placed (modeFields ar b s)
+fields-standing : (ar : List ℕ) (b : ℕ) (s : List ℕ) → Standing (modeFields ar b s)
 unfolding modeFields
-fields-placed ar b [] = past-end
-fields-placed ar b (x ∷ s) =
-    then-placed (byte (Below (length ar)) (x ∷ s)) _ (byte-placed _ (x ∷ s))
-    (λ p t. then-placed (masks (2 ^ getD ar p 0) t) _ (masks-placed _ t) (λ ms u. test-placed (leb b p) read (at-byte Clash x s)))
+fields-standing ar b [] = past-end
+fields-standing ar b (x ∷ s) =
+    then-standing (byte (Below (length ar)) (x ∷ s)) _ (byte-standing _ (x ∷ s))
+    (λ p t. then-standing (masks (2 ^ getD ar p 0) t) _ (masks-standing _ t) (λ ms u. test-standing (leb b p) read (at-byte Clash x s)))
 
-mode-placed : (ar : List ℕ) (acc : List Mode) (s : List ℕ) → Placed (mode ar acc s)
+mode-standing : (ar : List ℕ) (acc : List Mode) (s : List ℕ) → Standing (mode ar acc s)
 unfolding mode
-mode-placed ar acc s = fields-placed ar (low acc) (drop 2 s)
+mode-standing ar acc s = fields-standing ar (low acc) (drop 2 s)
 
-head-placed : (ar : List ℕ) (ms : List Mode) (s : List ℕ) → Placed (headFields ar ms s)
+head-standing : (ar : List ℕ) (ms : List Mode) (s : List ℕ) → Standing (headFields ar ms s)
 unfolding headFields call
-head-placed ar ms [] = past-end
-head-placed ar ms (x ∷ s) =
-    then-placed (call NoWildcard ar (x ∷ s)) _ (call-placed NoWildcard ar (x ∷ s)) (λ h t. test-placed (hasMode ms (h .pred)) (at-byte Clash x s) read)
+head-standing ar ms [] = past-end
+head-standing ar ms (x ∷ s) =
+    then-standing (call NoWildcard ar (x ∷ s)) _ (call-standing NoWildcard ar (x ∷ s)) (λ h t. test-standing (hasMode ms (h .pred)) (at-byte Clash x s) read)
 
-clause-placed : (ar : List ℕ) (ms : List Mode) (acc : List Clause) (s : List ℕ) → Placed (clause ar ms acc s)
+clause-standing : (ar : List ℕ) (ms : List Mode) (acc : List Clause) (s : List ℕ) → Standing (clause ar ms acc s)
 unfolding clause
-clause-placed ar ms acc s =
-    then-placed (headFields ar ms (drop 2 s)) _ (head-placed ar ms (drop 2 s))
-    (λ h t. then-placed (many Body (subgoal ar) maxSubgoals [] t) _ (many-placed Body (subgoal ar) (subgoal-placed ar) maxSubgoals [] t) (λ body u. read))
+clause-standing ar ms acc s =
+    then-standing (headFields ar ms (drop 2 s)) _ (head-standing ar ms (drop 2 s))
+    (λ h t. then-standing (many Body (subgoal ar) maxSubgoals [] t) _ (many-standing Body (subgoal ar) (subgoal-standing ar) maxSubgoals [] t) (λ body u. read))
 
-query-placed : (ar s : List ℕ) → Placed (query ar s)
+query-standing : (ar s : List ℕ) → Standing (query ar s)
 unfolding query
-query-placed ar s = many-placed Query (subgoal ar) (subgoal-placed ar) maxSubgoals [] (drop 2 s)
+query-standing ar s = many-standing Query (subgoal ar) (subgoal-standing ar) maxSubgoals [] (drop 2 s)
 
 -- ---- the book
 
-rules-placed : (ar s : List ℕ) → Placed (rules ar s)
+rules-standing : (ar s : List ℕ) → Standing (rules ar s)
 unfolding rules
-rules-placed ar s =
-    then-placed (many Modes (mode ar) (suc maxPredicates) [] s) _ (many-placed Modes (mode ar) (mode-placed ar) (suc maxPredicates) [] s)
+rules-standing ar s =
+    then-standing (many Modes (mode ar) (suc maxPredicates) [] s) _ (many-standing Modes (mode ar) (mode-standing ar) (suc maxPredicates) [] s)
     (λ ms t.
-    then-placed (many Clauses (clause ar ms) maxClauses [] t) _ (many-placed Clauses (clause ar ms) (clause-placed ar ms) maxClauses [] t)
-    (λ cs u. then-placed (query ar u) _ (query-placed ar u) (λ q v. read)))
+    then-standing (many Clauses (clause ar ms) maxClauses [] t) _ (many-standing Clauses (clause ar ms) (clause-standing ar ms) maxClauses [] t)
+    (λ cs u. then-standing (query ar u) _ (query-standing ar u) (λ q v. read)))
 
-book-placed : (s : List ℕ) → Placed (readBook s)
+book-standing : (s : List ℕ) → Standing (readBook s)
 unfolding readBook
-book-placed s =
-    then-placed (many Predicates predicate maxPredicates [] s) _ (many-placed Predicates predicate predicate-placed maxPredicates [] s) (λ ar t. rules-placed ar t)
+book-standing s =
+    then-standing (many Predicates predicate maxPredicates [] s) _ (many-standing Predicates predicate predicate-standing maxPredicates [] s) (λ ar t. rules-standing ar t)
 
 -- the same, counted from the start
-stands : (f : Fault) (s : List ℕ) (x k : ℕ) → Left f k → Stands f (length (x ∷ s)) (length (x ∷ s) - k)
+stands : (f : Fault) (s : List ℕ) (x k : ℕ) → Leaves f k → Stands f (length (x ∷ s)) (length (x ∷ s) - k)
 stands PastEnd s x k l = omega arith
 stands NoMark s x k l = omega arith
 stands OutOfTurn s x k l = omega arith
@@ -169,10 +169,10 @@ standsIn s (book B) = Unit {0}
 judge-stands : (s : List ℕ) → standsIn s (judge s)
 unfolding judge readBook many markAt
 judge-stands [] = omega arith
-judge-stands (x ∷ s) = go (readBook (x ∷ s)) (book-placed (x ∷ s))
+judge-stands (x ∷ s) = go (readBook (x ∷ s)) (book-standing (x ∷ s))
   where
-    go : (g : Got Book) → Placed g → standsIn (x ∷ s) (judged (x ∷ s) g)
-    go (bad f k) p = stands f s x k (p .left)
+    go : (g : Got Book) → Standing g → standsIn (x ∷ s) (judged (x ∷ s) g)
+    go (bad f k) p = stands f s x k (p .leaves)
     go (got B t) p = tt
 
 pub fault-stands : (s : List ℕ) (f : Fault) (at : ℕ) → judge s ≡ fault f at → Stands f (length s) at

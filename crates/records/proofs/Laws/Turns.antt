@@ -7,12 +7,12 @@ use native.Mathlib.Omega.{arith}
 use lib.Dec.{eqb}
 use lib.ListN.{length, getD, drop, length-drop, drop-of-length-le}
 use borrow.Author.Tests.{eq-eqb, ne-eqb}
-use Rattle.book.specs.Format.{placed, leads, unmarked, markAt, turn}
+use Rattle.book.specs.Format.{place, leads, unmarked, markAt, turn}
 use Rattle.book.specs.declared.fault.Fault.{Fault}
 use Rattle.book.specs.declared.mark.Mark.the-variants.{Other, Half, End}
 use Rattle.book.specs.declared.mark.Phase.{Phase}
 use Rattle.book.specs.declared.mark.Turn.the-variants.{Mine, Over, No}
-use Rattle.book.proofs.Laws.Answer.{placed-inside}
+use Rattle.book.proofs.Laws.Answer.{place-inside}
 use Rattle.records.specs.declared.field.Found.the-variants.{Next, Bad}
 use Rattle.records.specs.Found.{Reads, stops}
 use Rattle.records.proofs.Laws.Reads.{drop-at}
@@ -56,8 +56,8 @@ module _ (s : List ℕ) (at : ℕ) where
 -- ---- the end of a run
 
 module _ {A : Type 0} (p : Phase) (s : List ℕ) (at : ℕ) (h : at ≤ length s) (f : ℕ → A) (n : ℕ) where
-  pub stops-no : {v : Fault} → turn p (markAt (drop at s)) ≡ No v → Reads s (Bad v (placed v (length s) at)) f (stops p (f n) (drop at s))
-  stops-no {v} e = let (i, z) = placed-inside v h in record { inside = i; is = rw (e, length-drop, z) }
+  pub stops-no : {v : Fault} → turn p (markAt (drop at s)) ≡ No v → Reads s (Bad v (place v (length s) at)) f (stops p (f n) (drop at s))
+  stops-no {v} e = let (i, z) = place-inside v h in record { inside = i; is = rw (e, length-drop, z) }
 
   pub stops-over : turn p (markAt (drop at s)) ≡ Over → Reads s (Next at n) f (stops p (f n) (drop at s))
   stops-over e = record { inside = h; is = rw e }

@@ -1,5 +1,5 @@
 -- `records::field::read_mode` meets its contract. A fault of the predicate, then one of the masks, then whether the predicate rises. Assumes nothing.
-use Prim.Native.Nat.{_+_}
+use Prim.Native.Nat.{ℕ, _+_}
 use native.Mathlib.Omega.{arith}
 use borrow.Author.Needs.{needs}
 use Rattle.book.proofs.Laws.Bound.{arities-at}
@@ -26,25 +26,31 @@ enum-known-g c = search needs
 cast-arity : tie.Need-cast-arity
 cast-arity c = search needs
 
+-- its predicate was read
+module _ (k : tie.After-known-told) where
+  abbrev read : tie.After-read-byte
+  read = k .before .before .before
+
+  abbrev start : tie.Start
+  start = read .before .before .before .before
+
+  abbrev from : ℕ
+  from = start .args .at + 2
+
 shared-slice-read-arity : tie.Need-shared-slice-read-arity
 shared-slice-read-arity c =
-    let args = c .before .before .before .before .before .before .before .before .args in
-    let read-byte = c .before .before .before .before .read-byte in
-    let g = c .before .before .g in
-    predicate-known (args .ar .now) (args .s .now) (args .at + 2) (read-byte .ensures) (g .given .1)
+    let k = c .before in
+    predicate-known (start k .args .ar .now) (start k .args .s .now) (from k) (read k .read-byte .ensures) (k .before .g .given .1)
 
 patterns-requires : tie.Need-patterns-requires
 patterns-requires c κs =
-    let args = c .before .before .before .before .before .before .before .before .args in
-    let pre = c .before .before .before .before .before .before .before .before .pre in
-    let g = c .before .before .g in
-    arities-at (args .ar .now) (pre .1 .fit) (g .given .0 .1 .0)
+    let k = c .before in
+    arities-at (start k .args .ar .now) (start k .pre .1 .fit) (k .before .g .given .0 .1 .0)
 
 read-masks-requires : tie.Need-read-masks-requires
 read-masks-requires c κs =
-    let read-byte = c .before .before .before .before .before .before .read-byte in
-    let g = c .before .before .before .before .g in
-    next-inside (read-byte .ensures) (g .given .1)
+    let k = c .before .before .before in
+    next-inside (read k .read-byte .ensures) (k .before .g .given .1)
 
 enum-told-2 : tie.Need-enum-told-2
 enum-told-2 c = search needs
@@ -57,14 +63,9 @@ same-length c = search needs
 
 returns : tie.Need-returns
 returns c =
-    let args = c .before .before .before .before .before .before .before .before .before .before .before .before .before .before .before .before .before .args in
-    let pre = c .before .before .before .before .before .before .before .before .before .before .before .before .before .before .before .before .before .pre in
-    let read-byte = c .before .before .before .before .before .before .before .before .before .before .before .before .before .read-byte in
-    let g = c .before .before .before .before .before .before .before .before .before .before .before .g in
-    let patterns = c .before .before .before .before .before .before .before .before .patterns in
-    let read-masks = c .before .before .before .before .before .before .read-masks in
-    let h = c .before .before .h in
-    mode-clash _ _ _ (args .at + 2) (read-byte .ensures) _ (g .given .1) (patterns .ensures) (read-masks .ensures) (h .given .1) (pre .0) (omega arith)
+    let d = c .before .before .before .before .before .before in
+    let k = d .before .before .before .before in
+    mode-clash _ _ _ (from k) (read k .read-byte .ensures) _ (k .before .g .given .1) (d .before .before .patterns .ensures) (d .read-masks .ensures) (c .before .before .h .given .1) (start k .pre .0) (omega arith)
 
 returns-2 : tie.Need-returns-2
 returns-2 c =
@@ -77,26 +78,18 @@ same-length-2 c = search needs
 
 returns-3 : tie.Need-returns-3
 returns-3 c =
-    let args = c .before .before .before .before .before .before .before .before .before .before .before .before .before .before .before .args in
-    let read-byte = c .before .before .before .before .before .before .before .before .before .before .before .read-byte in
-    let g = c .before .before .before .before .before .before .before .before .before .g in
-    let patterns = c .before .before .before .before .before .before .patterns in
-    let read-masks = c .before .before .before .before .read-masks in
-    mode-unlaid _ _ _ (args .at + 2) (read-byte .ensures) _ (g .given .1) (patterns .ensures) (read-masks .ensures) (c .enum-told2 .given .1)
+    let d = c .before .before .before .before in
+    let k = d .before .before .before .before in
+    mode-unlaid _ _ _ (from k) (read k .read-byte .ensures) _ (k .before .g .given .1) (d .before .before .patterns .ensures) (d .read-masks .ensures) (c .enum-told2 .given .1)
 
 same-length-3 : tie.Need-same-length-3
 same-length-3 c = search needs
 
 returns-4 : tie.Need-returns-4
 returns-4 c =
-    let args = c .before .before .before .before .before .before .before .before .before .before .before .before .before .before .before .before .before .args in
-    let pre = c .before .before .before .before .before .before .before .before .before .before .before .before .before .before .before .before .before .pre in
-    let read-byte = c .before .before .before .before .before .before .before .before .before .before .before .before .before .read-byte in
-    let g = c .before .before .before .before .before .before .before .before .before .before .before .g in
-    let patterns = c .before .before .before .before .before .before .before .before .patterns in
-    let read-masks = c .before .before .before .before .before .before .read-masks in
-    let h = c .before .before .h in
-    mode-laid _ _ _ (args .at + 2) (read-byte .ensures) _ (g .given .1) (patterns .ensures) (read-masks .ensures) (h .given .1) (pre .1) (omega arith)
+    let d = c .before .before .before .before .before .before in
+    let k = d .before .before .before .before in
+    mode-laid _ _ _ (from k) (read k .read-byte .ensures) _ (k .before .g .given .1) (d .before .before .patterns .ensures) (d .read-masks .ensures) (c .before .before .h .given .1) (start k .pre .1) (omega arith)
 
 pub read-mode-spec : {M : Type 1} → statement M
 read-mode-spec =
