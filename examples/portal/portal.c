@@ -4,7 +4,7 @@
 
 #include <shodhvirup.h>
 
-/* One byte more than the longest book: a file that fills it is too long to be one, and the check says where it goes wrong. */
+/* One byte more than the longest book: a file that fills it is too long to be one. */
 static uint8_t book[SHODH_BOOK_SIZE + 1];
 static uint8_t plan[SHODH_PLAN_SIZE];
 
@@ -42,6 +42,7 @@ static const char *wanted(uint32_t number, int at_end)
     return "";
 }
 
+/* A refusal in words: the byte at fault, its offset and what was wanted there; or that the book ends, or that the file goes on where no book does. */
 static void print_refusal(shodh_reply reply, size_t length)
 {
     size_t at = (size_t)reply.value;

@@ -14,7 +14,23 @@ use Rattle.book.specs.declared.mark.Mark.the-variants.{Pr, Mo, Cl, Sg, Q
 use Rattle.book.specs.declared.range.Range.{Range}
 use Rattle.book.specs.declared.range.Range.the-variants.{Below, AtMost, Argument, NoWildcard}
 
--- ---- "A book is a run of records"
+-- ---- "A book is a run of records, each led by a two-byte mark in ASCII"
+
+-- a record: its mark, and its fields
+abbrev pub PR : List ℕ → List ℕ
+PR fields = spelling Pr ++ fields
+
+abbrev pub MO : List ℕ → List ℕ
+MO fields = spelling Mo ++ fields
+
+abbrev pub CL : List ℕ → List ℕ
+CL fields = spelling Cl ++ fields
+
+abbrev pub SG : List ℕ → List ℕ
+SG fields = spelling Sg ++ fields
+
+abbrev pub QU : List ℕ
+QU = spelling Qu
 
 -- one record after another
 abbrev pub run : {A : Type 0} → (A → List ℕ) → List A → List ℕ
@@ -23,11 +39,11 @@ run f (x ∷ xs) = f x ++ run f xs
 
 -- "PR: arity"
 abbrev pub encPredicate : ℕ → List ℕ
-encPredicate a = spelling Pr ++ (a ∷ [])
+encPredicate a = PR (a ∷ [])
 
 -- "MO: predicate, n, n masks"
 abbrev pub encMode : Mode → List ℕ
-encMode m = spelling Mo ++ (m .pred ∷ length (m .masks) ∷ m .masks)
+encMode m = MO (m .pred ∷ length (m .masks) ∷ m .masks)
 
 -- "predicate, one argument per position"
 abbrev pub encCall : Call → List ℕ
@@ -35,17 +51,17 @@ encCall c = c .pred ∷ c .args
 
 -- "SG"
 abbrev pub encSubgoal : Call → List ℕ
-encSubgoal c = spelling Sg ++ encCall c
+encSubgoal c = SG (encCall c)
 
 -- "CL", then its subgoals
 abbrev pub encClause : Clause → List ℕ
-encClause c = spelling Cl ++ (encCall (c .head) ++ run encSubgoal (c .body))
+encClause c = CL (encCall (c .head) ++ run encSubgoal (c .body))
 
 -- "all PR, then all MO, then clauses, then one QU"
 unfoldable pub encode : Book → List ℕ
 encode b =
     run encPredicate (b .arities)
-    ++ (run encMode (b .modes) ++ (run encClause (b .clauses) ++ (spelling Qu ++ run encSubgoal (b .query))))
+    ++ (run encMode (b .modes) ++ (run encClause (b .clauses) ++ (QU ++ run encSubgoal (b .query))))
 
 -- ---- the books that keep to the limits
 

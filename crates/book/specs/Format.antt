@@ -1,6 +1,6 @@
--- Every string of bytes judged from the left: document 01, "What a rule book says" and "Replies". It is recursion on the bytes that are left, so
--- that a place is said by how many bytes are left from it on; `judge` turns that into an offset, once. Every definition computes. Assumes
--- nothing.
+-- Every string of bytes judged from the left: document 01, "What a rule book says" and "Replies", with the places of document 02's W2. It is recursion on
+-- the bytes that are left, so that a place is said by how many bytes are left from it on; `judge` turns that into an offset, once. Every definition
+-- computes. Assumes nothing.
 use mathlib.Core.Path.{_≡_}
 use mathlib.Core.Bool.{Bool, cond, _&&_, _||_, false}
 use mathlib.Core.List.{List, [], _∷_, _++_}
@@ -44,7 +44,7 @@ place OutOfRange end found = found
 place TooMany end found = found
 place Clash end found = found
 
--- where the first fault of n bytes stands at all: 1 at their end, 3 at a byte or at the end, the others at a byte
+-- what W2 says of every place, in a book of n bytes: "the book's length" for 1, and for 3 perhaps; else a byte of the book
 abbrev pub Stands : Fault → ℕ → ℕ → Type 0
 Stands PastEnd n at = at ≡ n
 Stands NoMark n at = at < n

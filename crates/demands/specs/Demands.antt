@@ -16,12 +16,11 @@ use Rattle.masks.specs.declared.Way.the-variants.{Choice, Joint}
 use Rattle.masks.specs.declared.reply.Reply.{Reply}
 use Rattle.book.specs.Limits.{longest, longestTable, longestPlan, shortest}
 use Rattle.book.specs.Book.{Call, Clause, Book}
-use Rattle.book.specs.Format.{spelling, number, Stands, fault, book, judge}
-use Rattle.book.specs.Encode.{run, encode, WellFormed}
+use Rattle.book.specs.Format.{number, Stands, fault, book, judge}
+use Rattle.book.specs.Encode.{PR, MO, CL, SG, QU, run, encode, WellFormed}
 use Rattle.book.specs.Held.{bookIn}
 use Rattle.book.specs.Table.{Table, entry}
 use Rattle.book.specs.declared.fault.Fault.{Fault}
-use Rattle.book.specs.declared.mark.Mark.the-variants.{Pr, Mo, Cl, Sg, Qu}
 use Rattle.reading.specs.Judged.{checked}
 use Rattle.ordering.specs.Adorn.{Bound, nothing, headBound}
 use Rattle.ordering.specs.Orders.{In, Rearranges, LexLt, Least, Sorted}
@@ -205,19 +204,7 @@ abbrev pub EachHolds : List Example → Type 0
 EachHolds [] = Unit {0}
 EachHolds (e ∷ es) = Holds e × EachHolds es
 
--- the records of a book, of a table and of a plan: a mark, and its fields
-abbrev pub PR : List ℕ → List ℕ
-PR fields = spelling Pr ++ fields
-
-abbrev pub MO : List ℕ → List ℕ
-MO fields = spelling Mo ++ fields
-
-abbrev pub CL : List ℕ → List ℕ
-CL fields = spelling Cl ++ fields
-
-abbrev pub SG : List ℕ → List ℕ
-SG fields = spelling Sg ++ fields
-
+-- the records of a table and of a plan: a mark, and its fields
 abbrev pub CN : List ℕ → List ℕ
 CN fields = 67 ∷ 78 ∷ fields
 
@@ -226,9 +213,6 @@ QO fields = 81 ∷ 79 ∷ fields
 
 abbrev pub CO : List ℕ → List ℕ
 CO fields = 67 ∷ 79 ∷ fields
-
-abbrev pub QU : List ℕ
-QU = spelling Qu
 
 -- a line of the sheet: its letter, and fields of one digit each
 abbrev pub text : ℕ → List ℕ → List ℕ

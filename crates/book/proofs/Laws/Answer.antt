@@ -3,10 +3,9 @@ use mathlib.Core.Path.{_≡_, refl, ap}
 use mathlib.Core.List.{List}
 use Prim.Native.Nat.{ℕ, _-_, _≤_}
 use native.Mathlib.Omega.{arith}
-use lib.ListN.{length}
 use Rattle.masks.specs.Outcome.{Outcome, refused}
 use Rattle.book.specs.Book.{Book}
-use Rattle.book.specs.Format.{number, place, Got, bad, got, readBook, Judged, fault, book, judged, judge}
+use Rattle.book.specs.Format.{number, place, Judged, fault, book, judge}
 use Rattle.book.specs.Answer.{ofJudged, onBook}
 use Rattle.book.specs.declared.fault.Fault.{Fault}
 use Rattle.book.specs.declared.fault.Fault.the-variants.{PastEnd, NoMark, OutOfTurn, OutOfRange, TooMany, Clash}
@@ -33,19 +32,6 @@ place-inside OutOfTurn h = (h, refl)
 place-inside OutOfRange h = (h, refl)
 place-inside TooMany h = (h, refl)
 place-inside Clash h = (h, refl)
-
--- a fault's place is in the bytes or at their end
-placeOf : Judged → ℕ
-placeOf (fault f at) = at
-placeOf (book B) = 0
-
-pub fault-place : (s : List ℕ) (f : Fault) (at : ℕ) → judge s ≡ fault f at → at ≤ length s
-unfolding judge placeOf
-fault-place s f at = go (readBook s)
-  where
-    go : (g : Got Book) → judged s g ≡ fault f at → at ≤ length s
-    go (bad v k) e = let p = ap placeOf e in omega arith
-    go (got B t) e = let p = ap placeOf e in omega arith
 
 -- a string of bytes is one book
 bookOr : Book → Judged → Book

@@ -1,12 +1,12 @@
 -- Document 01's book of 45 bytes, and the places of faults, by computing. Assumes nothing.
 use mathlib.Core.Path.{_≡_, refl}
 use mathlib.Core.List.{List, [], _∷_, _++_, map}
-use Prim.Native.Nat.{ℕ, zero, suc}
+use Prim.Native.Nat.{ℕ}
+use lib.ListN.{replicate}
 use Rattle.book.specs.Book.{Book}
-use Rattle.book.specs.Format.{spelling, markAt, allows, bytes, many, lowFrom, hasMode, predicate, masks, modeFields, mode, call, subgoal, headFields, clause, query, rules, readBook, fault, book, judge}
-use Rattle.book.specs.Encode.{encode}
+use Rattle.book.specs.Format.{markAt, allows, bytes, many, lowFrom, hasMode, predicate, masks, modeFields, mode, call, subgoal, headFields, clause, query, rules, readBook, fault, book, judge}
+use Rattle.book.specs.Encode.{PR, MO, CL, SG, QU, run, encode}
 use Rattle.book.specs.declared.fault.Fault.the-variants.{PastEnd, NoMark, OutOfTurn, OutOfRange, TooMany, Clash}
-use Rattle.book.specs.declared.mark.Mark.the-variants.{Pr, Mo, Cl, Sg, Qu}
 
 unfoldable pub compute : Unit {0}
 unfolding markAt allows bytes many lowFrom hasMode predicate masks modeFields mode call subgoal headFields clause query rules readBook judge encode
@@ -36,32 +36,12 @@ shortest-book = refl
 
 -- ---- W2's places
 
--- records, each its mark and its fields
-abbrev PR : ℕ → List ℕ → List ℕ
-PR a rest = spelling Pr ++ (a ∷ rest)
-
-abbrev MO : List ℕ → List ℕ → List ℕ
-MO fields rest = spelling Mo ++ (fields ++ rest)
-
-abbrev CL : List ℕ → List ℕ → List ℕ
-CL fields rest = spelling Cl ++ (fields ++ rest)
-
-abbrev SG : List ℕ → List ℕ → List ℕ
-SG fields rest = spelling Sg ++ (fields ++ rest)
-
-abbrev QU : List ℕ → List ℕ
-QU rest = spelling Qu ++ rest
-
-abbrev times : ℕ → (List ℕ → List ℕ) → List ℕ → List ℕ
-times zero f rest = rest
-times (suc n) f rest = f (times n f rest)
-
 -- one predicate of arity 1 and one of arity 2, six bytes, and what follows them
 abbrev two : List ℕ → List ℕ
-two rest = PR 1 (PR 2 rest)
+two rest = PR (1 ∷ []) ++ PR (2 ∷ []) ++ rest
 
 -- "for 3 where the book ends without `QU`, it is the book's length"
-no-query : judge (two (CL (0 ∷ 0 ∷ []) [])) ≡ fault OutOfTurn 10
+no-query : judge (two (CL (0 ∷ 0 ∷ []))) ≡ fault OutOfTurn 10
 unfolding compute
 no-query = refl
 
@@ -72,10 +52,10 @@ empty = refl
 -- "For 1 .. it is the book's length": in a mark, and in the fields of each record
 past-end : map judge (
     two (81 ∷ [])
-    ∷ two (spelling Pr)
-    ∷ two (MO (1 ∷ 2 ∷ 3 ∷ []) [])
-    ∷ two (CL (1 ∷ 0 ∷ []) [])
-    ∷ two (QU (SG (1 ∷ []) []))
+    ∷ two (PR [])
+    ∷ two (MO (1 ∷ 2 ∷ 3 ∷ []))
+    ∷ two (CL (1 ∷ 0 ∷ []))
+    ∷ two (QU ++ SG (1 ∷ []))
     ∷ []
     ) ≡ fault PastEnd 7 ∷ fault PastEnd 8 ∷ fault PastEnd 11 ∷ fault PastEnd 10 ∷ fault PastEnd 11 ∷ []
 unfolding compute
@@ -86,30 +66,33 @@ no-mark : judge (two (81 ∷ 79 ∷ [])) ≡ fault NoMark 6
 unfolding compute
 no-mark = refl
 
-out-of-turn : map judge (two (MO (0 ∷ 0 ∷ []) (PR 1 [])) ∷ two (SG (0 ∷ 0 ∷ []) []) ∷ two (QU (QU [])) ∷ []) ≡ fault OutOfTurn 10 ∷ fault OutOfTurn 6 ∷ fault OutOfTurn 8 ∷ []
+out-of-turn : map judge (two (MO (0 ∷ 0 ∷ []) ++ PR (1 ∷ [])) ∷ two (SG (0 ∷ 0 ∷ [])) ∷ two (QU ++ QU) ∷ []) ≡ fault OutOfTurn 10 ∷ fault OutOfTurn 6 ∷ fault OutOfTurn 8 ∷ []
 unfolding compute
 out-of-turn = refl
 
-too-many : map judge (times 65 (PR 0) [] ∷ PR 0 (times 65 (CL (0 ∷ [])) []) ∷ two (QU (times 9 (SG (0 ∷ 0 ∷ [])) [])) ∷ []) ≡ fault TooMany 192 ∷ fault TooMany 195 ∷ fault TooMany 40 ∷ []
+too-many : map judge (run PR (replicate 65 (0 ∷ [])) ∷ (PR (0 ∷ []) ++ run CL (replicate 65 (0 ∷ []))) ∷ two (QU ++ run SG (replicate 9 (0 ∷ 0 ∷ []))) ∷ []) ≡ fault TooMany 192 ∷ fault TooMany 195 ∷ fault TooMany 40 ∷ []
 unfolding compute
 too-many = refl
 
 -- "the byte out of range for 4": an arity; a predicate of MO, CL and SG; n; a mask; an argument of CL and of SG
+out-of-arity : judge (two (PR (7 ∷ []))) ≡ fault OutOfRange 8
+unfolding compute
+out-of-arity = refl
+
 out-of-range : map judge (
-    two (PR 7 [])
-    ∷ two (MO (2 ∷ []) [])
-    ∷ two (CL (2 ∷ []) [])
-    ∷ two (QU (SG (2 ∷ []) []))
-    ∷ two (MO (1 ∷ 21 ∷ []) [])
-    ∷ two (MO (1 ∷ 2 ∷ 3 ∷ 4 ∷ []) [])
-    ∷ two (CL (1 ∷ 0 ∷ 254 ∷ []) [])
-    ∷ two (QU (SG (1 ∷ 254 ∷ 16 ∷ []) []))
+    two (MO (2 ∷ []))
+    ∷ two (CL (2 ∷ []))
+    ∷ two (QU ++ SG (2 ∷ []))
+    ∷ two (MO (1 ∷ 21 ∷ []))
+    ∷ two (MO (1 ∷ 2 ∷ 3 ∷ 4 ∷ []))
+    ∷ two (CL (1 ∷ 0 ∷ 254 ∷ []))
+    ∷ two (QU ++ SG (1 ∷ 254 ∷ 16 ∷ []))
     ∷ []
-    ) ≡ fault OutOfRange 8 ∷ fault OutOfRange 8 ∷ fault OutOfRange 8 ∷ fault OutOfRange 10 ∷ fault OutOfRange 9 ∷ fault OutOfRange 11 ∷ fault OutOfRange 10 ∷ fault OutOfRange 12 ∷ []
+    ) ≡ fault OutOfRange 8 ∷ fault OutOfRange 8 ∷ fault OutOfRange 10 ∷ fault OutOfRange 9 ∷ fault OutOfRange 11 ∷ fault OutOfRange 10 ∷ fault OutOfRange 12 ∷ []
 unfolding compute
 out-of-range = refl
 
 -- "the predicate byte for 6": MO not rising, CL for a predicate that has MO
-clash : map judge (two (MO (1 ∷ 0 ∷ []) (MO (1 ∷ 1 ∷ 0 ∷ []) [])) ∷ two (MO (1 ∷ 0 ∷ []) (CL (1 ∷ 0 ∷ 0 ∷ []) [])) ∷ []) ≡ fault Clash 12 ∷ fault Clash 12 ∷ []
+clash : map judge (two (MO (1 ∷ 0 ∷ []) ++ MO (1 ∷ 1 ∷ 0 ∷ [])) ∷ two (MO (1 ∷ 0 ∷ []) ++ CL (1 ∷ 0 ∷ 0 ∷ [])) ∷ []) ≡ fault Clash 12 ∷ fault Clash 12 ∷ []
 unfolding compute
 clash = refl

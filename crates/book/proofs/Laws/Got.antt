@@ -63,7 +63,7 @@ untest-inv false a r f k e = (refl, e)
 pub byte-inv : (r : Range) (s : List ℕ) {x : ℕ} {t : List ℕ} → byte r s ≡ got x t → (s ≡ x ∷ t) × (allows r x ≡ true)
 byte-inv r [] e = bad-got e
 byte-inv r (y ∷ s) {x} {t} e =
-    let w = test-inv (allows r y) y s OutOfRange (suc (length s)) e in
+    let w = test-inv (allows r y) y s OutOfRange _ e in
     carry (λ (z : ℕ) (l : List ℕ). (y ∷ s ≡ z ∷ l) × (allows r z ≡ true)) (w .1) (refl, w .0)
 
 pub byte-got : (r : Range) (x : ℕ) (s : List ℕ) → allows r x ≡ true → byte r (x ∷ s) ≡ got x s

@@ -3,7 +3,7 @@
 use mathlib.Core.Path.{_≡_, refl, subst}
 use mathlib.Core.Bool.{Bool, true, false, cond}
 use mathlib.Core.List.{List, [], _∷_, _++_}
-use Prim.Native.Nat.{ℕ, zero, suc, _-_, _^_, _<_}
+use Prim.Native.Nat.{ℕ, zero, suc, _-_, _^_, _≤_, _<_}
 use native.Mathlib.Omega.{arith}
 use lib.Dec.{leb}
 use lib.ListN.{length, getD, drop}
@@ -177,3 +177,15 @@ judge-stands (x ∷ s) = go (readBook (x ∷ s)) (book-standing (x ∷ s))
 
 pub fault-stands : (s : List ℕ) (f : Fault) (at : ℕ) → judge s ≡ fault f at → Stands f (length s) at
 fault-stands s f at e = subst (standsIn s) e (judge-stands s)
+
+-- so it is in the bytes or at their end
+pub fault-place : (s : List ℕ) (f : Fault) (at : ℕ) → judge s ≡ fault f at → at ≤ length s
+fault-place s f at e = go f (fault-stands s f at e)
+  where
+    go : (g : Fault) → Stands g (length s) at → at ≤ length s
+    go PastEnd h = omega arith
+    go NoMark h = omega arith
+    go OutOfTurn h = h
+    go OutOfRange h = omega arith
+    go TooMany h = omega arith
+    go Clash h = omega arith

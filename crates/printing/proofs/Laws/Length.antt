@@ -26,7 +26,8 @@ use Rattle.choices.specs.Plan as plan
 use Rattle.printing.specs.Sheet.{decimalIn, decimal, field, listing, none·, constraintLine, constraintLines, roundsLine, queryLine, orderLine, refusalLine, orderLines, bookSheet, judgedSheet, sheet}
 use Rattle.masks.proofs.Laws.Logic.{byBool}
 use Rattle.masks.proofs.Laws.Constraint.{inRange-at}
-use Rattle.book.proofs.Laws.Answer.{number-range, fault-place}
+use Rattle.book.proofs.Laws.Answer.{number-range}
+use Rattle.book.proofs.Laws.Places.{fault-place}
 use Rattle.book.proofs.Laws.Trip.{judge-inv}
 use Rattle.ordering.proofs.Laws.Orders.{in-at}
 use Rattle.tables.proofs.Laws.Sums.{sum-le, sum-times, length-joined}

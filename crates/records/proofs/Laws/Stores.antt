@@ -160,13 +160,13 @@ module _ (ar s : List ℕ) (b at : ℕ) {g : Found} (w : Reads s g (λ x. x) (by
     mode-unlaid d = record { masks = v .masks; reads = then-next _ w e (then-bad _ sized d); stored = λ a q n. bad-next d n }
 
     module _ {end n : ℕ} (d : h ≡ Next end n) where
-      pub mode-clash : at ≤ length s → p < b → ReadsMode s (Bad Clash at) before after (modeFields ar b (drop at s))
+      pub mode-clash : {q : ℕ} → q ≡ at → at ≤ length s → p < b → ReadsMode s (Bad Clash q) before after (modeFields ar b (drop at s))
       unfolding modeFields
-      mode-clash i l =
+      mode-clash here i l =
           let z : length (drop at s) ≡ length s - at = simp length-drop in
           record {
             masks = v .masks;
-            reads = then-next _ w e (then-next _ sized d (record { inside = i; is = rw (lt-leb b p l, z) }));
+            reads = then-next _ w e (then-next _ sized d (record { inside = rw here i; is = rw (lt-leb b p l, here, z) }));
             stored = λ a q m. bad-next refl m;
           }
 

@@ -65,7 +65,7 @@ returns : tie.Need-returns
 returns c =
     let d = c .before .before .before .before .before .before in
     let k = d .before .before .before .before in
-    mode-clash _ _ _ (from k) (read k .read-byte .ensures) _ (k .before .g .given .1) (d .before .before .patterns .ensures) (d .read-masks .ensures) (c .before .before .h .given .1) (start k .pre .0) (omega arith)
+    mode-clash _ _ _ (from k) (read k .read-byte .ensures) _ (k .before .g .given .1) (d .before .before .patterns .ensures) (d .read-masks .ensures) (c .before .before .h .given .1) (omega arith) (start k .pre .0) (omega arith)
 
 returns-2 : tie.Need-returns-2
 returns-2 c =
