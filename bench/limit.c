@@ -224,7 +224,7 @@ static inline u64 lanes_ready(const sub *x, const masks *c, const u64 *var)
     }
     return r;
 }
-// the head patterns under which a clause has a good order
+// the head patterns under which a clause has a good order, and no head variable is left unbound by it
 static u64 clause_good(const clause *c, int arity, const masks *t)
 {
     u64 var[16] = {0}, placed[8] = {0};
@@ -251,6 +251,9 @@ static u64 clause_good(const clause *c, int arity, const masks *t)
     u64 g = ~0ull;
     for (int j = 0; j < c->n; j++)
         g &= placed[j];
+    for (int i = 0; i < arity; i++)
+        if (c->head[i] < 16)
+            g &= var[c->head[i]];
     return g;
 }
 // all patterns of an arity
@@ -278,7 +281,7 @@ static u64 needs(const book *b, masks *t, u64 *adm)
     for (int i = 0; i < b->nc; i++) {
         int p = b->cl[i].pred;
         cls[p] |= 1ull << i;
-        if (b->cl[i].n)
+        if (b->cl[i].n || b->arity[p])
             todo |= 1ull << p;
         for (int j = 0; j < b->cl[i].n; j++)
             callers[b->cl[i].body[j].pred] |= 1ull << p;

@@ -9,6 +9,7 @@ use Rattle.masks.specs.Constraint.{trivial, admits}
 use Rattle.book.specs.Book.{Clause, noClause, Book}
 use Rattle.ordering.specs.Adorn.{nothing, headBound}
 use Rattle.ordering.specs.Orders.{Rearranges}
+use Rattle.ordering.specs.Good.{brought}
 use Rattle.ordering.specs.Asks.{Asked, asks, called}
 use Rattle.tables.specs.Table.{modeOf, defined}
 
@@ -44,7 +45,8 @@ pub data Reaches (B : Book) (χ : Choice) : ℕ → ℕ → Type 0 where
   by-clause : {a q b : ℕ} (k : ℕ) → k < length (B .clauses) → Reaches B χ (clause B k .head .pred) a → called q b (clauseCalls B χ k a) ≡ true
       → Reaches B χ q b
 
--- ---- "A choice makes the book well-moded (definition 3.14) when every reached pattern of an outside predicate fits its constraint."
+-- ---- "A choice makes the book well-moded (definition 3.14) when every reached pattern of an outside predicate fits its constraint."; W3: "a well-moded
+-- choice needs this of every reached clause", that each head variable in none of its subgoals is bound by the pattern reached
 
 -- "An outside predicate with no MO asks for nothing: it is trivial."
 abbrev pub asked : Option (List ℕ) → List ℕ
@@ -53,6 +55,8 @@ asked (some masks) = masks
 
 pub record WellModed (B : Book) (χ : Choice) : Type 0 where
   pub outside : (p a : ℕ) → Reaches B χ p a → defined (B .clauses) p ≡ false → admits (asked (modeOf (B .modes) p)) a ≡ true
+  pub brings : (k a : ℕ) → k < length (B .clauses) → Reaches B χ (clause B k .head .pred) a
+      → brought (clause B k) (headBound (clause B k .head .args) a) ≡ true
 
 -- some choice does
 abbrev pub Orderable : Book → Type 0

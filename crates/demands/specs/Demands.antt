@@ -9,6 +9,7 @@ use mathlib.Core.Option.{none, some}
 use Prim.Native.Nat.{ℕ, suc, _+_, _^_, _≤_, _<_}
 use lib.Bits.{bitOr}
 use lib.ListN.{length, getD, take, drop}
+use Rattle.masks.specs.Lists.{all}
 use Rattle.masks.specs.Constraint.{admits}
 use Rattle.masks.specs.Outcome.{Outcome, refused, done, Answers}
 use Rattle.masks.specs.Joining.{joining}
@@ -22,9 +23,9 @@ use Rattle.book.specs.Held.{bookIn}
 use Rattle.book.specs.Table.{Table, entry}
 use Rattle.book.specs.declared.fault.Fault.{Fault}
 use Rattle.reading.specs.Judged.{checked}
-use Rattle.ordering.specs.Adorn.{Bound, nothing, headBound}
+use Rattle.ordering.specs.Adorn.{Bound, nothing, isBound, headBound}
 use Rattle.ordering.specs.Orders.{In, Rearranges, LexLt, Least, Sorted}
-use Rattle.ordering.specs.Good.{goodFrom}
+use Rattle.ordering.specs.Good.{goodFrom, ran, brought}
 use Rattle.tables.specs.Table.{modeOf, firstNeed, defined, table, rounds, final}
 use Rattle.tables.specs.Image as analysed
 use Rattle.choices.specs.Choice.{clause, IsChoice, Reaches, WellModed, Orderable}
@@ -99,9 +100,10 @@ pub record Demand1 : Type 0 where
 abbrev pub GoodOrder : Table → List Call → Bound → List ℕ → Type 0
 GoodOrder T body b σ = Rearranges (length body) σ × (goodFrom T body b σ ≡ true)
 
--- "A clause is good under a head pattern when some order" does.
+-- "A clause is good under a head pattern when some order" does, and W3: "each head variable that is in none of its subgoals is bound by that pattern as
+-- well".
 abbrev pub GoodClause : Table → Clause → ℕ → Type 0
-GoodClause T c a = (σ : List ℕ) × GoodOrder T (c .body) (headBound (c .head .args) a) σ
+GoodClause T c a = ((σ : List ℕ) × GoodOrder T (c .body) (headBound (c .head .args) a) σ) × (brought c (headBound (c .head .args) a) ≡ true)
 
 -- "A predicate's pattern is good when all its clauses are good under it."
 abbrev pub GoodPattern : Table → Book → ℕ → ℕ → Type 0
@@ -131,7 +133,8 @@ pub record Demand2 (s : List ℕ) (B : Book) : Type 0 where
   pub planned : (planning s ≡ done 0 (image B)) ↔ Orderable B
   -- "The longest plan is 53,259 bytes."
   pub planRoom : length (image B) ≤ longestPlan
-  -- its orders are a choice that makes the book well-moded: every reached pattern of an outside predicate fits what the book declares
+  -- its orders are a choice that makes the book well-moded: every reached pattern of an outside predicate fits what the book declares, and W3's rule holds
+  -- of every reached clause
   pub choice· : Orderable B → IsChoice B (chosen B)
   pub wellModed : Orderable B → WellModed B (chosen B)
   -- it has a record for exactly the clauses of reached predicates, under the patterns reached
@@ -143,6 +146,10 @@ pub record Demand2 (s : List ℕ) (B : Book) : Type 0 where
   pub queryFirst : Orderable B → FirstGood (final B) (B .query) nothing (chosen B .forQuery)
   pub clauseFirst : Orderable B → (r : Row) → In r (planRows B)
       → FirstGood (final B) (clause B (r .clause·) .body) (headBound (clause B (r .clause·) .head .args) (r .pattern)) (r .places)
+  -- W3, "A clause that gives back an empty cell": none does; when it has run in its order, every argument of its head is bound
+  pub filled : Orderable B → (r : Row) → In r (planRows B)
+      → all (isBound (ran (clause B (r .clause·) .body) (headBound (clause B (r .clause·) .head .args) (r .pattern)) (r .places)))
+      (clause B (r .clause·) .head .args) ≡ true
 
 -- ---- Demand 3: any set of predicates replaced by what they need changes no need and no acceptance, and closing in parts gives the same bytes as closing at
 -- once
@@ -184,8 +191,8 @@ pub record Demand3 (s : List ℕ) (B : Book) : Type 0 where
   pub none· : (t : List ℕ) → Closes 0 s t → t ≡ s
   pub one : (set : ℕ) (t u : List ℕ) → Closes set s t → Closes set s u → t ≡ u
 
--- ---- Document 01's examples: "K1 to K12 are proved as one table under one statement." Where it gives no numbers to predicates and no query, the predicates
--- without clauses come first, and the query reaches the patterns that it names.
+-- ---- Document 01's examples: "K1 to K12 are proved as one table under one statement.", and W3's two. Where there are no numbers of predicates and no query,
+-- the predicates without clauses come first, and the query reaches the patterns that are named.
 
 pub data Example : Type 0 where
   -- the bytes of a valid book; its rounds and its table; its plan, or that it has none
@@ -288,6 +295,17 @@ examples =
     ∷ ofBook (PR (1 ∷ []) ++ PR (1 ∷ []) ++ PR (1 ∷ []) ++ MO (0 ∷ 0 ∷ []) ++ CL (1 ∷ 0 ∷ []) ++ SG (0 ∷ 0 ∷ []) ++ QU ++ SG (2 ∷ 0 ∷ []))
     1 (CN (0 ∷ 0 ∷ []) ++ CN (1 ∷ 0 ∷ []) ++ CN (2 ∷ 1 ∷ 0 ∷ []))
     (done 0 (QO (1 ∷ 0 ∷ [])))
+    -- W3: "The clause seen(H,T) :- head(H) doesn't: T stays empty unless the caller brought it.": masks 2; the query seen(X,255), accepted, and seen(X,Y)
+    ∷ ofBook (PR (1 ∷ []) ++ PR (2 ∷ []) ++ CL (1 ∷ 0 ∷ 1 ∷ []) ++ SG (0 ∷ 0 ∷ []) ++ QU ++ SG (1 ∷ 0 ∷ 255 ∷ []))
+    1 (CN (0 ∷ 1 ∷ 0 ∷ []) ++ CN (1 ∷ 1 ∷ 2 ∷ []))
+    (done 0 (QO (1 ∷ 0 ∷ []) ++ CO (0 ∷ 2 ∷ 1 ∷ 0 ∷ [])))
+    ∷ ofBook (PR (1 ∷ []) ++ PR (2 ∷ []) ++ CL (1 ∷ 0 ∷ 1 ∷ []) ++ SG (0 ∷ 0 ∷ []) ++ QU ++ SG (1 ∷ 0 ∷ 1 ∷ []))
+    1 (CN (0 ∷ 1 ∷ 0 ∷ []) ++ CN (1 ∷ 1 ∷ 2 ∷ []))
+    (refused 7 0)
+    -- W3: "The fact p(X) with no body gets mask 1."; the query p(255)
+    ∷ ofBook (PR (1 ∷ []) ++ CL (0 ∷ 0 ∷ []) ++ QU ++ SG (0 ∷ 255 ∷ []))
+    1 (CN (0 ∷ 1 ∷ 1 ∷ []))
+    (done 0 (QO (1 ∷ 0 ∷ []) ++ CO (0 ∷ 1 ∷ 0 ∷ [])))
     ∷ []
 
 -- ---- All of it

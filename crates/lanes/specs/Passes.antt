@@ -10,7 +10,7 @@ use Rattle.book.specs.Book.{Call}
 use Rattle.book.specs.Table.{Table}
 use Rattle.ordering.specs.Orders.{count}
 use Rattle.ordering.specs.Adorn.{Bound}
-use Rattle.ordering.specs.Good.{readyAt, afterAt, goodFrom}
+use Rattle.ordering.specs.Good.{readyAt, afterAt, goodFrom, ran}
 use Rattle.lanes.specs.Lanes.{lane}
 use Rattle.lanes.specs.declared.Pass.{Pass}
 
@@ -37,6 +37,10 @@ pub record Taken (T : Table) (body : List Call) (b : Bound) (p : ℕ) : Type 0 w
 -- a word for each subgoal, with lanes in which it is taken
 abbrev pub Placed : Table → List Call → List ℕ → List ℕ → Type 0
 Placed T body vars placed = (p : ℕ) → p < length body → EachLane (λ a. bitAt (getD placed p 0) a ≡ true → Taken T body (lane a vars) p)
+
+-- in lane a, what is bound is what is bound when all of a body have run
+abbrev pub RanIn : ℕ → List Call → List ℕ → List ℕ → Type 0
+RanIn a body before after = lane a after ≡ ran body (lane a before) (count 0 (length body))
 
 -- one pass over a body in each lane: the variables bound after it, the lanes in which each subgoal was ready in its turn, and whether any was taken
 pub record Passed (T : Table) (body : List Call) (before after : List ℕ) (r : Pass) : Type 0 where

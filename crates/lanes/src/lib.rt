@@ -18,6 +18,7 @@ use masks::patterns::fit_lanes;
 ghost use mathlib.Core.Path.{_≡_};
 ghost use mathlib.Core.Bool.{true};
 ghost use Prim.Native.Nat.{_<_, _≤_};
+ghost use Rattle.masks.specs.Lists.{all};
 ghost use Rattle.masks.specs.Set.{bitAt};
 ghost use Rattle.masks.specs.Patterns.{EachLane, Agrees};
 ghost use Rattle.book.specs.Limits.{maxPredicates, maxClauses};
@@ -27,7 +28,7 @@ ghost use Rattle.book.specs.Sets.{callable};
 ghost use Rattle.ordering.specs.Adorn.{isBound, patternOf, headBound, ready};
 ghost use Rattle.ordering.specs.Good.{firstGood, isSome, goodClause};
 ghost use Rattle.lanes.specs.Lanes.{lane, Binds};
-ghost use Rattle.lanes.specs.Passes.{Passed, Placed};
+ghost use Rattle.lanes.specs.Passes.{Passed, Placed, RanIn};
 
 // What a pass over the subgoals comes to: the lanes in which each was ready in its turn, and whether any was placed in a lane where it was not.
 pub struct Pass {
@@ -44,13 +45,16 @@ pub fn good_lanes<'a>(
     requires { ⌜ (k ≤ maxClauses) × (callable (clauseAt (now rules) k .body) ≡ true) ⌝ }
     ensures { λ r. ⌜ EachLane (λ a. bitAt r a ≡ goodClause (tableIn (now (table .entry)) maxPredicates) (clauseAt (now (rules .entry)) k) a) ⌝ }
 {
-    let mut vars = head_lanes(head_at(rules, k));
-    body_lanes(rules, k, table, &mut vars)
+    let head = head_at(rules, k);
+    let mut vars = head_lanes(head);
+    let good = body_lanes(rules, k, table, &mut vars);
+    let filled = filled_lanes(head, &vars);
+    good & filled
 }
 
-// The lanes in which the subgoals of clause k have a good order, with these variables bound at the start. Passes go over the subgoals as they stand,
-// each of which is placed in the lanes in which it is ready. A pass is the last where every lane is good, where nothing was placed, and where it has as
-// many before it as there are other subgoals.
+// The lanes in which the subgoals of clause k have a good order, with these variables bound at the start; and there, those bound when all have run.
+// Passes go over the subgoals as they stand, each of which is placed in the lanes in which it is ready. A pass is the last where every lane is good, where
+// nothing was placed, and where it has as many before it as there are other subgoals.
 fn body_lanes<'a>(
     rules: &'a [u64; RULES_SIZE],
     k: usize,
@@ -59,6 +63,7 @@ fn body_lanes<'a>(
 ) -> u64
     requires { ⌜ (k ≤ maxClauses) × (callable (clauseAt (now rules) k .body) ≡ true) ⌝ }
     ensures { λ r. ⌜ EachLane (λ a. bitAt r a ≡ isSome (firstGood (tableIn (now (table .entry)) maxPredicates) (clauseAt (now (rules .entry)) k .body) (lane a (now (vars .entry))))) ⌝ }
+    ensures { λ r. ⌜ EachLane (λ a. bitAt r a ≡ true → RanIn a (clauseAt (now (rules .entry)) k .body) (now (vars .entry)) (now (vars .exit))) ⌝ }
 {
     let n = subgoals_at(rules, k);
     let mut placed = [0u64; MAX_SUBGOALS];
@@ -161,6 +166,20 @@ fn arg_lanes(v: u8, vars: &[u64; VARIABLES]) -> u64
         return vars[w];
     }
     0
+}
+
+// The lanes in which every argument of a head is bound.
+fn filled_lanes(head: u64, vars: &[u64; VARIABLES]) -> u64
+    ensures { λ r. ⌜ EachLane (λ a. bitAt r a ≡ all (isBound (lane a (now (vars .entry)))) (callIn head .args)) ⌝ }
+{
+    let n = arguments(head);
+    let mut filled = ALL;
+    let mut i: usize = 0;
+    while i < n {
+        filled = filled & arg_lanes(argument(head, i), vars);
+        i += 1;
+    }
+    filled
 }
 
 // The variables of the subgoal are bound in the lanes of r.

@@ -1,13 +1,16 @@
 -- Good orders and good clauses. Document 01: "A clause is good under a head pattern when some order makes every subgoal's pattern fit the
--- constraint of its predicate." Every definition computes. Assumes nothing.
-use mathlib.Core.Bool.{Bool, true, false}
+-- constraint of its predicate." Document 02, W3: "A clause is to be good under a pattern only if each head variable that is in none of its subgoals is
+-- bound by that pattern as well". Every definition computes. Assumes nothing.
+use mathlib.Core.Bool.{Bool, true, false, _&&_, _||_}
 use mathlib.Core.List.{List}
 use mathlib.Core.Option.{Option, none, some}
 use Prim.Native.Nat.{ℕ}
+use lib.Dec.{ltb}
 use lib.ListN.{length, getD}
+use Rattle.masks.specs.Lists.{any, all, has}
 use Rattle.book.specs.Book.{Call, noCall, Clause}
 use Rattle.book.specs.Table.{Table}
-use Rattle.ordering.specs.Adorn.{Bound, headBound, ready, after}
+use Rattle.ordering.specs.Adorn.{variables, Bound, isBound, headBound, ready, after}
 use Rattle.ordering.specs.Turns as turns
 
 -- the subgoal at a place (past the end: a call that says nothing, at a place that no order has)
@@ -24,6 +27,10 @@ afterAt body b p = after b (at body p)
 abbrev pub goodFrom : Table → List Call → Bound → List ℕ → Bool
 goodFrom T body b σ = turns.goodFrom (readyAt T body) (afterAt body) b σ
 
+-- what is bound when they have all run
+abbrev pub ran : List Call → Bound → List ℕ → Bound
+ran body b σ = turns.allAfter (afterAt body) b σ
+
 -- "the smallest list of subgoal places .. among the orders good against" the table
 abbrev pub firstGood : Table → List Call → Bound → Option (List ℕ)
 firstGood T body b = turns.firstGood (readyAt T body) (afterAt body) b (length body)
@@ -32,6 +39,18 @@ abbrev pub isSome : Option (List ℕ) → Bool
 isSome none = false
 isSome (some σ) = true
 
--- "some order makes every subgoal's pattern fit"
+-- ---- a clause
+
+-- v is a variable, and stands in one of these calls; a wildcard is no variable
+unfoldable pub standsIn : List Call → ℕ → Bool
+standsIn body v = ltb v variables && any (λ s. has (s .args) v) body
+
+-- W3: "each head variable that is in none of its subgoals is bound" from the start, as a literal is
+unfoldable pub brought : Clause → Bound → Bool
+brought c b = all (λ v. isBound b v || standsIn (c .body) v) (c .head .args)
+
+-- "some order makes every subgoal's pattern fit", and W3: ".. as well"
 unfoldable pub goodClause : Table → Clause → ℕ → Bool
-goodClause T c a = isSome (firstGood T (c .body) (headBound (c .head .args) a))
+goodClause T c a =
+    let b : Bound = headBound (c .head .args) a in
+    isSome (firstGood T (c .body) b) && brought c b

@@ -15,3 +15,9 @@ module _ {B : Type 0} (ready : B → ℕ → Bool) (after : B → ℕ → B) whe
   -- the first good order of n places
   unfoldable pub firstGood : B → ℕ → Option (List ℕ)
   firstGood b n = find (goodFrom b) (orders n)
+
+-- the state when all of a list are taken
+module _ {B : Type 0} (after : B → ℕ → B) where
+  unfoldable pub allAfter : B → List ℕ → B
+  allAfter b [] = b
+  allAfter b (p ∷ σ) = allAfter (after b p) σ

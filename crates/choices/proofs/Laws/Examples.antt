@@ -1,8 +1,9 @@
 -- Choices, what they reach and plans, computed from the definitions: each by itself. Assumes nothing.
 use mathlib.Core.Path.{_≡_, refl}
-use mathlib.Core.Bool.{true, false}
+use mathlib.Core.Bool.{true, false, false≢true}
 use mathlib.Core.List.{List, [], _∷_, _++_}
 use Prim.Native.Nat.{ℕ}
+use native.Mathlib.Omega.{arith}
 use lib.Dec.{ltb}
 use lib.ListN.{length}
 use Rattle.masks.specs.Constraint.{joint}
@@ -10,8 +11,8 @@ use Rattle.masks.specs.Outcome.{Outcome, refused, done}
 use Rattle.book.specs.Encode.{run}
 use Rattle.ordering.specs.Asks.{Asked, asks}
 use Rattle.book.proofs.Laws.Examples.{k1-book}
-use Rattle.tables.proofs.Laws.Examples.{compute, choosy, stuck, chain, ill, several}
-use Rattle.choices.specs.Choice.{clause, Choice, queryCalls, clauseCalls}
+use Rattle.tables.proofs.Laws.Examples.{compute, choosy, stuck, chain, ill, several, fact}
+use Rattle.choices.specs.Choice.{clause, Choice, queryCalls, clauseCalls, by-query, WellModed}
 use Rattle.choices.specs.Reached.{marked, marksOf, nextCalls, allMarked, withCalls, grown, reached}
 use Rattle.choices.specs.Plan.{Row, firstChoice, chosen, rowsFor, rowsUnder, rowsOf, planRows, encQuery, encRow, image, planned}
 
@@ -97,3 +98,8 @@ refusal (done rounds bytes) = 0
 pub sevens : refusal (planned stuck) ∷ refusal (planned ill) ∷ [] ≡ 7 ∷ 0 ∷ []
 unfolding compute-plan
 sevens = refl
+
+-- W3: "a well-moded choice needs this of every reached clause": no order makes `fact` well-moded, whose query brings nothing
+pub nothing-brought : WellModed fact (along (0 ∷ []) []) → ⊥
+unfolding compute-plan
+nothing-brought m = false≢true (m .brings 0 0 (omega arith) (by-query refl))

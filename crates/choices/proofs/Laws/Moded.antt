@@ -17,15 +17,15 @@ use Rattle.book.specs.Encode.{WellFormed}
 use Rattle.book.specs.Table.{Table, entry}
 use Rattle.ordering.specs.Adorn.{Bound, nothing, headBound}
 use Rattle.ordering.specs.Orders.{Rearranges, count}
-use Rattle.ordering.specs.Good.{readyAt, afterAt, goodFrom, firstGood, isSome, goodClause}
+use Rattle.ordering.specs.Good.{readyAt, afterAt, goodFrom, firstGood, isSome, brought}
 use Rattle.tables.specs.Table.{modeOf, firstNeed, start, defined, good, step, table, rounds, final}
 use Rattle.choices.specs.Choice.{clause, Choice, IsChoice, queryCalls, clauseCalls, Reaches, by-query, by-clause, asked, WellModed}
 use Rattle.choices.specs.Plan.{orStanding, firstChoice, chosen}
 use Rattle.masks.proofs.Laws.Logic.{byBool, clash}
 use Rattle.masks.proofs.Laws.Constraint.{inRange-mono, admits-written-up, admits-minimise}
-use Rattle.ordering.proofs.Laws.Orders.{count-length, count-in, count-distinct}
+use Rattle.ordering.proofs.Laws.Orders.{standing}
 use Rattle.ordering.proofs.Laws.Greedy.{good-first}
-use Rattle.ordering.proofs.Laws.Good.{first-is-least, order-good-clause}
+use Rattle.ordering.proofs.Laws.Good.{first-is-least, good-clause-parts, order-good-clause}
 use Rattle.ordering.proofs.Laws.Asks.{asks-fit, fit-asks, ready-asks}
 use Rattle.tables.proofs.Laws.Valid.{arity-low, masks-low, defined-apart}
 use Rattle.tables.proofs.Laws.Own.{good-at, at-good, defined-at}
@@ -34,13 +34,6 @@ use Rattle.tables.proofs.Laws.Rounds.{trivial-admits, start-at, final-below-sta
 use Rattle.choices.proofs.Laws.Reached.{reaches-inside}
 
 -- ---- the first good order, or the subgoals as they stand
-
-standing : (n : ℕ) → Rearranges n (count 0 n)
-standing n = record {
-  long = count-length 0 n;
-  below = λ p m. let h = count-in 0 n p m in omega arith;
-  once = count-distinct 0 n;
-}
 
 module _ (T : Table) (body : List Call) (b : Bound) where
   first-order : Rearranges (length body) (orStanding (length body) (firstGood T body b))
@@ -78,38 +71,45 @@ module _ (B : Book) (w : WellFormed B) where
 
   -- a clause is good under each pattern that the final table admits of its predicate
   final-clause : (k a : ℕ) → k < length (B .clauses) → admits (entry (final B) (clause B k .head .pred)) a ≡ true
-      → goodClause (final B) (clause B k) a ≡ true
+      → (isSome (firstGood (final B) (clause B k .body) (headBound (clause B k .head .args) a)) ≡ true)
+      × (brought (clause B k) (headBound (clause B k .head .args) a) ≡ true)
   unfolding clause
   final-clause k a l e =
       let p : ℕ = clause B k .head .pred in
-      good-at _ (final B) (B .clauses) p a (final-closed B w p (defined-at _ (B .clauses) k l) a e) k l refl
+      good-clause-parts (final B) (clause B k) a
+      (good-at _ (final B) (B .clauses) p a (final-closed B w p (defined-at _ (B .clauses) k l) a e) k l refl)
 
   -- ---- the first good orders against the final table
 
   module _ (found : isSome (firstGood (final B) (B .query) nothing) ≡ true) where
     -- what the chosen orders reach is admitted by the final table
     pub reached-final : {p a : ℕ} → Reaches B (chosen B) p a → admits (entry (final B) p) a ≡ true
-    unfolding queryCalls clauseCalls firstChoice chosen goodClause
+    unfolding queryCalls clauseCalls firstChoice chosen
     reached-final (by-query {q} {b} t) =
         asks-fit (final B) (B .query) nothing (chosen B .forQuery) (first-fits (final B) (B .query) nothing found) q b t
     reached-final (by-clause {a} {q} {b} k l r t) =
         let c : Clause = clause B k in
         asks-fit (final B) (c .body) (headBound (c .head .args) a) (chosen B .forClause k a)
-        (first-fits (final B) (c .body) (headBound (c .head .args) a) (final-clause k a l (reached-final r))) q b t
+        (first-fits (final B) (c .body) (headBound (c .head .args) a) (final-clause k a l (reached-final r) .0)) q b t
 
     -- "for the query and each clause under each reached pattern, the smallest .. among the orders good against the final table": there is one
     pub reached-good : (k a : ℕ) → k < length (B .clauses) → Reaches B (chosen B) (clause B k .head .pred) a
         → isSome (firstGood (final B) (clause B k .body) (headBound (clause B k .head .args) a)) ≡ true
-    unfolding goodClause
-    reached-good k a l r = final-clause k a l (reached-final r)
+    reached-good k a l r = final-clause k a l (reached-final r) .0
 
-    -- SOUND: "A choice makes the book well-moded (definition 3.14) when every reached pattern of an outside predicate fits its constraint."; the one
-    -- chosen does
+    -- and W3's rule holds
+    reached-brought : (k a : ℕ) → k < length (B .clauses) → Reaches B (chosen B) (clause B k .head .pred) a
+        → brought (clause B k) (headBound (clause B k .head .args) a) ≡ true
+    reached-brought k a l r = final-clause k a l (reached-final r) .1
+
+    -- SOUND: "A choice makes the book well-moded (definition 3.14) when every reached pattern of an outside predicate fits its constraint.", with W3's
+    -- rule; the one chosen does
     pub sound : WellModed B (chosen B)
     unfolding chosen
     sound = record {
       outside = λ p a r d.
           sym (start-asked p a (reaches-inside B (chosen B) w (chosen-choice (final B) B) r .0)) ∙ final-below-start B w p a (reached-final r);
+      brings = reached-brought;
     }
 
   -- ---- any choice that makes the book well-moded
@@ -128,10 +128,11 @@ module _ (B : Book) (w : WellFormed B) where
         at-good _ T (B .clauses) p a
         (λ k l e.
         let c : Clause = clause B k in
+        let here : Reaches B χ (c .head .pred) a = subst (λ (x : ℕ). Reaches B χ x a) (sym e) r in
         order-good-clause T c a (χ .forClause k a) (ok .clause· k a l)
         (fit-asks T (c .body) (headBound (c .head .args) a) (χ .forClause k a)
-        (ready-asks T (c .body) (headBound (c .head .args) a) (χ .forClause k a)
-        (λ q b t. h q b (by-clause k l (subst (λ (x : ℕ). Reaches B χ x a) (sym e) r) t)))))
+        (ready-asks T (c .body) (headBound (c .head .args) a) (χ .forClause k a) (λ q b t. h q b (by-clause k l here t))))
+        (moded .brings k a l here))
 
     -- so what a well-moded choice reaches is admitted by every table
     pub reached-table : (k p a : ℕ) → Reaches B χ p a → admits (entry (table B k) p) a ≡ true

@@ -1,19 +1,20 @@
 -- Demand 2, of what planning comes to: a valid book is refused as unorderable exactly when no choice makes it well-moded, and a plan has exactly what is
--- reached, each in the first of the good orders. Assumes nothing.
-use mathlib.Core.Path.{_≡_, sym, _∙_}
+-- reached, each in the first of the good orders, which leaves no argument of its head unbound. Assumes nothing.
+use mathlib.Core.Path.{_≡_, refl, sym, _∙_}
 use mathlib.Core.Bool.{true, false}
 use mathlib.Core.Logic.{_↔_}
 use mathlib.Core.List.{List}
 use mathlib.Core.Option.{some}
 use Prim.Native.Nat.{ℕ, _<_}
 use lib.ListN.{length}
+use Rattle.masks.specs.Lists.{all}
 use Rattle.masks.specs.Outcome.{refused, done}
 use Rattle.book.specs.Book.{Book}
 use Rattle.book.specs.Encode.{WellFormed}
 use Rattle.book.specs.Format.{book, judge}
-use Rattle.ordering.specs.Adorn.{nothing, headBound}
+use Rattle.ordering.specs.Adorn.{nothing, isBound, headBound}
 use Rattle.ordering.specs.Orders.{In, Rearranges, Least}
-use Rattle.ordering.specs.Good.{goodFrom, firstGood, isSome}
+use Rattle.ordering.specs.Good.{goodFrom, ran, firstGood, isSome}
 use Rattle.tables.specs.Table.{final}
 use Rattle.choices.specs.Choice.{clause, IsChoice, Reaches, WellModed, Orderable}
 use Rattle.choices.specs.Reached.{marked, reached}
@@ -22,6 +23,7 @@ use Rattle.masks.proofs.Laws.Logic.{byBool, false-of}
 use Rattle.masks.proofs.Laws.Outcome.{refused-done}
 use Rattle.book.proofs.Laws.Answer.{on-book}
 use Rattle.book.proofs.Laws.Trip.{judge-inv}
+use Rattle.ordering.proofs.Laws.Brought.{brought-ran, head-length}
 use Rattle.tables.proofs.Laws.Valid.{clause-own}
 use Rattle.choices.proofs.Laws.Reached.{reaches-low, reached-iff}
 use Rattle.choices.proofs.Laws.Moded.{chosen-choice, reached-good, sound, orderable}
@@ -110,3 +112,13 @@ module _ (B : Book) (w : WellFormed B) where
         rows-first B (final B) (marked (reached B (chosen B))) r m
         (reached-good B w found (r .clause·) (r .pattern) (h .0)
         (reached-iff B (chosen B) w (chosen-choice (final B) B) (clause B (r .clause·) .head .pred) (r .pattern) .0 (h .1)))
+
+    -- FILLED: what W3 is for: when a clause has run in its order, every argument of its head is bound
+    pub plan-filled : (r : Row) → In r (planRows B)
+        → all (isBound (ran (clause B (r .clause·) .body) (headBound (clause B (r .clause·) .head .args) (r .pattern)) (r .places)))
+        (clause B (r .clause·) .head .args) ≡ true
+    plan-filled r m =
+        let c = clause B (r .clause·) in
+        let x = plan-exact (r .clause·) (r .pattern) .0 (r .places, m) in
+        sym (brought-ran c (headBound (c .head .args) (r .pattern)) (r .places) (head-length (c .head .args) (r .pattern)) (plan-first r m .has (r .places) refl .0))
+        ∙ sound B w found .brings (r .clause·) (r .pattern) (x .0) (x .1)

@@ -38,13 +38,13 @@ use Rattle.book.proofs.Laws.Examples.{shortest-book}
 use Rattle.book.proofs.Laws.Longest.{longest-book, longest-well, longest-length}
 use Rattle.book.proofs.Laws.Trip.{judge-encode, judge-inv}
 use Rattle.reading.proofs.Laws.Judged.{check-zero}
-use Rattle.ordering.proofs.Laws.Good.{good-clause-order, order-good-clause}
+use Rattle.ordering.proofs.Laws.Good.{good-clause-parts, good-clause-order, order-good-clause}
 use Rattle.tables.proofs.Laws.Own.{good-at, at-good}
 use Rattle.tables.proofs.Laws.Round.{step-admits, step-outside}
 use Rattle.tables.proofs.Laws.Image.{table-length}
 use Rattle.tables.proofs.Laws.Rounds.{sameTable-true, true-sameTable, start-at, rounds-least, rounds-settled}
 use Rattle.choices.proofs.Laws.Moded.{orderable}
-use Rattle.choices.proofs.Laws.Plan.{seven-none, seven-iff, plan-iff, plan-sound, plan-exact, plan-query-first, plan-first}
+use Rattle.choices.proofs.Laws.Plan.{seven-none, seven-iff, plan-iff, plan-sound, plan-exact, plan-query-first, plan-first, plan-filled}
 use Rattle.choices.proofs.Laws.Rows.{rows-rise, plan-length}
 use Rattle.closing.proofs.Laws.Valid.{closed-well}
 use Rattle.closing.proofs.Laws.Final.{final-close}
@@ -109,10 +109,11 @@ module _ (s : List ℕ) (B : Book) (valid : judge s ≡ book B) where
   gets k p a h d l =
       let e = step-admits B (table B k) p h d a l in (
         λ t j i q.
-            let (σ, r, g) = good-clause-order (table B k) (clause B j) a (good-at _ (table B k) (B .clauses) p a (sym e ∙ t) j i q) in
-            (σ, (r, g)),
+            let good = good-at _ (table B k) (B .clauses) p a (sym e ∙ t) j i q in
+            let (σ, r, g) = good-clause-order (table B k) (clause B j) a good in
+            ((σ, (r, g)), good-clause-parts (table B k) (clause B j) a good .1),
         λ f. e ∙ at-good _ (table B k) (B .clauses) p a
-            (λ j i q. let x = f j i q in order-good-clause (table B k) (clause B j) a (x .0) (x .1 .0) (x .1 .1)),
+            (λ j i q. let x = f j i q in order-good-clause (table B k) (clause B j) a (x .0 .0) (x .0 .1 .0) (x .0 .1 .1) (x .1)),
       )
 
   keeps : (k p : ℕ) → p < length (B .arities) → defined (B .clauses) p ≡ false → entry (table B (suc k)) p ≡ entry (table B k) p
@@ -144,6 +145,7 @@ module _ (s : List ℕ) (B : Book) (valid : judge s ≡ book B) where
         ascending = rising;
         queryFirst = λ x. plan-query-first B well (ordered x);
         clauseFirst = λ x. plan-first B well (ordered x);
+        filled = λ x. plan-filled B well (ordered x);
       }
 
 -- ---- demand 3

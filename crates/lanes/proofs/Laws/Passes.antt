@@ -12,9 +12,9 @@ use Rattle.book.specs.Book.{Call}
 use Rattle.book.specs.Table.{Table}
 use Rattle.ordering.specs.Orders.{In, Distinct, Rearranges, without, count}
 use Rattle.ordering.specs.Adorn.{Bound}
-use Rattle.ordering.specs.Turns.{goodFrom, firstGood}
+use Rattle.ordering.specs.Turns.{goodFrom, firstGood, allAfter}
 use Rattle.ordering.specs.Good as clause
-use Rattle.ordering.specs.Good.{readyAt, afterAt, isSome}
+use Rattle.ordering.specs.Good.{readyAt, afterAt, ran, isSome}
 use Rattle.lanes.specs.Passes.{visit, visits, passes, Taken}
 use Rattle.masks.proofs.Laws.Logic.{same}
 use Rattle.ordering.proofs.Laws.Orders.{same?, without-in, without-keeps, without-gone, without-distinct, Takes, takes-has, takes-right, right-takes, count-suc, count-in, in-count, count-distinct}
@@ -48,6 +48,13 @@ module _ {B : Type 0} (ready : B → ℕ → Bool) (after : B → ℕ → B) whe
           ≡ (cond c (goodFrom ready after (after b q) σ) false && ready (visits ready after (cond c (after b q) b) σ) p)
       go true e = e
       go false e = refl
+
+  good-visits : (b : B) (σ : List ℕ) → goodFrom ready after b σ ≡ true → visits ready after b σ ≡ allAfter after b σ
+  unfolding visits allAfter
+  good-visits b [] g = refl
+  good-visits b (p ∷ σ) g =
+      let h = good-parts ready after b p σ g in
+      ap (λ c. visits ready after c σ) (visit-ready b p (h .0)) ∙ good-visits (after b p) σ (h .1)
 
   -- one place more
   pub visits-suc : (b : B) (j : ℕ) → visits ready after b (count 0 (suc j)) ≡ visit ready after (visits ready after b (count 0 j)) j
@@ -252,6 +259,37 @@ module _ {B : Type 0} {ready : B → ℕ → Bool} {after : B → ℕ → B} {Le
       ap (λ c. goodFrom ready after c (count 0 n)) (sym (passes-add ready after n k n b ∙ passes-still ready after n n (passes ready after n k b) e))
       ∙ enough-passes n (k + n) b (omega arith)
 
+  -- ---- where they are ready, all have been taken
+
+  -- one of them more changes nothing
+  all-again : (b : B) (p : ℕ) (σ : List ℕ) → In p σ → allAfter after (after b p) σ ≡ allAfter after b σ
+  unfolding allAfter
+  all-again b p (q ∷ σ) (inl e) =
+      ap (λ c. allAfter after c σ) (subst (λ (u : ℕ). after (after b p) u ≡ after b u) e (grow .after-twice b p))
+  all-again b p (q ∷ σ) (inr m) = ap (λ c. allAfter after c σ) (grow .after-swap b p q) ∙ all-again (after b q) p σ m
+
+  all-visit : (b : B) (p : ℕ) (σ : List ℕ) → In p σ → allAfter after (visit ready after b p) σ ≡ allAfter after b σ
+  unfolding visit
+  all-visit b p σ m = go (ready b p)
+    where
+      go : (c : Bool) → allAfter after (cond c (after b p) b) σ ≡ allAfter after b σ
+      go true = all-again b p σ m
+      go false = refl
+
+  all-visits : (b : B) (τ σ : List ℕ) → ((p : ℕ) → In p τ → In p σ) → allAfter after (visits ready after b τ) σ ≡ allAfter after b σ
+  unfolding visits
+  all-visits b [] σ f = refl
+  all-visits b (p ∷ τ) σ f = all-visits (visit ready after b p) τ σ (λ q m. f q (inr m)) ∙ all-visit b p σ (f p (inl refl))
+
+  all-passes : (n k : ℕ) (b : B) → allAfter after (passes ready after n k b) (count 0 n) ≡ allAfter after b (count 0 n)
+  unfolding passes
+  all-passes n zero b = refl
+  all-passes n (suc k) b = all-passes n k (visits ready after b (count 0 n)) ∙ all-visits b (count 0 n) (count 0 n) (λ p m. m)
+
+  pub good-passes : (n k : ℕ) (b : B) → goodFrom ready after (passes ready after n k b) (count 0 n) ≡ true
+      → visits ready after (passes ready after n k b) (count 0 n) ≡ allAfter after b (count 0 n)
+  good-passes n k b g = good-visits ready after (passes ready after n k b) (count 0 n) g ∙ all-passes n k b
+
 -- ---- what is taken stays taken, and taking it again changes nothing
 
 module _ (T : Table) (body : List Call) (b : Bound) (p : ℕ) where
@@ -299,6 +337,11 @@ module _ (T : Table) (body : List Call) (n k : ℕ) (b : Bound) where
   -- after any passes, what is ready in turn has a good order
   pub early : clause.goodFrom T body (passes (readyAt T body) (afterAt body) n k b) (count 0 n) ≡ true → isSome (firstGood (readyAt T body) (afterAt body) b n) ≡ true
   early g = any-passes (bound-growing T body) n k b g
+
+  -- and all have run
+  pub all-ran : clause.goodFrom T body (passes (readyAt T body) (afterAt body) n k b) (count 0 n) ≡ true
+      → visits (readyAt T body) (afterAt body) (passes (readyAt T body) (afterAt body) n k b) (count 0 n) ≡ ran body b (count 0 n)
+  all-ran g = good-passes (bound-growing T body) n k b g
 
   pub one-more : visits (readyAt T body) (afterAt body) (passes (readyAt T body) (afterAt body) n k b) (count 0 n)
       ≡ passes (readyAt T body) (afterAt body) n (suc k) b

@@ -11,6 +11,7 @@ use lib.Dec.{eqb}
 use lib.ListN.{length, getD, set, replicate, length-set}
 use lib.Seq.{getD-set-same, getD-set-other}
 use borrow.Author.Tests.{eqb-true, eqb-false}
+use Rattle.masks.specs.Lists.{all}
 use Rattle.masks.specs.Set.{bitAt}
 use Rattle.masks.specs.Patterns.{EachLane}
 use Rattle.book.specs.Limits.{maxPredicates, maxSubgoals}
@@ -19,17 +20,19 @@ use Rattle.book.specs.Table.{Table}
 use Rattle.book.specs.Sets.{callable}
 use Rattle.ordering.specs.Orders.{count}
 use Rattle.ordering.specs.Turns as turns
-use Rattle.ordering.specs.Adorn.{Bound, headBound, ready, after}
-use Rattle.ordering.specs.Good.{at, readyAt, afterAt, goodFrom, firstGood, isSome, goodClause}
+use Rattle.ordering.specs.Adorn.{Bound, isBound, headBound, ready, after}
+use Rattle.ordering.specs.Good.{at, readyAt, afterAt, goodFrom, ran, firstGood, isSome, brought, goodClause}
 use Rattle.lanes.specs.Lanes.{lane, Binds}
-use Rattle.lanes.specs.Passes.{visit, visits, passes, Taken, Placed, Passed}
+use Rattle.lanes.specs.Passes.{visit, visits, passes, Taken, Placed, RanIn, Passed}
 use Rattle.lanes.specs.declared.Pass.{Pass}
 use Rattle.masks.proofs.Laws.Logic.{byBool, clash}
 use Rattle.masks.proofs.Laws.Set.{bitAt-zero, bitAt-or}
 use Rattle.masks.proofs.Laws.Members.{bitAt-and}
 use Rattle.masks.proofs.Laws.Patterns.{ones, bitAt-ones}
 use Rattle.book.proofs.Laws.Sets.{callable-low}
-use Rattle.lanes.proofs.Laws.Passes.{visits-suc, good-suc, taken-visit, taken-after, taken-stays, enough, settled, early, one-more}
+use Rattle.ordering.proofs.Laws.Orders.{standing}
+use Rattle.ordering.proofs.Laws.Brought.{brought-ran, head-length}
+use Rattle.lanes.proofs.Laws.Passes.{visits-suc, good-suc, taken-visit, taken-after, taken-stays, enough, settled, early, all-ran, one-more}
 
 -- ---- a subgoal in its turn: s is the one at place j
 
@@ -214,10 +217,34 @@ module _ (T : Table) (body : List Call) (start : List ℕ) where
     pub passing-end : n ≤ k → EachLane (λ a. bitAt (r .good) a ≡ isSome (firstGood T body (lane a start)))
     passing-end h a l = let e = g .next in good-now a l ∙ enough T body n (g .done) (lane a start) (omega arith)
 
--- ---- a clause: its body from what its head binds
+    -- where each subgoal was ready, all have run
+    pub passing-ran : EachLane (λ a. bitAt (r .good) a ≡ true → RanIn a body start to)
+    passing-ran a l t =
+        d .lanes a l
+        ∙ ap (λ (b : Bound). visits (readyAt T body) (afterAt body) b (count 0 n)) (g .lanes a l)
+        ∙ all-ran T body n (g .done) (lane a start) (sym (good-now a l) ∙ t)
 
-pub clause-good : (T : Table) (c : Clause) (head : Call) (vars : List ℕ) (r : ℕ) → head ≡ c .head → EachLane (λ a. lane a vars ≡ headBound (head .args) a)
-    → EachLane (λ a. bitAt r a ≡ isSome (firstGood T (c .body) (lane a vars))) → EachLane (λ a. bitAt r a ≡ goodClause T c a)
+-- ---- a clause: its body from what its head binds, and its head when the body has run
+
+pub clause-good : (T : Table) (c : Clause) (head : Call) (start vars : List ℕ) (good filled : ℕ) → head ≡ c .head
+    → EachLane (λ a. lane a start ≡ headBound (head .args) a) → EachLane (λ a. bitAt good a ≡ isSome (firstGood T (c .body) (lane a start)))
+    → EachLane (λ a. bitAt good a ≡ true → RanIn a (c .body) start vars) → EachLane (λ a. bitAt filled a ≡ all (isBound (lane a vars)) (head .args))
+    → EachLane (λ a. bitAt (bitAnd good filled) a ≡ goodClause T c a)
 unfolding goodClause
-clause-good T c head vars r e f g a l =
-    g a l ∙ ap (λ (b : Bound). isSome (firstGood T (c .body) b)) (f a l ∙ ap (λ (h : Call). headBound (h .args) a) e)
+clause-good T c head start vars good filled e f g ran· h a l =
+    bitAt-and good filled a
+    ∙ byBool (bitAt good a)
+    (λ t.
+    ap₂ (λ (x y : Bool). x && y) found
+    (h a l
+    ∙ ap₂ (λ (b : Bound) (u : Call). all (isBound b) (u .args)) (ran· a l t ∙ ap (λ (b : Bound). ran (c .body) b (count 0 (length (c .body)))) from) e
+    ∙ sym (brought-ran c (headBound (c .head .args) a) (count 0 (length (c .body))) (head-length (c .head .args) a) (standing (length (c .body))))))
+    (λ t.
+    ap (λ (x : Bool). x && bitAt filled a) t
+    ∙ sym (ap (λ (x : Bool). x && brought c (headBound (c .head .args) a)) (sym found ∙ t)))
+  where
+    from : lane a start ≡ headBound (c .head .args) a
+    from = f a l ∙ ap (λ (u : Call). headBound (u .args) a) e
+
+    found : bitAt good a ≡ isSome (firstGood T (c .body) (headBound (c .head .args) a))
+    found = g a l ∙ ap (λ (b : Bound). isSome (firstGood T (c .body) b)) from

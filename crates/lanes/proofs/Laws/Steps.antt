@@ -1,24 +1,27 @@
 -- The loops over the arguments of a call: what the first of them come to in each lane. One invariant for each loop, with a law for its start, its next
 -- turn and its end. Assumes nothing.
 use mathlib.Core.Path.{_≡_, refl, sym, ap, ap₂, _∙_, subst}
-use mathlib.Core.Bool.{Bool, true, false, cond}
+use mathlib.Core.Bool.{Bool, true, false, cond, _&&_}
 use mathlib.Core.List.{List, [], _∷_}
 use Prim.Native.Nat.{ℕ, zero, suc, _+_, _/_, _%_, _≤_, _<_}
 use native.Mathlib.Numerals.{add-one}
 use native.Mathlib.Omega.{arith}
-use lib.Bits.{bitOr}
+use lib.Bits.{bitAnd, bitOr}
 use lib.Dec.{eqb, leb}
 use lib.ListN.{length, getD, set, replicate, take, length-set, getD-replicate, List·getD-eq-default}
 use lib.Seq.{take-all, getD-set-same, getD-set-other}
 use borrow.Author.Tests.{eqb-true, eqb-false, eq-eqb, ne-eqb, lt-ltb, le-ltb, leb-true, leb-false}
 use Rattle.masks.specs.Limits.{maxArity}
+use Rattle.masks.specs.Lists.{all}
 use Rattle.masks.specs.Set.{bitAt}
 use Rattle.masks.specs.Patterns.{EachLane, Agrees}
 use Rattle.book.specs.Book.{Call}
 use Rattle.ordering.specs.Adorn.{variables, literal, Bound, nothing, isBound, patternOf, bindVar, bindAll, bindHead, headBound, after}
 use Rattle.lanes.specs.Lanes.{lane, Binds}
 use Rattle.masks.proofs.Laws.Logic.{byBool}
+use Rattle.masks.proofs.Laws.Lists.{all-suc}
 use Rattle.masks.proofs.Laws.Set.{bitAt-zero}
+use Rattle.masks.proofs.Laws.Members.{bitAt-and}
 use Rattle.masks.proofs.Laws.Patterns.{ones, bitAt-ones, column, bitAt-column}
 use Rattle.ordering.proofs.Laws.Adorn.{after-args}
 use Rattle.ordering.proofs.Laws.Steps.{var-set, var-skip}
@@ -179,3 +182,23 @@ module _ (args : List ℕ) where
 
   pub headed-end : {i : ℕ} {vars : List ℕ} → i ≡ length args → Headed args i vars → EachLane (λ a. lane a vars ≡ headBound args a)
   headed-end {i} e g a h = g .lanes a h ∙ ap (λ (l : List ℕ). headBound l a) (take-all i args (omega arith))
+
+-- ---- the arguments of a head: the word has the lanes in which the first i are bound
+
+pub record Filling (vars args : List ℕ) (i word : ℕ) : Type 0 where
+  pub lanes : EachLane (λ a. bitAt word a ≡ all (isBound (lane a vars)) (take i args))
+
+module _ (vars args : List ℕ) where
+  pub filling-start : Filling vars args 0 ones
+  filling-start = record { lanes = λ a h. bitAt-ones a h }
+
+  pub filling-next : (i w : ℕ) {word : ℕ} → i < length args → EachLane (λ a. bitAt w a ≡ isBound (lane a vars) (getD args i 0)) → Filling vars args i word
+      → Filling vars args (i + 1) (bitAnd word w)
+  filling-next i w {word} l f g =
+      record {
+        lanes = λ a h.
+            bitAt-and word w a ∙ ap₂ (λ (x y : Bool). x && y) (g .lanes a h) (f a h) ∙ sym (all-suc (isBound (lane a vars)) 0 args i l);
+      }
+
+  pub filling-end : (i : ℕ) {word : ℕ} → i ≡ length args → Filling vars args i word → EachLane (λ a. bitAt word a ≡ all (isBound (lane a vars)) args)
+  filling-end i e g a h = g .lanes a h ∙ ap (all (isBound (lane a vars))) (take-all i args (omega arith))

@@ -8,7 +8,7 @@ use borrow.Author.Tests.{eqb-true, not-true, leb-true, leb-false}
 use Rattle.book.specs.Limits.{maxPredicates, maxSubgoals}
 use Rattle.book.specs.Held.{clauseAt}
 use Rattle.book.specs.Table.{tableIn}
-use Rattle.lanes.proofs.Laws.Passing.{Passing, passing-start, passing-next, passing-good, passing-still, passing-end}
+use Rattle.lanes.proofs.Laws.Passing.{Passing, passing-start, passing-next, passing-good, passing-still, passing-end, passing-ran}
 use Rattle.lanes.proofs.body_lanes.Statement.{statement}
 use Rattle.lanes.proofs.body_lanes.Tie as tie
 
@@ -37,10 +37,12 @@ returns c =
     let args = c .before .before .before .before .before .before .before .args in
     let pass = c .before .before .one-pass .ensures .0 in
     let T = tableIn (args .table .now) maxPredicates in
-    let body = clauseAt (args .rules .now) (args .k) .body in
-    ⊎-elim (λ u. passing-good T body (args .vars .now) pass (l .inv) (u .taken))
-    (⊎-elim (λ u. passing-still T body (args .vars .now) pass (l .inv) (not-true _ (u .2 .taken)))
-    (λ u. let h = leb-true (n .result) (l .passes) (u .3 .taken) in passing-end T body (args .vars .now) pass (l .inv) (omega arith))) (c .if1 .came)
+    let body = clauseAt (args .rules .now) (args .k) .body in (
+      ⊎-elim (λ u. passing-good T body (args .vars .now) pass (l .inv) (u .taken))
+          (⊎-elim (λ u. passing-still T body (args .vars .now) pass (l .inv) (not-true _ (u .2 .taken)))
+          (λ u. let h = leb-true (n .result) (l .passes) (u .3 .taken) in passing-end T body (args .vars .now) pass (l .inv) (omega arith))) (c .if1 .came),
+      passing-ran T body (args .vars .now) pass (l .inv),
+    )
 
 -- where nothing ends the loop, there are more subgoals than passes
 more : (c : tie.Else3 Inv-loop μ-loop) → c .before .before .before .before .before .before .before .before .loop .passes < c .before .before .before .before .before .before .before .before .before .subgoals-at .result

@@ -1,4 +1,5 @@
--- `lanes::good_lanes` meets its contract: in each lane, the body has a good order from what the head binds. Assumes nothing.
+-- `lanes::good_lanes` meets its contract: in each lane, the body has a good order from what the head binds, and the head is bound when it has run. Assumes
+-- nothing.
 use borrow.Author.Needs.{needs}
 use Rattle.book.specs.Limits.{maxPredicates}
 use Rattle.book.specs.Held.{callIn, clauseAt}
@@ -16,13 +17,18 @@ head-lanes-requires c κs = search needs
 body-lanes-requires : tie.Need-body-lanes-requires
 body-lanes-requires c κs = c .before .before .before .pre
 
+filled-lanes-requires : tie.Need-filled-lanes-requires
+filled-lanes-requires c κs = search needs
+
 returns : tie.Need-returns
 returns c =
-    let args = c .before .before .before .before .args in
-    let head = c .before .before .before .head-at in
-    let vars = c .before .before .head-lanes in
-    clause-good (tableIn (args .table .now) maxPredicates) (clauseAt (args .rules .now) (args .k)) (callIn (head .result)) (vars .result) (c .body-lanes .result)
-    (head .ensures) (vars .ensures) (c .body-lanes .ensures)
+    let args = c .before .before .before .before .before .before .args in
+    let head = c .before .before .before .before .before .head-at in
+    let vars = c .before .before .before .before .head-lanes in
+    let good = c .before .before .body-lanes in
+    let filled = c .filled-lanes in
+    clause-good (tableIn (args .table .now) maxPredicates) (clauseAt (args .rules .now) (args .k)) (callIn (head .result)) (vars .result) _ (good .result) (filled .result)
+    (head .ensures) (vars .ensures) (good .ensures .0) (good .ensures .1) (filled .ensures)
 
 pub good-lanes-spec : {M : Type 1} → statement M
-good-lanes-spec = tie.close (tie.spec head-at-requires head-lanes-requires body-lanes-requires returns)
+good-lanes-spec = tie.close (tie.spec head-at-requires head-lanes-requires body-lanes-requires filled-lanes-requires returns)

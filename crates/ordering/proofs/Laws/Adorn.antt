@@ -143,7 +143,7 @@ all-twice b (v ∷ vs) =
 
 -- ---- patterns
 
-bound-mono : (b b′ : Bound) (v : ℕ) → Le b b′ → isBound b v ≡ true → isBound b′ v ≡ true
+pub bound-mono : (b b′ : Bound) (v : ℕ) → Le b b′ → isBound b v ≡ true → isBound b′ v ≡ true
 unfolding isBound
 bound-mono b b′ v h = go (eqb v literal) (ltb v variables)
   where

@@ -13,10 +13,10 @@ use Rattle.book.specs.Table.{Table, entry}
 use Rattle.ordering.specs.Adorn.{Bound, patternOf, ready}
 use Rattle.ordering.specs.Orders.{In}
 use Rattle.ordering.specs.Turns as turns
-use Rattle.ordering.specs.Good.{at, readyAt, afterAt, goodFrom}
+use Rattle.ordering.specs.Good.{at, readyAt, afterAt, goodFrom, ran}
 use Rattle.ordering.specs.Asks.{Asked, asks, called}
 use Rattle.masks.proofs.Laws.Logic.{and-intro, and-left, and-right, or-left, or-right, or-case}
-use Rattle.ordering.proofs.Laws.Greedy.{good-parts, good-cons, allAfter}
+use Rattle.ordering.proofs.Laws.Greedy.{good-parts, good-cons}
 
 -- ---- each call
 
@@ -91,13 +91,13 @@ module _ (T : Table) (body : List Call) where
 -- ---- one place more
 
 pub asks-snoc : (body : List Call) (b : Bound) (σ : List ℕ) (p : ℕ)
-    → asks body b (σ ++ (p ∷ [])) ≡ asks body b σ ++ (record { pred = at body p .pred; pattern = patternOf (allAfter (afterAt body) b σ) (at body p .args) } ∷ [])
-unfolding asks allAfter
+    → asks body b (σ ++ (p ∷ [])) ≡ asks body b σ ++ (record { pred = at body p .pred; pattern = patternOf (ran body b σ) (at body p .args) } ∷ [])
+unfolding asks turns.allAfter
 asks-snoc body b [] p = refl
 asks-snoc body b (r ∷ σ) p =
     ap (λ (l : List Asked). record { pred = at body r .pred; pattern = patternOf b (at body r .args) } ∷ l) (asks-snoc body (afterAt body b r) σ p)
 
-pub after-snoc : (body : List Call) (b : Bound) (σ : List ℕ) (p : ℕ) → allAfter (afterAt body) b (σ ++ (p ∷ [])) ≡ afterAt body (allAfter (afterAt body) b σ) p
-unfolding allAfter
+pub after-snoc : (body : List Call) (b : Bound) (σ : List ℕ) (p : ℕ) → ran body b (σ ++ (p ∷ [])) ≡ afterAt body (ran body b σ) p
+unfolding turns.allAfter
 after-snoc body b [] p = refl
 after-snoc body b (r ∷ σ) p = after-snoc body (afterAt body b r) σ p

@@ -3,20 +3,17 @@ use mathlib.Core.Path.{_≡_, refl}
 use mathlib.Core.List.{[], _∷_}
 use mathlib.Core.Option.{some}
 use Rattle.masks.specs.Lists.{below}
-use Rattle.masks.specs.Mask.{within}
-use Rattle.masks.specs.Constraint.{admits}
 use Rattle.book.specs.Book.{Clause}
 use Rattle.book.specs.Table.{Table}
-use Rattle.ordering.specs.Adorn.{nothing, isBound, patternOf, bindVar, bindAll, bindHead, headBound, ready, after}
-use Rattle.ordering.specs.Orders.{find, without, each, ordersOf, count, orders}
-use Rattle.ordering.specs.Turns as turns
-use Rattle.ordering.specs.Good.{at, firstGood, goodClause}
+use Rattle.ordering.specs.Adorn.{headBound}
+use Rattle.ordering.specs.Good.{firstGood, goodClause}
 use Rattle.ordering.proofs.Laws.Greedy.{greedyOf}
 use Rattle.ordering.proofs.Laws.Greedy as rule
+use Rattle.ordering.proofs.Laws.Brought.{computing}
 use Rattle.ordering.proofs.Laws.Good.{greedy}
 
 compute : Unit {0}
-unfolding within admits nothing isBound patternOf bindVar bindAll bindHead headBound ready after find without each ordersOf count orders turns.goodFrom turns.firstGood at goodClause greedyOf rule.greedy
+unfolding computing greedyOf rule.greedy
 compute = tt
 
 -- "r(X,X) :- f(X), f {1}: masks 1 2"

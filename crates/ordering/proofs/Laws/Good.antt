@@ -1,7 +1,7 @@
 -- Good clauses. The subgoals of a clause are taken over a state that grows, what is bound, so the theory of the greedy order holds of them. MONOTONE:
 -- with more bound at the head, or a table that admits more, every good order is still good. Assumes nothing.
 use mathlib.Core.Path.{_≡_, refl, ap, _∙_}
-use mathlib.Core.Bool.{Bool, true, false}
+use mathlib.Core.Bool.{Bool, true, false, _&&_}
 use mathlib.Core.List.{List, []}
 use mathlib.Core.Option.{Option, none, some}
 use Prim.Native.Nat.{ℕ, _<_}
@@ -13,15 +13,16 @@ use Rattle.book.specs.Book.{Call, noCall, Clause}
 use Rattle.book.specs.Table.{Table}
 use Rattle.ordering.specs.Orders.{Rearranges, Least, count}
 use Rattle.ordering.specs.Adorn.{Bound, headBound, ready, after}
-use Rattle.ordering.specs.Good.{at, readyAt, afterAt, goodFrom, firstGood, isSome, goodClause}
+use Rattle.ordering.specs.Good.{at, readyAt, afterAt, goodFrom, ran, firstGood, isSome, brought, goodClause}
 use Rattle.ordering.specs.Held.{orNone}
-use Rattle.masks.proofs.Laws.Logic.{clash, false-of}
+use Rattle.masks.proofs.Laws.Logic.{clash, false-of, and-intro, and-left, and-right}
 use Rattle.masks.proofs.Laws.Lists.{any-at}
 use Rattle.masks.proofs.Laws.Mask.{within-refl}
-use Rattle.ordering.proofs.Laws.Orders.{in-at, right-takes}
-use Rattle.ordering.proofs.Laws.Greedy.{Growing, first-least, first-good, good-first, first-mono, first-same, greedy-first, allAfter, all-same}
+use Rattle.ordering.proofs.Laws.Orders.{in-at}
+use Rattle.ordering.proofs.Laws.Greedy.{Growing, first-least, first-good, good-first, first-mono, first-same, greedy-first}
 use Rattle.ordering.proofs.Laws.Greedy as turns
 use Rattle.ordering.proofs.Laws.Adorn.{Le, le-refl, le-trans, More, more-refl, ready-mono, ready-same, after-grows, after-mono, after-swap, after-twice, headBound-mono}
+use Rattle.ordering.proofs.Laws.Brought.{brought-mono}
 
 -- ---- the first good order
 
@@ -58,33 +59,38 @@ first-below T body b i = go (firstGood T body b) refl
     go none e h = absurd (omega arith)
     go (some σ) e h = first-is-least T body b .has σ e .0 .below (getD σ i 0) (in-at 0 σ i h)
 
--- what is bound after all of them does not depend on their order
-pub bound-after : (body : List Call) (b : Bound) (σ τ : List ℕ) → Rearranges (length body) σ → Rearranges (length body) τ
-    → allAfter (afterAt body) b σ ≡ allAfter (afterAt body) b τ
-bound-after body b σ τ r s =
-    all-same (afterAt body) (λ c p q. after-swap c (at body p) (at body q)) b (count 0 (length body)) σ τ
-    (right-takes (length body) σ r) (right-takes (length body) τ s)
+-- ---- a clause is good exactly where some rearrangement is, and W3's rule holds
 
--- ---- a clause is good exactly where some rearrangement is
+pub good-clause-parts : (T : Table) (c : Clause) (a : ℕ) → goodClause T c a ≡ true
+    → (isSome (firstGood T (c .body) (headBound (c .head .args) a)) ≡ true) × (brought c (headBound (c .head .args) a) ≡ true)
+unfolding goodClause
+good-clause-parts T c a h =
+    let b = headBound (c .head .args) a in
+    (and-left (isSome (firstGood T (c .body) b)) (brought c b) h, and-right (isSome (firstGood T (c .body) b)) (brought c b) h)
 
 pub good-clause-order : (T : Table) (c : Clause) (a : ℕ) → goodClause T c a ≡ true
     → (σ : List ℕ) × Rearranges (length (c .body)) σ × (goodFrom T (c .body) (headBound (c .head .args) a) σ ≡ true)
-unfolding goodClause
-good-clause-order T c a h = first-good (readyAt T (c .body)) (afterAt (c .body)) (headBound (c .head .args) a) (length (c .body)) h
+good-clause-order T c a h =
+    first-good (readyAt T (c .body)) (afterAt (c .body)) (headBound (c .head .args) a) (length (c .body)) (good-clause-parts T c a h .0)
 
 pub order-good-clause : (T : Table) (c : Clause) (a : ℕ) (σ : List ℕ) → Rearranges (length (c .body)) σ
-    → goodFrom T (c .body) (headBound (c .head .args) a) σ ≡ true → goodClause T c a ≡ true
+    → goodFrom T (c .body) (headBound (c .head .args) a) σ ≡ true → brought c (headBound (c .head .args) a) ≡ true → goodClause T c a ≡ true
 unfolding goodClause
-order-good-clause T c a σ r g = good-first (readyAt T (c .body)) (afterAt (c .body)) (headBound (c .head .args) a) (length (c .body)) σ r g
+order-good-clause T c a σ r g t =
+    and-intro (good-first (readyAt T (c .body)) (afterAt (c .body)) (headBound (c .head .args) a) (length (c .body)) σ r g) t
 
 -- ---- MONOTONE
 
 pub good-clause-mono : (T T′ : Table) (c : Clause) (a a′ : ℕ) → More T T′ → within a a′ ≡ true → goodClause T c a ≡ true → goodClause T′ c a′ ≡ true
 unfolding goodClause
 good-clause-mono T T′ c a a′ m w t =
-    first-mono (readyAt T (c .body)) (afterAt (c .body)) (readyAt T′ (c .body)) (afterAt (c .body)) Le (length (c .body))
+    let more = headBound-mono (c .head .args) a a′ w in
+    let both = good-clause-parts T c a t in
+    and-intro
+    (first-mono (readyAt T (c .body)) (afterAt (c .body)) (readyAt T′ (c .body)) (afterAt (c .body)) Le (length (c .body))
     (λ b b′ p l h r. ready-mono T T′ b b′ (at (c .body) p) m h r) (λ b b′ p h. after-mono b b′ (at (c .body) p) h)
-    (headBound (c .head .args) a) (headBound (c .head .args) a′) (headBound-mono (c .head .args) a a′ w) t
+    (headBound (c .head .args) a) (headBound (c .head .args) a′) more (both .0))
+    (brought-mono c (headBound (c .head .args) a) (headBound (c .head .args) a′) more (both .1))
 
 -- more bound
 pub good-clause-pattern : (T : Table) (c : Clause) (a a′ : ℕ) → within a a′ ≡ true → goodClause T c a ≡ true → goodClause T c a′ ≡ true
@@ -110,4 +116,6 @@ module _ (T U : Table) (x : ℕ → Bool) (agree : (q : ℕ) → x q ≡ false �
 pub clause-same : (T U : Table) (x : ℕ → Bool) → ((q : ℕ) → x q ≡ false → getD T q [] ≡ getD U q []) → (c : Clause) (a : ℕ)
     → any (λ s. x (s .pred)) (c .body) ≡ false → goodClause T c a ≡ goodClause U c a
 unfolding goodClause
-clause-same T U x agree c a n = ap isSome (first-kept T U x agree (c .body) (headBound (c .head .args) a) n)
+clause-same T U x agree c a n =
+    let b = headBound (c .head .args) a in
+    ap (λ (o : Option (List ℕ)). isSome o && brought c b) (first-kept T U x agree (c .body) b n)

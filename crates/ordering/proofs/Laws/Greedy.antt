@@ -10,7 +10,7 @@ use native.Mathlib.Nat.{suc-inj}
 use native.Mathlib.Omega.{arith}
 use lib.ListN.{length}
 use Rattle.ordering.specs.Orders.{In, Rearranges, LexLt, Least, find, without, count, orders}
-use Rattle.ordering.specs.Turns.{goodFrom, firstGood}
+use Rattle.ordering.specs.Turns.{goodFrom, firstGood, allAfter}
 use Rattle.ordering.specs.Good.{isSome}
 use Rattle.masks.proofs.Laws.Logic.{clash}
 use Rattle.ordering.proofs.Laws.Orders.{find-some, find-none, find-least, same?, without-same, without-other, without-length, Takes, takes-has, takes-front, takes-right, right-takes, Ascends, ascends-without, count-length, count-ascends, orders-right, orders-all, orders-rising, lex-asym}
@@ -249,11 +249,6 @@ module _ {B : Type 0} {ready : B → ℕ → Bool} {after : B → ℕ → B} {Le
       (first-least ready after b n)
 
 -- ---- the state after all of them does not depend on their order
-
-module _ {B : Type 0} (after : B → ℕ → B) where
-  unfoldable pub allAfter : B → List ℕ → B
-  allAfter b [] = b
-  allAfter b (p ∷ σ) = allAfter (after b p) σ
 
 module _ {B : Type 0} (after : B → ℕ → B) (after-swap : (b : B) (p q : ℕ) → after (after b p) q ≡ after (after b q) p) where
   all-front : (b : B) (x : ℕ) (σ : List ℕ) → In x σ → allAfter after b σ ≡ allAfter after (after b x) (without x σ)

@@ -243,6 +243,14 @@ count-ascends i (suc n) = (λ y m. count-in (suc i) n y m .0, count-ascends (suc
 pub count-distinct : (i n : ℕ) → Distinct (count i n)
 count-distinct i n = ascends-distinct (count i n) (count-ascends i n)
 
+-- the places as they stand
+pub standing : (n : ℕ) → Rearranges n (count 0 n)
+standing n = record {
+  long = count-length 0 n;
+  below = λ p m. let h = count-in 0 n p m in omega arith;
+  once = count-distinct 0 n;
+}
+
 -- to take the n places one by one is to rearrange them
 pub takes-right : (n : ℕ) (σ : List ℕ) → Takes (count 0 n) σ → Rearranges n σ
 takes-right n σ t = record {

@@ -16,12 +16,12 @@ use Rattle.book.specs.Book.{Call, noCall}
 use Rattle.book.specs.Held.{callIn}
 use Rattle.book.specs.Table.{Table}
 use Rattle.ordering.specs.Adorn.{Bound, patternOf}
-use Rattle.ordering.specs.Good.{at, readyAt, afterAt, firstGood}
+use Rattle.ordering.specs.Turns.{allAfter}
+use Rattle.ordering.specs.Good.{at, readyAt, afterAt, ran, firstGood}
 use Rattle.ordering.specs.Asks.{Asked, asks, patternsIn}
 use Rattle.ordering.specs.Held.{orderOf, orNone, placesOf, patternsOf, picked, PatternAt}
 use Rattle.ordering.specs.declared.Order.{Order}
 use Rattle.book.proofs.Laws.Held.{args-count}
-use Rattle.ordering.proofs.Laws.Greedy.{allAfter}
 use Rattle.ordering.proofs.Laws.Good.{greedy-is-first, first-below}
 use Rattle.ordering.proofs.Laws.Asks.{asks-snoc, after-snoc}
 use Rattle.ordering.proofs.Laws.Run.{Run, run-start, run-next, run-stuck, run-end}
@@ -35,17 +35,17 @@ unfolding asks
 patterns-nil body b = refl
 
 patterns-snoc : (body : List Call) (b : Bound) (σ : List ℕ) (p : ℕ)
-    → patternsIn body b (σ ++ (p ∷ [])) ≡ patternsIn body b σ ++ (patternOf (allAfter (afterAt body) b σ) (at body p .args) ∷ [])
+    → patternsIn body b (σ ++ (p ∷ [])) ≡ patternsIn body b σ ++ (patternOf (ran body b σ) (at body p .args) ∷ [])
 patterns-snoc body b σ p =
     ap (map (λ (x : Asked). x .pattern)) (asks-snoc body b σ p)
-    ∙ map-append (λ (x : Asked). x .pattern) (asks body b σ) (record { pred = at body p .pred; pattern = patternOf (allAfter (afterAt body) b σ) (at body p .args) } ∷ [])
+    ∙ map-append (λ (x : Asked). x .pattern) (asks body b σ) (record { pred = at body p .pred; pattern = patternOf (ran body b σ) (at body p .args) } ∷ [])
 
 -- ---- the patterns that are stored
 
 -- i places are taken from b₀ on, and b is bound: the patterns beside them are those of their subgoals in their turn
 pub record Turns (body : List Call) (b₀ : Bound) (i : ℕ) (b : Bound) (places patterns : List ℕ) : Type 0 where
   pub room : (length body ≤ length places) × (length body ≤ length patterns)
-  pub taken : b ≡ allAfter (afterAt body) b₀ (take i places)
+  pub taken : b ≡ ran body b₀ (take i places)
   pub told : take i patterns ≡ patternsIn body b₀ (take i places)
 
 turns-start : (body : List Call) (b : Bound) (places patterns : List ℕ) → length body ≤ length places → length body ≤ length patterns
@@ -109,7 +109,7 @@ module _ {T : Table} {body : List Call} {b₀ b : Bound} {i left : ℕ} {places 
 -- ---- the pattern beside a place
 
 patterns-at : (body : List Call) (b : Bound) (σ : List ℕ) (i : ℕ) → i < length σ
-    → getD (patternsIn body b σ) i 0 ≡ patternOf (allAfter (afterAt body) b (take i σ)) (at body (getD σ i 0) .args)
+    → getD (patternsIn body b σ) i 0 ≡ patternOf (ran body b (take i σ)) (at body (getD σ i 0) .args)
 unfolding asks allAfter
 patterns-at body b [] i h = absurd (omega arith)
 patterns-at body b (p ∷ σ) zero h = refl
@@ -122,7 +122,7 @@ patterns-long body b (p ∷ σ) = ap suc (patterns-long body (afterAt body b p) 
 
 -- of an order
 pub pattern-beside : (body : List Call) (b : Bound) (o : Order) → patternsOf o ≡ patternsIn body b (placesOf o) → (i : ℕ) → i < length (placesOf o)
-    → getD (o .patterns) i 0 ≡ patternOf (allAfter (afterAt body) b (take i (placesOf o))) (at body (getD (placesOf o) i 0) .args)
+    → getD (o .patterns) i 0 ≡ patternOf (ran body b (take i (placesOf o))) (at body (getD (placesOf o) i 0) .args)
 pattern-beside body b o e i h =
     let l = ap length e ∙ patterns-long body b (placesOf o) in
     sym (first-at (length (placesOf o)) (o .patterns) i (omega arith)) ∙ ap (λ (l : List ℕ). getD l i 0) e ∙ patterns-at body b (placesOf o) i h
@@ -150,10 +150,10 @@ module _ (T : Table) (body : List Call) (b : Bound) (o : Order) (e : orderOf o �
 
   -- the pattern beside a place is that of the call there
   pub order-pattern : patternsOf o ≡ patternsIn body b (placesOf o) → (i : ℕ) → i < length (placesOf o)
-      → getD (o .patterns) i 0 ≡ patternOf (allAfter (afterAt body) b (take i order)) (at body (getD order i 0) .args)
+      → getD (o .patterns) i 0 ≡ patternOf (ran body b (take i order)) (at body (getD order i 0) .args)
   order-pattern t i h =
       pattern-beside body b o t i h
-      ∙ ap (λ (σ : Option (List ℕ)). patternOf (allAfter (afterAt body) b (take i (orNone σ))) (at body (getD (orNone σ) i 0) .args)) e
+      ∙ ap (λ (σ : Option (List ℕ)). patternOf (ran body b (take i (orNone σ))) (at body (getD (orNone σ) i 0) .args)) e
 
   -- of a call that was read, with six arguments at most
   pub pattern-low : patternsOf o ≡ patternsIn body b (placesOf o) → (i : ℕ) → i < length (placesOf o) → (s : ℕ)
@@ -163,17 +163,17 @@ module _ (T : Table) (body : List Call) (b : Bound) (o : Order) (e : orderOf o �
       let r = order-pattern t i h in
       let n = args-count s in
       let a : callIn s .args ≡ at body (getD order i 0) .args = ap (λ (c : Call). c .args) (q ∙ ap (λ (p : ℕ). getD body p noCall) (order-at i h)) in
-      let l = pattern-small (allAfter (afterAt body) b (take i order)) maxArity (at body (getD order i 0) .args) (rw (← a) (omega arith)) in
+      let l = pattern-small (ran body b (take i order)) maxArity (at body (getD order i 0) .args) (rw (← a) (omega arith)) in
       omega arith
 
 -- ---- the calls of an order, one by one
 
 pub asks-values : (body : List Call) (b : Bound) (σ : List ℕ) (i : ℕ) → i ≤ length σ
-    → values (λ j. record { pred = at body (getD σ j 0) .pred; pattern = patternOf (allAfter (afterAt body) b (take j σ)) (at body (getD σ j 0) .args) }) i
+    → values (λ j. record { pred = at body (getD σ j 0) .pred; pattern = patternOf (ran body b (take j σ)) (at body (getD σ j 0) .args) }) i
     ≡ asks body b (take i σ)
 unfolding asks
 asks-values body b σ zero h = refl
 asks-values body b σ (suc i) h =
     rw (take-suc σ i 0 (omega arith), asks-snoc body b (take i σ) (getD σ i 0))
-    (ap (λ (l : List Asked). l ++ (record { pred = at body (getD σ i 0) .pred; pattern = patternOf (allAfter (afterAt body) b (take i σ)) (at body (getD σ i 0) .args) } ∷ []))
+    (ap (λ (l : List Asked). l ++ (record { pred = at body (getD σ i 0) .pred; pattern = patternOf (ran body b (take i σ)) (at body (getD σ i 0) .args) } ∷ []))
     (asks-values body b σ i (omega arith)))

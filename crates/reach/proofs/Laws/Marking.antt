@@ -13,13 +13,12 @@ use Rattle.book.specs.Book.{Call, noCall}
 use Rattle.book.specs.Held.{callIn}
 use Rattle.book.specs.Table.{Table}
 use Rattle.ordering.specs.Adorn.{Bound, patternOf}
-use Rattle.ordering.specs.Good.{at, afterAt}
+use Rattle.ordering.specs.Good.{at, ran}
 use Rattle.ordering.specs.Asks.{Asked, asks}
 use Rattle.ordering.specs.Held.{placesOf}
 use Rattle.ordering.specs.declared.Order.{Order}
 use Rattle.reach.specs.Marked.{Found, Marked, callsBy}
 use Rattle.masks.proofs.Laws.Lists.{values-cong}
-use Rattle.ordering.proofs.Laws.Greedy.{allAfter}
 use Rattle.ordering.proofs.Laws.Patterns.{asks-values, order, order-long, order-at, order-pattern}
 use Rattle.reach.proofs.Laws.Marked.{marked-nil, marked-append, marked-one}
 
@@ -64,7 +63,7 @@ module _ (T : Table) (body : List Call) (b : Bound) (o : Order) (found : Found T
       let e = found .first in
       let σ : List ℕ = order T body b o e in
       let l = order-long T body b o e in
-      let F : ℕ → Asked = λ j. record { pred = at body (getD σ j 0) .pred; pattern = patternOf (allAfter (afterAt body) b (take j σ)) (at body (getD σ j 0) .args) } in
+      let F : ℕ → Asked = λ j. record { pred = at body (getD σ j 0) .pred; pattern = patternOf (ran body b (take j σ)) (at body (getD σ j 0) .args) } in
       let same : (j : ℕ) → j < i → callAt body (o .places) (o .patterns) j ≡ F j =
       λ j k. ap₂ (λ (p a : ℕ). record { pred = at body p .pred; pattern = a }) (order-at T body b o e j (omega arith)) (order-pattern T body b o e (found .beside) j (omega arith)) in
       subst (λ (l : List Asked). Marked before words names l)

@@ -3,20 +3,16 @@
 use mathlib.Core.Path.{_≡_, refl}
 use mathlib.Core.List.{List, [], _∷_}
 use Prim.Native.Nat.{ℕ}
-use Rattle.masks.specs.Mask.{within}
-use Rattle.masks.specs.Constraint.{admits, drops, least, written, minimise}
+use Rattle.masks.specs.Constraint.{drops, least, written, minimise}
 use Rattle.book.specs.Book.{Call, Mode, Clause, Book}
 use Rattle.book.specs.Table.{Table}
 use Rattle.book.proofs.Laws.Examples.{k1-book}
-use Rattle.ordering.specs.Adorn.{nothing, isBound, patternOf, bindVar, bindAll, bindHead, headBound, ready, after}
-use Rattle.ordering.specs.Orders.{find, without, each, ordersOf, count, orders}
-use Rattle.ordering.specs.Turns as turns
-use Rattle.ordering.specs.Good.{at, goodClause}
+use Rattle.ordering.proofs.Laws.Brought.{computing}
 use Rattle.tables.specs.Table.{modeOf, firstNeeds, start, own, defined, good, next, step, table, settled, patternsOf, seek, rounds, final}
 use Rattle.tables.specs.Image.{image}
 
 unfoldable pub compute : Unit {0}
-unfolding within admits drops least written minimise k1-book nothing isBound patternOf bindVar bindAll bindHead headBound ready after find without each ordersOf count orders turns.goodFrom turns.firstGood at goodClause modeOf firstNeeds start own defined good next step table settled patternsOf seek rounds final
+unfolding computing drops least written minimise k1-book modeOf firstNeeds start own defined good next step table settled patternsOf seek rounds final
 compute = tt
 
 -- ---- books
@@ -68,12 +64,22 @@ ill =
     (clause (call 0 (0 ∷ [])) (call 1 (0 ∷ []) ∷ []) ∷ clause (call 2 (0 ∷ [])) (call 3 (0 ∷ []) ∷ []) ∷ [])
     (call 2 (0 ∷ []) ∷ [])
 
--- f and g need {1}: r(X,Y) :- f(X) and r(X,Y) :- g(Y). No query
+-- f and g need {1}: r(X,Y) :- f(X), h(Y) and r(X,Y) :- g(Y), h(X). No query
 abbrev both : Book
 both =
-    rules (2 ∷ 1 ∷ 1 ∷ []) (needs 1 (1 ∷ []) ∷ needs 2 (1 ∷ []) ∷ [])
-    (clause (call 0 (0 ∷ 1 ∷ [])) (call 1 (0 ∷ []) ∷ []) ∷ clause (call 0 (0 ∷ 1 ∷ [])) (call 2 (1 ∷ []) ∷ []) ∷ [])
+    rules (2 ∷ 1 ∷ 1 ∷ 1 ∷ []) (needs 1 (1 ∷ []) ∷ needs 2 (1 ∷ []) ∷ [])
+    (clause (call 0 (0 ∷ 1 ∷ [])) (call 1 (0 ∷ []) ∷ call 3 (1 ∷ []) ∷ [])
+    ∷ clause (call 0 (0 ∷ 1 ∷ [])) (call 2 (1 ∷ []) ∷ call 3 (0 ∷ []) ∷ [])
+    ∷ [])
     []
+
+-- W3's clause seen(H,T) :- head(H). No query
+abbrev seen : Book
+seen = rules (1 ∷ 2 ∷ []) [] (clause (call 1 (0 ∷ 1 ∷ [])) (call 0 (0 ∷ []) ∷ []) ∷ []) []
+
+-- W3's fact p(X). The query p(X)
+abbrev pub fact : Book
+fact = rules (1 ∷ []) [] (clause (call 0 (0 ∷ [])) [] ∷ []) (call 0 (0 ∷ []) ∷ [])
 
 -- b(X) :- m(X), then a(X) :- b(X) and a(X) :- m(X), where a is predicate 0 and b predicate 1. The query a(X), a(X)
 abbrev pub several : Book
@@ -114,12 +120,16 @@ rows =
     -- "One with MO and n = 0 has no alternative: it is ill"
     ∷ record { book = ill; rounds = 1; needs = [] ∷ [] ∷ (0 ∷ []) ∷ (0 ∷ []) ∷ [] }
     -- "A predicate's pattern is good when all its clauses are good under it."
-    ∷ record { book = both; rounds = 1; needs = (3 ∷ []) ∷ (1 ∷ []) ∷ (1 ∷ []) ∷ [] }
+    ∷ record { book = both; rounds = 1; needs = (3 ∷ []) ∷ (1 ∷ []) ∷ (1 ∷ []) ∷ (0 ∷ []) ∷ [] }
+    -- W3: "T stays empty unless the caller brought it"
+    ∷ record { book = seen; rounds = 1; needs = (0 ∷ []) ∷ (2 ∷ []) ∷ [] }
+    -- W3: "The fact p(X) with no body gets mask 1.", in a round
+    ∷ record { book = fact; rounds = 1; needs = (1 ∷ []) ∷ [] }
     ∷ []
 
 pub rows-hold : EachHolds rows
 unfolding compute
-rows-hold = ((refl, refl), ((refl, refl), ((refl, refl), ((refl, refl), ((refl, refl), tt)))))
+rows-hold = ((refl, refl), ((refl, refl), ((refl, refl), ((refl, refl), ((refl, refl), ((refl, refl), ((refl, refl), tt)))))))
 
 -- ---- an image
 

@@ -19,7 +19,7 @@ use Rattle.book.specs.Book.{Clause, Book}
 use Rattle.book.specs.Encode.{WellFormed}
 use Rattle.book.specs.Table.{Table, entry}
 use Rattle.ordering.specs.Adorn.{Bound, bindVar, bindHead, headBound, nothing}
-use Rattle.ordering.specs.Good.{firstGood, isSome, goodClause}
+use Rattle.ordering.specs.Good.{firstGood, isSome, brought, goodClause}
 use Rattle.tables.specs.Table.{own, defined, good, step}
 use Rattle.tables.proofs.Laws.Valid.{arity-low, own-arity}
 use Rattle.tables.proofs.Laws.Round.{good-up, step-defined}
@@ -47,7 +47,7 @@ module _ (B : Book) (w : WellFormed B) (T : Table) (p : ℕ) where
       all-agree (λ c. goodClause T c (cut arity a)) (λ c. goodClause T c a) (λ c. eqb (length (c .head .args)) arity)
       (λ c t.
       let e = eqb-true (length (c .head .args)) arity t in
-      ap (λ (b : Bound). isSome (firstGood T (c .body) b))
+      ap (λ (b : Bound). isSome (firstGood T (c .body) b) && brought c b)
       (bits-head (c .head .args) nothing (cut arity a) a (λ i h. cut-bits arity a (arity-low B w p) i (omega arith))))
       (own (B .clauses) p) (own-arity (B .arities) (B .modes) (B .clauses) (w .clausesFit) p)
 
