@@ -9,7 +9,6 @@ use mathlib.Core.Option.{none, some}
 use Prim.Native.Nat.{ℕ, suc, _+_, _^_, _≤_, _<_}
 use lib.Bits.{bitOr}
 use lib.ListN.{length, getD, take, drop}
-use Rattle.masks.specs.Lists.{all}
 use Rattle.masks.specs.Constraint.{admits}
 use Rattle.masks.specs.Outcome.{Outcome, refused, done, Answers}
 use Rattle.masks.specs.Joining.{joining}
@@ -23,9 +22,9 @@ use Rattle.book.specs.Held.{bookIn}
 use Rattle.book.specs.Table.{Table, entry}
 use Rattle.book.specs.declared.fault.Fault.{Fault}
 use Rattle.reading.specs.Judged.{checked}
-use Rattle.ordering.specs.Adorn.{Bound, nothing, isBound, headBound}
+use Rattle.ordering.specs.Adorn.{Bound, nothing, headBound}
 use Rattle.ordering.specs.Orders.{In, Rearranges, LexLt, Least, Sorted}
-use Rattle.ordering.specs.Good.{goodFrom, ran, brought}
+use Rattle.ordering.specs.Good.{goodFrom, brought, filled}
 use Rattle.tables.specs.Table.{modeOf, firstNeed, defined, table, rounds, final}
 use Rattle.tables.specs.Image as analysed
 use Rattle.choices.specs.Choice.{clause, IsChoice, Reaches, WellModed, Orderable}
@@ -147,9 +146,8 @@ pub record Demand2 (s : List ℕ) (B : Book) : Type 0 where
   pub clauseFirst : Orderable B → (r : Row) → In r (planRows B)
       → FirstGood (final B) (clause B (r .clause·) .body) (headBound (clause B (r .clause·) .head .args) (r .pattern)) (r .places)
   -- W3, "A clause that gives back an empty cell": none does; when it has run in its order, every argument of its head is bound
-  pub filled : Orderable B → (r : Row) → In r (planRows B)
-      → all (isBound (ran (clause B (r .clause·) .body) (headBound (clause B (r .clause·) .head .args) (r .pattern)) (r .places)))
-      (clause B (r .clause·) .head .args) ≡ true
+  pub filled· : Orderable B → (r : Row) → In r (planRows B)
+      → filled (clause B (r .clause·)) (headBound (clause B (r .clause·) .head .args) (r .pattern)) (r .places) ≡ true
 
 -- ---- Demand 3: any set of predicates replaced by what they need changes no need and no acceptance, and closing in parts gives the same bytes as closing at
 -- once

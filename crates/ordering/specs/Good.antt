@@ -45,9 +45,14 @@ isSome (some σ) = true
 unfoldable pub standsIn : List Call → ℕ → Bool
 standsIn body v = ltb v variables && any (λ s. has (s .args) v) body
 
--- W3: "each head variable that is in none of its subgoals is bound" from the start, as a literal is
+-- W3: "each head variable that is in none of its subgoals is bound by that pattern": of the arguments of the head, each is bound from the start, as a
+-- literal is, or stands in a subgoal
 unfoldable pub brought : Clause → Bound → Bool
 brought c b = all (λ v. isBound b v || standsIn (c .body) v) (c .head .args)
+
+-- every argument of the head is bound when the clause has run in an order: no cell comes back empty
+abbrev pub filled : Clause → Bound → List ℕ → Bool
+filled c b σ = all (isBound (ran (c .body) b σ)) (c .head .args)
 
 -- "some order makes every subgoal's pattern fit", and W3: ".. as well"
 unfoldable pub goodClause : Table → Clause → ℕ → Bool

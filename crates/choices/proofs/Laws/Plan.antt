@@ -7,14 +7,13 @@ use mathlib.Core.List.{List}
 use mathlib.Core.Option.{some}
 use Prim.Native.Nat.{ℕ, _<_}
 use lib.ListN.{length}
-use Rattle.masks.specs.Lists.{all}
 use Rattle.masks.specs.Outcome.{refused, done}
 use Rattle.book.specs.Book.{Book}
 use Rattle.book.specs.Encode.{WellFormed}
 use Rattle.book.specs.Format.{book, judge}
-use Rattle.ordering.specs.Adorn.{nothing, isBound, headBound}
+use Rattle.ordering.specs.Adorn.{nothing, headBound}
 use Rattle.ordering.specs.Orders.{In, Rearranges, Least}
-use Rattle.ordering.specs.Good.{goodFrom, ran, firstGood, isSome}
+use Rattle.ordering.specs.Good.{goodFrom, firstGood, isSome, filled}
 use Rattle.tables.specs.Table.{final}
 use Rattle.choices.specs.Choice.{clause, IsChoice, Reaches, WellModed, Orderable}
 use Rattle.choices.specs.Reached.{marked, reached}
@@ -115,8 +114,7 @@ module _ (B : Book) (w : WellFormed B) where
 
     -- FILLED: what W3 is for: when a clause has run in its order, every argument of its head is bound
     pub plan-filled : (r : Row) → In r (planRows B)
-        → all (isBound (ran (clause B (r .clause·) .body) (headBound (clause B (r .clause·) .head .args) (r .pattern)) (r .places)))
-        (clause B (r .clause·) .head .args) ≡ true
+        → filled (clause B (r .clause·)) (headBound (clause B (r .clause·) .head .args) (r .pattern)) (r .places) ≡ true
     plan-filled r m =
         let c = clause B (r .clause·) in
         let x = plan-exact (r .clause·) (r .pattern) .0 (r .places, m) in

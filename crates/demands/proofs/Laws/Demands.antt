@@ -145,7 +145,7 @@ module _ (s : List ℕ) (B : Book) (valid : judge s ≡ book B) where
         ascending = rising;
         queryFirst = λ x. plan-query-first B well (ordered x);
         clauseFirst = λ x. plan-first B well (ordered x);
-        filled = λ x. plan-filled B well (ordered x);
+        filled· = λ x. plan-filled B well (ordered x);
       }
 
 -- ---- demand 3

@@ -16,7 +16,7 @@ use Rattle.book.specs.Book.{Call, noCall, Clause}
 use Rattle.ordering.specs.Adorn.{variables, Bound, nothing, literal, isBound, patternOf, bindVar, bindAll, bindHead, headBound, ready, after}
 use Rattle.ordering.specs.Orders.{Rearranges, find, without, each, ordersOf, count, orders}
 use Rattle.ordering.specs.Turns as turns
-use Rattle.ordering.specs.Good.{at, afterAt, ran, standsIn, brought, goodClause}
+use Rattle.ordering.specs.Good.{at, afterAt, ran, standsIn, brought, filled, goodClause}
 use Rattle.masks.proofs.Laws.Logic.{byBool, or-left, or-right, or-case}
 use Rattle.masks.proofs.Laws.Lists.{all-mono}
 use Rattle.ordering.proofs.Laws.Orders.{standing, right-takes}
@@ -159,7 +159,7 @@ stands-ran body b σ v n r =
 
 -- it holds exactly where every argument of the head is bound when the clause has run
 pub brought-ran : (c : Clause) (b : Bound) (σ : List ℕ) → length b ≡ variables → Rearranges (length (c .body)) σ
-    → brought c b ≡ all (isBound (ran (c .body) b σ)) (c .head .args)
+    → brought c b ≡ filled c b σ
 unfolding brought
 brought-ran c b σ n r = go (c .head .args)
   where
