@@ -58,31 +58,48 @@ static unsigned argument(unsigned variables, int in_head)
     return pick(variables);
 }
 
-static void add_call(input *s, const char *mark, unsigned pred, unsigned arity, unsigned variables)
+// The variables that it has, bit v for variable v.
+static unsigned add_call(input *s, const char *mark, unsigned pred, unsigned arity, unsigned variables)
 {
+    unsigned stand = 0;
     add_mark(s, mark);
     add(s, pred);
-    for (unsigned i = 0; i < arity; i++)
-        add(s, argument(variables, mark[0] == 'C'));
+    for (unsigned i = 0; i < arity; i++) {
+        unsigned v = argument(variables, mark[0] == 'C');
+        add(s, v);
+        if (v < 16)
+            stand |= 1u << v;
+    }
+    return stand;
 }
 
-static void add_body(input *s, unsigned most, const unsigned *arity, unsigned preds, unsigned variables)
+static unsigned add_body(input *s, unsigned most, const unsigned *arity, unsigned preds, unsigned variables)
 {
+    unsigned stand = 0;
     for (unsigned n = pick(most + 1); n > 0; n--) {
         unsigned p = pick(preds);
-        add_call(s, "SG", p, arity[p], variables);
+        stand |= add_call(s, "SG", p, arity[p], variables);
     }
+    return stand;
+}
+
+// The arguments of a head from `at` on: variables that stand in no subgoal become literals, so that the clause leaves no cell empty.
+static void fill_head(input *s, size_t at, unsigned arity, unsigned stand)
+{
+    for (size_t i = at; i < at + arity && i < s->length; i++)
+        if (s->bytes[i] < 16 && !(stand >> s->bytes[i] & 1))
+            s->bytes[i] = 255;
 }
 
 // A book. Most are small and keep the limits; `over` lets the counts go one above them, and `clash` lets `MO` records fall and clauses be given to
-// predicates that have them.
+// predicates that have them. In half of them most clauses leave no cell empty, since few others can be ordered.
 static void make_book(input *s, int over, int clash)
 {
     static const unsigned sizes[] = {1, 2, 3, 4, 6, 10, 20, 64};
     unsigned arity[65], has[65];
     unsigned preds = over && pick(3) == 0 ? 64 + pick(2) : 1 + pick(sizes[pick(8)]);
     unsigned most = 1 + pick(6), variables = 1 + pick(pick(4) == 0 ? 16 : 5);
-    unsigned modes = pick(4), clauses = over && pick(3) == 0 ? 64 + pick(2) : pick(1 + 2 * preds > 64 ? 65 : 1 + 2 * preds);
+    unsigned filled = pick(2), modes = pick(4), clauses = over && pick(3) == 0 ? 64 + pick(2) : pick(1 + 2 * preds > 64 ? 65 : 1 + 2 * preds);
     s->length = 0;
     for (unsigned p = 0; p < preds; p++) {
         arity[p] = pick(most + 1);
@@ -104,8 +121,11 @@ static void make_book(input *s, int over, int clash)
         unsigned p = pick(preds);
         if (has[p] && !(clash && pick(4) == 0))
             continue;
+        size_t head = s->length + 3;
         add_call(s, "CL", p, arity[p], variables);
-        add_body(s, over && pick(20) == 0 ? 9 : pick(2) == 0 ? 3 : 8, arity, preds, variables);
+        unsigned stand = add_body(s, over && pick(20) == 0 ? 9 : pick(2) == 0 ? 3 : 8, arity, preds, variables);
+        if (filled && pick(16) != 0)
+            fill_head(s, head, arity[p], stand);
     }
     add_mark(s, "QU");
     add_body(s, over ? 9 : pick(2) == 0 ? 2 : 8, arity, preds, variables);
