@@ -48,7 +48,7 @@ static void print_refusal(shodh_reply reply, size_t length)
     size_t at = (size_t)reply.value;
 
     if (reply.number == SHODH_UNORDERABLE)
-        printf("no order gives every outside call what it must have\n");
+        printf("no orders give every outside call what it must have and leave no cell empty\n");
     else if (at < length)
         printf("byte %zu is %u (hex %02x); wanted: %s\n", at, book[at], book[at], wanted(reply.number, 0));
     else if (length > SHODH_BOOK_SIZE)

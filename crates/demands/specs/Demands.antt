@@ -145,7 +145,10 @@ pub record Demand2 (s : List ℕ) (B : Book) : Type 0 where
   pub queryFirst : Orderable B → FirstGood (final B) (B .query) nothing (chosen B .forQuery)
   pub clauseFirst : Orderable B → (r : Row) → In r (planRows B)
       → FirstGood (final B) (clause B (r .clause·) .body) (headBound (clause B (r .clause·) .head .args) (r .pattern)) (r .places)
-  -- W3, "A clause that gives back an empty cell": none does; when it has run in its order, every argument of its head is bound
+  -- W3, "A clause that gives back an empty cell": its rule holds of a clause exactly where every argument of the head is bound when the subgoals have run, in
+  -- whatever order; so no clause of the plan gives one back
+  pub rule : (c : Clause) (a : ℕ) (σ : List ℕ) → Rearranges (length (c .body)) σ
+      → brought c (headBound (c .head .args) a) ≡ filled c (headBound (c .head .args) a) σ
   pub filled· : Orderable B → (r : Row) → In r (planRows B)
       → filled (clause B (r .clause·)) (headBound (clause B (r .clause·) .head .args) (r .pattern)) (r .places) ≡ true
 

@@ -1,11 +1,12 @@
 -- Adorning a clause. Document 01: "variables at bound head positions start as bound; a variable at two head positions is bound if either is.
 -- Subgoals are taken in order. In each, a literal or a bound variable gives a bound position, anything else a free one. After the whole subgoal
 -- all its variables become bound". Nothing above this crate looks inside `ready` and `after`. Every definition computes. Assumes nothing.
-use mathlib.Core.Bool.{Bool, true, false, cond}
+use mathlib.Core.Bool.{Bool, true, false, cond, _&&_}
 use mathlib.Core.List.{List, [], _∷_}
 use Prim.Native.Nat.{ℕ, _+_, _*_, _/_, _%_}
 use lib.Dec.{eqb, ltb}
 use lib.ListN.{getD, set, replicate}
+use Rattle.masks.specs.Lists.{has}
 use Rattle.masks.specs.Constraint.{admits}
 use Rattle.book.specs.Book.{Call}
 use Rattle.book.specs.Table.{Table, entry}
@@ -59,6 +60,10 @@ unfoldable pub headBound : List ℕ → ℕ → Bound
 headBound head a = bindHead nothing head a
 
 -- ---- a subgoal in its turn
+
+-- v is a variable, and stands in it; a wildcard is none
+unfoldable pub hasVariable : Call → ℕ → Bool
+hasVariable s v = ltb v variables && has (s .args) v
 
 -- its pattern fits the constraint of its predicate
 unfoldable pub ready : Table → Bound → Call → Bool

@@ -5,12 +5,11 @@ use mathlib.Core.Bool.{Bool, true, false, _&&_, _||_}
 use mathlib.Core.List.{List}
 use mathlib.Core.Option.{Option, none, some}
 use Prim.Native.Nat.{ℕ}
-use lib.Dec.{ltb}
 use lib.ListN.{length, getD}
-use Rattle.masks.specs.Lists.{any, all, has}
+use Rattle.masks.specs.Lists.{any, all}
 use Rattle.book.specs.Book.{Call, noCall, Clause}
 use Rattle.book.specs.Table.{Table}
-use Rattle.ordering.specs.Adorn.{variables, Bound, isBound, headBound, ready, after}
+use Rattle.ordering.specs.Adorn.{Bound, isBound, headBound, hasVariable, ready, after}
 use Rattle.ordering.specs.Turns as turns
 
 -- the subgoal at a place (past the end: a call that says nothing, at a place that no order has)
@@ -41,14 +40,10 @@ isSome (some σ) = true
 
 -- ---- a clause
 
--- v is a variable, and stands in one of these calls; a wildcard is no variable
-unfoldable pub standsIn : List Call → ℕ → Bool
-standsIn body v = ltb v variables && any (λ s. has (s .args) v) body
-
 -- W3: "each head variable that is in none of its subgoals is bound by that pattern": of the arguments of the head, each is bound from the start, as a
--- literal is, or stands in a subgoal
+-- literal is, or is a variable of a subgoal
 unfoldable pub brought : Clause → Bound → Bool
-brought c b = all (λ v. isBound b v || standsIn (c .body) v) (c .head .args)
+brought c b = all (λ v. isBound b v || any (λ s. hasVariable s v) (c .body)) (c .head .args)
 
 -- every argument of the head is bound when the clause has run in an order: no cell comes back empty
 abbrev pub filled : Clause → Bound → List ℕ → Bool

@@ -19,7 +19,7 @@ use Rattle.book.specs.Encode.{encode, WellFormed}
 use Rattle.book.specs.Table.{Table, entry}
 use Rattle.book.specs.declared.fault.Fault.{Fault}
 use Rattle.reading.specs.Judged.{checked}
-use Rattle.ordering.specs.Adorn.{nothing}
+use Rattle.ordering.specs.Adorn.{nothing, headBound}
 use Rattle.ordering.specs.Orders.{LexLt, Sorted}
 use Rattle.ordering.specs.Good.{firstGood, isSome}
 use Rattle.tables.specs.Table.{defined, table, settled, rounds, final}
@@ -38,6 +38,7 @@ use Rattle.book.proofs.Laws.Examples.{shortest-book}
 use Rattle.book.proofs.Laws.Longest.{longest-book, longest-well, longest-length}
 use Rattle.book.proofs.Laws.Trip.{judge-encode, judge-inv}
 use Rattle.reading.proofs.Laws.Judged.{check-zero}
+use Rattle.ordering.proofs.Laws.Brought.{brought-ran, head-length}
 use Rattle.ordering.proofs.Laws.Good.{good-clause-parts, good-clause-order, order-good-clause}
 use Rattle.tables.proofs.Laws.Own.{good-at, at-good}
 use Rattle.tables.proofs.Laws.Round.{step-admits, step-outside}
@@ -145,6 +146,7 @@ module _ (s : List ℕ) (B : Book) (valid : judge s ≡ book B) where
         ascending = rising;
         queryFirst = λ x. plan-query-first B well (ordered x);
         clauseFirst = λ x. plan-first B well (ordered x);
+        rule = λ c a σ. brought-ran c (headBound (c .head .args) a) σ (head-length (c .head .args) a);
         filled· = λ x. plan-filled B well (ordered x);
       }
 

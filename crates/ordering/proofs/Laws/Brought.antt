@@ -1,7 +1,7 @@
 -- What a clause gives back. An argument is bound when the subgoals have run exactly where it was bound from the start or is a variable of one of them; so
 -- W3's rule holds of a clause exactly where every argument of its head is bound when it has run: no cell comes back empty. Assumes nothing.
 use mathlib.Core.Path.{_≡_, refl, sym, ap, ap₂, _∙_}
-use mathlib.Core.Bool.{Bool, true, false, cond, _&&_, _||_, or-false, and-false}
+use mathlib.Core.Bool.{Bool, true, false, cond, _&&_, _||_, or-assoc, or-false, and-false}
 use mathlib.Core.List.{List, [], _∷_, map}
 use Prim.Native.Nat.{ℕ, zero, suc, _/_, _%_}
 use native.Mathlib.Omega.{arith}
@@ -13,10 +13,10 @@ use Rattle.masks.specs.Lists.{any, all, has, below}
 use Rattle.masks.specs.Mask.{within}
 use Rattle.masks.specs.Constraint.{admits}
 use Rattle.book.specs.Book.{Call, noCall, Clause}
-use Rattle.ordering.specs.Adorn.{variables, Bound, nothing, literal, isBound, patternOf, bindVar, bindAll, bindHead, headBound, ready, after}
+use Rattle.ordering.specs.Adorn.{variables, Bound, nothing, literal, isBound, patternOf, bindVar, bindAll, bindHead, headBound, hasVariable, ready, after}
 use Rattle.ordering.specs.Orders.{Rearranges, find, without, each, ordersOf, count, orders}
 use Rattle.ordering.specs.Turns as turns
-use Rattle.ordering.specs.Good.{at, afterAt, ran, standsIn, brought, filled, goodClause}
+use Rattle.ordering.specs.Good.{at, afterAt, ran, brought, filled, goodClause}
 use Rattle.masks.proofs.Laws.Logic.{byBool, or-left, or-right, or-case}
 use Rattle.masks.proofs.Laws.Lists.{all-mono}
 use Rattle.ordering.proofs.Laws.Orders.{standing, right-takes}
@@ -26,7 +26,7 @@ use Rattle.ordering.proofs.Laws.Adorn.{Le, bound-mono, after-swap}
 -- ---- document 02's words, by computing
 
 unfoldable pub computing : Unit {0}
-unfolding within admits nothing isBound patternOf bindVar bindAll bindHead headBound ready after find without each ordersOf count orders turns.goodFrom turns.firstGood at standsIn brought goodClause
+unfolding within admits nothing isBound patternOf bindVar bindAll bindHead headBound ready after find without each ordersOf count orders turns.goodFrom turns.firstGood at hasVariable brought goodClause
 computing = tt
 
 -- "The fact p(X) with no body gets mask 1."; p(X,X), where "a variable at two head positions is bound if either is", masks 1 2; a literal asks for nothing
@@ -97,16 +97,6 @@ var-at b u v n = go (eqb v literal) (ltb v variables) in-range
     go false true f = f refl
     go false false f = refl
 
--- one more, and the others
-join : (x t e r : Bool) → ((x || (t && e)) || (t && r)) ≡ (x || (t && (e || r)))
-join true t e r = refl
-join false true e r = refl
-join false false e r = refl
-
--- none
-none : (x t : Bool) → x ≡ (x || (t && false))
-none x t = sym (ap (λ (c : Bool). x || c) (and-false t) ∙ or-false x)
-
 all-length : (b : Bound) (l : List ℕ) → length (bindAll b l) ≡ length b
 unfolding bindAll
 all-length b [] = refl
@@ -114,20 +104,32 @@ all-length b (u ∷ l) = all-length (bindVar b u) l ∙ var-length b u
 
 all-at : (b : Bound) (l : List ℕ) (v : ℕ) → length b ≡ variables → isBound (bindAll b l) v ≡ (isBound b v || (ltb v variables && has l v))
 unfolding bindAll
-all-at b [] v n = none (isBound b v) (ltb v variables)
+all-at b [] v n = sym (ap (λ (c : Bool). isBound b v || c) (and-false (ltb v variables)) ∙ or-false (isBound b v))
 all-at b (u ∷ l) v n =
     all-at (bindVar b u) l v (var-length b u ∙ n)
     ∙ ap (λ (c : Bool). c || (ltb v variables && has l v)) (var-at b u v n) ∙ join (isBound b v) (ltb v variables) (eqb v u) (has l v)
+  where
+    join : (x t e r : Bool) → ((x || (t && e)) || (t && r)) ≡ (x || (t && (e || r)))
+    join true t e r = refl
+    join false true e r = refl
+    join false false e r = refl
+
+after-length : (b : Bound) (s : Call) → length (after b s) ≡ length b
+unfolding after
+after-length b s = all-length b (s .args)
+
+after-at : (b : Bound) (s : Call) (v : ℕ) → length b ≡ variables → isBound (after b s) v ≡ (isBound b v || hasVariable s v)
+unfolding after hasVariable
+after-at b s v n = all-at b (s .args) v n
 
 ran-at : (body : List Call) (b : Bound) (σ : List ℕ) (v : ℕ) → length b ≡ variables
-    → isBound (ran body b σ) v ≡ (isBound b v || (ltb v variables && any (λ p. has (at body p .args) v) σ))
-unfolding turns.allAfter after
-ran-at body b [] v n = none (isBound b v) (ltb v variables)
+    → isBound (ran body b σ) v ≡ (isBound b v || any (λ p. hasVariable (at body p) v) σ)
+unfolding turns.allAfter
+ran-at body b [] v n = sym (or-false (isBound b v))
 ran-at body b (p ∷ σ) v n =
-    let l = at body p .args in
-    ran-at body (afterAt body b p) σ v (all-length b l ∙ n)
-    ∙ ap (λ (c : Bool). c || (ltb v variables && any (λ q. has (at body q .args) v) σ)) (all-at b l v n)
-    ∙ join (isBound b v) (ltb v variables) (has l v) (any (λ q. has (at body q .args) v) σ)
+    let rest = any (λ q. hasVariable (at body q) v) σ in
+    ran-at body (afterAt body b p) σ v (after-length b (at body p) ∙ n)
+    ∙ ap (λ (c : Bool). c || rest) (after-at b (at body p) v n) ∙ or-assoc (isBound b v) (hasVariable (at body p) v) rest
 
 any-from : (f : ℕ → Bool) (i n : ℕ) → any f (count (suc i) n) ≡ any (λ p. f (suc p)) (count i n)
 unfolding count
@@ -147,13 +149,12 @@ bound-after body b σ τ r s =
 
 -- an argument is bound then exactly where it was or is a variable of one of them
 stands-ran : (body : List Call) (b : Bound) (σ : List ℕ) (v : ℕ) → length b ≡ variables → Rearranges (length body) σ
-    → (isBound b v || standsIn body v) ≡ isBound (ran body b σ) v
-unfolding standsIn
+    → (isBound b v || any (λ s. hasVariable s v) body) ≡ isBound (ran body b σ) v
 stands-ran body b σ v n r =
     sym
     (ap (λ (c : Bound). isBound c v) (bound-after body b σ (count 0 (length body)) r (standing (length body)))
     ∙ ran-at body b (count 0 (length body)) v n
-    ∙ ap (λ (c : Bool). isBound b v || (ltb v variables && c)) (any-place (λ s. has (s .args) v) body))
+    ∙ ap (λ (c : Bool). isBound b v || c) (any-place (λ s. hasVariable s v) body))
 
 -- ---- W3's rule
 
@@ -163,7 +164,7 @@ pub brought-ran : (c : Clause) (b : Bound) (σ : List ℕ) → length b ≡ vari
 unfolding brought
 brought-ran c b σ n r = go (c .head .args)
   where
-    go : (l : List ℕ) → all (λ v. isBound b v || standsIn (c .body) v) l ≡ all (isBound (ran (c .body) b σ)) l
+    go : (l : List ℕ) → all (λ v. isBound b v || any (λ s. hasVariable s v) (c .body)) l ≡ all (isBound (ran (c .body) b σ)) l
     go [] = refl
     go (v ∷ l) = ap₂ (λ (x y : Bool). x && y) (stands-ran (c .body) b σ v n r) (go l)
 
@@ -183,6 +184,9 @@ head-length args a = go args a nothing refl
 pub brought-mono : (c : Clause) (b b′ : Bound) → Le b b′ → brought c b ≡ true → brought c b′ ≡ true
 unfolding brought
 brought-mono c b b′ h t =
-    all-mono (λ v. isBound b v || standsIn (c .body) v) (λ v. isBound b′ v || standsIn (c .body) v)
-    (λ v e. or-case (isBound b v) (standsIn (c .body) v) e (λ i. or-left (isBound b′ v) (standsIn (c .body) v) (bound-mono b b′ v h i))
-    (λ i. or-right (isBound b′ v) i)) (c .head .args) t
+    all-mono (λ v. isBound b v || stands v) (λ v. isBound b′ v || stands v)
+    (λ v e. or-case (isBound b v) (stands v) e (λ i. or-left (isBound b′ v) (stands v) (bound-mono b b′ v h i)) (λ i. or-right (isBound b′ v) i))
+    (c .head .args) t
+  where
+    stands : ℕ → Bool
+    stands v = any (λ s. hasVariable s v) (c .body)
