@@ -36,7 +36,8 @@ pub struct Pass {
     pub moved: bool,
 }
 
-// The head patterns under which clause k is good, bit a for pattern a.
+// The head patterns under which clause k is good, bit a for pattern a: its subgoals have a good order, and every argument of its head is bound when they
+// have run. A variable of a subgoal is bound by then, so that asks for those in none.
 pub fn good_lanes<'a>(
     rules: &'a [u64; RULES_SIZE],
     k: usize,
