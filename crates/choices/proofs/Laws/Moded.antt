@@ -16,7 +16,7 @@ use Rattle.book.specs.Book.{Call, Clause, Book}
 use Rattle.book.specs.Encode.{WellFormed}
 use Rattle.book.specs.Table.{Table, entry}
 use Rattle.ordering.specs.Adorn.{Bound, nothing, headBound}
-use Rattle.ordering.specs.Orders.{Rearranges, count}
+use Rattle.ordering.specs.Orders.{Rearranges}
 use Rattle.ordering.specs.Good.{readyAt, afterAt, goodFrom, firstGood, isSome, brought}
 use Rattle.tables.specs.Table.{modeOf, firstNeed, start, defined, good, step, table, rounds, final}
 use Rattle.choices.specs.Choice.{clause, Choice, IsChoice, queryCalls, clauseCalls, Reaches, by-query, by-clause, asked, WellModed}

@@ -1,10 +1,9 @@
 -- `lanes::body_lanes` meets its contract. The loop's invariant: in each lane, so many passes from the start on are done; by the theorem of the passes,
 -- the last says where there is a good order. Assumes nothing.
-use mathlib.Core.Path.{_≡_}
 use mathlib.Core.Logic.{⊎-elim}
 use Prim.Native.Nat.{_-_, _<_}
 use native.Mathlib.Omega.{arith}
-use borrow.Author.Tests.{eqb-true, not-true, leb-true, leb-false}
+use borrow.Author.Tests.{not-true, leb-true, leb-false}
 use Rattle.book.specs.Limits.{maxPredicates, maxSubgoals}
 use Rattle.book.specs.Held.{clauseAt}
 use Rattle.book.specs.Table.{tableIn}

@@ -11,9 +11,9 @@ use Rattle.masks.specs.Lists.{any}
 use Rattle.masks.specs.Mask.{within}
 use Rattle.book.specs.Book.{Call, noCall, Clause}
 use Rattle.book.specs.Table.{Table}
-use Rattle.ordering.specs.Orders.{Rearranges, Least, count}
+use Rattle.ordering.specs.Orders.{Rearranges, Least}
 use Rattle.ordering.specs.Adorn.{Bound, headBound, ready, after}
-use Rattle.ordering.specs.Good.{at, readyAt, afterAt, goodFrom, ran, firstGood, isSome, brought, goodClause}
+use Rattle.ordering.specs.Good.{at, readyAt, afterAt, goodFrom, firstGood, isSome, brought, goodClause}
 use Rattle.ordering.specs.Held.{orNone}
 use Rattle.masks.proofs.Laws.Logic.{clash, false-of, and-intro, and-left, and-right}
 use Rattle.masks.proofs.Laws.Lists.{any-at}
