@@ -92,7 +92,7 @@ static void fill_head(input *s, size_t at, unsigned arity, unsigned stand)
 }
 
 // A book. Most are small and keep the limits; `over` lets the counts go one above them, and `clash` lets `MO` records fall and clauses be given to
-// predicates that have them. In half of them most clauses leave no cell empty, since few others can be ordered.
+// predicates that have them. In half of them most clauses leave no cell empty, so that more can be ordered.
 static void make_book(input *s, int over, int clash)
 {
     static const unsigned sizes[] = {1, 2, 3, 4, 6, 10, 20, 64};
