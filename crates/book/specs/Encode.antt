@@ -1,6 +1,6 @@
 -- The bytes of a book, and the books that have bytes. Every definition computes. Assumes nothing.
 use mathlib.Core.Path.{_≡_}
-use mathlib.Core.Bool.{Bool, true, not, _&&_}
+use mathlib.Core.Bool.{Bool, true, _&&_}
 use mathlib.Core.List.{List, [], _∷_, _++_}
 use Prim.Native.Nat.{ℕ, suc, _^_}
 use lib.Dec.{eqb, leb}
@@ -9,7 +9,7 @@ use Rattle.masks.specs.Limits.{maxArity, maxMasks}
 use Rattle.masks.specs.Lists.{all}
 use Rattle.book.specs.Limits.{maxPredicates, maxClauses, maxSubgoals}
 use Rattle.book.specs.Book.{Call, Mode, Clause, Book}
-use Rattle.book.specs.Format.{spelling, allows, hasMode}
+use Rattle.book.specs.Format.{spelling, allows}
 use Rattle.book.specs.declared.mark.Mark.the-variants.{Pr, Mo, Cl, Sg, Qu}
 use Rattle.book.specs.declared.range.Range.{Range}
 use Rattle.book.specs.declared.range.Range.the-variants.{Below, AtMost, Argument, NoWildcard}
@@ -80,11 +80,9 @@ abbrev pub rises : ℕ → List Mode → Bool
 rises b [] = true
 rises b (m ∷ ms) = leb b (m .pred) && rises (suc (m .pred)) ms
 
--- a head for a predicate that has no MO, and at most 8 subgoals
-abbrev pub clauseFits : List ℕ → List Mode → Clause → Bool
-clauseFits ar ms c =
-    callFits NoWildcard ar (c .head)
-    && (not (hasMode ms (c .head .pred)) && (leb (length (c .body)) maxSubgoals && all (callFits Argument ar) (c .body)))
+-- a head, and at most 8 subgoals
+abbrev pub clauseFits : List ℕ → Clause → Bool
+clauseFits ar c = callFits NoWildcard ar (c .head) && (leb (length (c .body)) maxSubgoals && all (callFits Argument ar) (c .body))
 
 pub record WellFormed (b : Book) : Type 0 where
   pub fewPredicates : leb (length (b .arities)) maxPredicates ≡ true
@@ -92,6 +90,6 @@ pub record WellFormed (b : Book) : Type 0 where
   pub modesFit : all (modeFits (b .arities)) (b .modes) ≡ true
   pub modesRise : rises 0 (b .modes) ≡ true
   pub fewClauses : leb (length (b .clauses)) maxClauses ≡ true
-  pub clausesFit : all (clauseFits (b .arities) (b .modes)) (b .clauses) ≡ true
+  pub clausesFit : all (clauseFits (b .arities)) (b .clauses) ≡ true
   pub fewAsked : leb (length (b .query)) maxSubgoals ≡ true
   pub queryFits : all (callFits Argument (b .arities)) (b .query) ≡ true

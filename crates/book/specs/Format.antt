@@ -1,6 +1,6 @@
--- Every string of bytes judged from the left: document 01, "What a rule book says" and "Replies", with the places of document 02's W2. It is recursion on
--- the bytes that are left, so that a place is said by how many bytes are left from it on; `judge` turns that into an offset, once. Every definition
--- computes. Assumes nothing.
+-- Every string of bytes judged from the left: document 01, "What a rule book says" and "Replies", with the places of document 02's W2 and without the second
+-- ground for 6, which W6 takes away. It is recursion on the bytes that are left, so that a place is said by how many bytes are left from it on; `judge`
+-- turns that into an offset, once. Every definition computes. Assumes nothing.
 use mathlib.Core.Path.{_≡_}
 use mathlib.Core.Bool.{Bool, cond, _&&_, _||_, false}
 use mathlib.Core.List.{List, [], _∷_, _++_}
@@ -8,7 +8,6 @@ use Prim.Native.Nat.{ℕ, zero, suc, _-_, _^_, _≤_, _<_}
 use lib.Dec.{eqb, ltb, leb}
 use lib.ListN.{length, getD, drop}
 use Rattle.masks.specs.Limits.{maxArity, maxMasks}
-use Rattle.masks.specs.Lists.{any}
 use Rattle.book.specs.Limits.{maxPredicates, maxClauses, maxSubgoals}
 use Rattle.book.specs.Book.{Call, Mode, Clause, Book}
 use Rattle.book.specs.declared.fault.Fault.{Fault}
@@ -198,19 +197,10 @@ call r ar s =
 unfoldable pub subgoal : List ℕ → List Call → List ℕ → Got Call
 subgoal ar acc s = call Argument ar (drop 2 s)
 
-unfoldable pub hasMode : List Mode → ℕ → Bool
-hasMode ms p = any (λ (m : Mode). eqb (m .pred) p) ms
-
--- "6: CL for a predicate that has MO", tried last
-unfoldable pub headFields : List ℕ → List Mode → List ℕ → Got Call
-headFields ar ms s =
-    andThen (call NoWildcard ar s) (λ h t.
-    cond (hasMode ms (h .pred)) (wrong Clash s) (got h t))
-
--- "CL: a clause head", and the subgoals of the clause
-unfoldable pub clause : List ℕ → List Mode → List Clause → List ℕ → Got Clause
-clause ar ms acc s =
-    andThen (headFields ar ms (drop 2 s)) (λ h t.
+-- "CL: a clause head", and the subgoals of the clause. W6: "A predicate may have both MO and clauses", so nothing else is asked of its predicate
+unfoldable pub clause : List ℕ → List Clause → List ℕ → Got Clause
+clause ar acc s =
+    andThen (call NoWildcard ar (drop 2 s)) (λ h t.
     andThen (many Body (subgoal ar) maxSubgoals [] t) (λ body u.
     got (record { head = h; body = body }) u))
 
@@ -225,7 +215,7 @@ query ar s = many Query (subgoal ar) maxSubgoals [] (drop 2 s)
 unfoldable pub rules : List ℕ → List ℕ → Got Book
 rules ar s =
     andThen (many Modes (mode ar) (suc maxPredicates) [] s) (λ ms t.
-    andThen (many Clauses (clause ar ms) maxClauses [] t) (λ cs u.
+    andThen (many Clauses (clause ar) maxClauses [] t) (λ cs u.
     andThen (query ar u) (λ q v.
     got (record { arities = ar; modes = ms; clauses = cs; query = q }) v)))
 

@@ -6,7 +6,7 @@ use Prim.Native.Nat.{ℕ, zero, suc, _+_, _*_, _/_, _%_, _^_, min, _<_}
 use lib.Dec.{eqb}
 use lib.ListN.{getD, take, drop}
 use Rattle.masks.specs.Limits.{maxArity}
-use Rattle.masks.specs.Lists.{values}
+use Rattle.masks.specs.Lists.{any, values}
 use Rattle.masks.specs.Set.{bitAt}
 use Rattle.book.specs.Limits.{maxPredicates, maxClauses, maxSubgoals}
 use Rattle.book.specs.Book.{Call, Mode, Clause, Book}
@@ -71,6 +71,10 @@ masksIn b = take (getD b 1 0) (drop 2 b)
 
 abbrev pub modeBytes : List ℕ → ℕ → List ℕ
 modeBytes modes p = window (p * modeSize) modeSize modes
+
+-- p has MO, among modes
+unfoldable pub hasMode : List Mode → ℕ → Bool
+hasMode ms p = any (λ (m : Mode). eqb (m .pred) p) ms
 
 -- a set of predicates: those that have MO
 abbrev pub HaveMode : List ℕ → ℕ → Type 0

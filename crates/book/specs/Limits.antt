@@ -11,9 +11,9 @@ maxClauses = 64
 abbrev pub maxSubgoals : ℕ
 maxSubgoals = 8
 
--- "The longest book is therefore 6,962 bytes .., the shortest 2"
+-- W6: "The longest book grows to 6,986 bytes"; document 01: "the shortest 2"
 abbrev pub longest : ℕ
-longest = 6962
+longest = 6986
 
 abbrev pub shortest : ℕ
 shortest = 2

@@ -32,7 +32,7 @@ pub const CLAUSE_SIZE: usize = 10;
 pub const RULES_SIZE: usize = 650;
 
 // The longest book, plan, image of a table and printed sheet.
-pub const LONGEST: usize = 6962;
+pub const LONGEST: usize = 6986;
 
 pub const LONGEST_PLAN: usize = 53259;
 

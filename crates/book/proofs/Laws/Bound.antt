@@ -1,25 +1,24 @@
--- No valid book is longer than 6,962 bytes, and none is shorter than 2. A record has a greatest length, and a predicate that owns a clause has no
--- MO, so where there are clauses there is one MO less. Assumes nothing.
+-- No valid book is longer than 6,986 bytes, and none is shorter than 2: a record has a greatest length, and there are no more MO than predicates. Assumes
+-- nothing.
 use mathlib.Core.Path.{_≡_, refl, ap}
-use mathlib.Core.Bool.{Bool, true, false, _||_}
+use mathlib.Core.Bool.{Bool, true}
 use mathlib.Core.List.{List, [], _∷_, _++_}
 use Prim.Native.Nat.{ℕ, zero, suc, _+_, _*_, _≤_, _<_}
 use native.Mathlib.Omega.{arith}
 use native.Mathlib.Nat.{mul-suc}
-use lib.Dec.{eqb, ltb, leb}
 use lib.ListN.{length, getD, take, length-append}
 use lib.Seq.{length-take-le}
-use borrow.Author.Tests.{leb-true, ltb-true, ltb-false, eqb-false}
+use borrow.Author.Tests.{leb-true}
 use Rattle.masks.specs.Limits.{maxArity, maxMasks}
 use Rattle.masks.specs.Lists.{all}
-use Rattle.masks.proofs.Laws.Logic.{byBool, false-of, clash, and-left, and-right, or-left, or-right}
+use Rattle.masks.proofs.Laws.Logic.{and-left, and-right}
 use Rattle.book.specs.Limits.{longest, shortest, maxPredicates, maxClauses, maxSubgoals}
 use Rattle.book.specs.Book.{Call, Mode, Clause, Book}
-use Rattle.book.specs.Format.{allows, hasMode, Judged, fault, book, judge}
-use Rattle.book.specs.Encode.{run, encPredicate, encMode, encSubgoal, encClause, encode, callFits, modeFits, rises, clauseFits, WellFormed}
+use Rattle.book.specs.Format.{allows, Judged, fault, book, judge}
+use Rattle.book.specs.Encode.{run, encPredicate, encMode, encSubgoal, encClause, encode, callFits, modeFits, clauseFits, WellFormed}
 use Rattle.book.specs.declared.fault.Fault.{Fault}
 use Rattle.book.specs.declared.range.Range.the-variants.{AtMost, Argument, NoWildcard}
-use Rattle.book.proofs.Laws.Trip.{call-known, call-size, mode-known, mode-few, clause-head, clause-free, clause-few, clause-goals, rising, judge-inv}
+use Rattle.book.proofs.Laws.Trip.{call-size, mode-few, clause-head, clause-few, clause-goals, rising, judge-inv}
 
 -- ---- the length of records
 
@@ -44,55 +43,18 @@ module _ (ar : List ℕ) (arity : (i : ℕ) → getD ar i 0 ≤ maxArity) where
   subgoal-length : (c : Call) → callFits Argument ar c ≡ true → length (encSubgoal c) ≤ 9
   subgoal-length c t = let a = call-size Argument ar c t in let b = arity (c .pred) in omega arith
 
-  clause-length : (ms : List Mode) (c : Clause) → clauseFits ar ms c ≡ true → length (encClause c) ≤ 81
-  clause-length ms c t =
-      let a = call-size NoWildcard ar (c .head) (clause-head ar ms c t) in
+  clause-length : (c : Clause) → clauseFits ar c ≡ true → length (encClause c) ≤ 81
+  clause-length c t =
+      let a = call-size NoWildcard ar (c .head) (clause-head ar c t) in
       let b = arity (c .head .pred) in
-      let d = run-length (callFits Argument ar) encSubgoal 9 subgoal-length (c .body) (clause-goals ar ms c t) in
-      let e = clause-few ar ms c t in
+      let d = run-length (callFits Argument ar) encSubgoal 9 subgoal-length (c .body) (clause-goals ar c t) in
+      let e = clause-few ar c t in
       let f = length-append (c .head .args) (run encSubgoal (c .body)) in
       omega arith
 
 mode-length : (ar : List ℕ) (m : Mode) → modeFits ar m ≡ true → length (encMode m) ≤ 24
 unfolding allows
 mode-length ar m t = let a : length (m .masks) ≤ maxMasks = leb-true _ _ (mode-few ar m t) in omega arith
-
--- ---- a predicate without MO leaves room for one MO less
-
-less-or-more : {P : Type 0} (m p : ℕ) → eqb m p ≡ false → (m < p → P) → (p < m → P) → P
-less-or-more m p e f g =
-    let d = eqb-false m p e in
-    byBool (ltb m p) (λ t. f (ltb-true m p t)) (λ t. let l = ltb-false m p t in g (omega arith))
-
-or-false-left : (a b : Bool) → (a || b) ≡ false → a ≡ false
-or-false-left a b e = false-of (λ t. clash (or-left a b t) e)
-
-or-false-right : (a b : Bool) → (a || b) ≡ false → b ≡ false
-or-false-right a b e = false-of (λ t. clash (or-right a t) e)
-
-missing : (ar : List ℕ) (b : ℕ) (ms : List Mode) (p : ℕ) → b ≤ p → p < length ar → hasMode ms p ≡ false → all (modeFits ar) ms ≡ true → rises b ms ≡ true
-    → b + length ms < length ar
-unfolding hasMode allows
-missing ar b [] p l h f t u = omega arith
-missing ar b (m ∷ ms) p l h f t u =
-    let k : m .pred < length ar = ltb-true _ _ (mode-known ar m (and-left (modeFits ar m) (all (modeFits ar) ms) t)) in
-    let j : b ≤ m .pred = leb-true _ _ (and-left (leb b (m .pred)) (rises (suc (m .pred)) ms) u) in
-    let fits = and-right (modeFits ar m) (all (modeFits ar) ms) t in
-    let rest = and-right (leb b (m .pred)) (rises (suc (m .pred)) ms) u in
-    less-or-more (m .pred) p (or-false-left (eqb (m .pred) p) (hasMode ms p) f)
-    (λ q. let r = missing ar (suc (m .pred)) ms p q h (or-false-right (eqb (m .pred) p) (hasMode ms p) f) fits rest in omega arith)
-    (λ q. let r = rising ar (suc (m .pred)) ms k fits rest in omega arith)
-
--- the modes and clauses together
-modes-clauses : (ar : List ℕ) (ms : List Mode) (cs : List Clause) → length ar ≤ maxPredicates → length cs ≤ maxClauses → all (modeFits ar) ms ≡ true → rises 0 ms ≡ true
-    → all (clauseFits ar ms) cs ≡ true → 24 * length ms + 81 * length cs ≤ 6696
-unfolding allows
-modes-clauses ar ms [] h g t u v = let r = rising ar 0 ms (omega arith) t u in omega arith
-modes-clauses ar ms (c ∷ cs) h g t u v =
-    let fits = and-left (clauseFits ar ms c) (all (clauseFits ar ms) cs) v in
-    let known : c .head .pred < length ar = ltb-true _ _ (call-known NoWildcard ar (c .head) (clause-head ar ms c fits)) in
-    let r = missing ar 0 ms (c .head .pred) (omega arith) known (clause-free ar ms c fits) t u in
-    omega arith
 
 -- ---- the book
 
@@ -105,17 +67,18 @@ encode-length b w =
     let low = arities-at ar (w .aritiesFit) in
     let p = run-length (allows (AtMost maxArity)) encPredicate 3 (λ a t. omega arith) ar (w .aritiesFit) in
     let m = run-length (modeFits ar) encMode 24 (mode-length ar) ms (w .modesFit) in
-    let c = run-length (clauseFits ar ms) encClause 81 (clause-length ar low ms) cs (w .clausesFit) in
+    let c = run-length (clauseFits ar) encClause 81 (clause-length ar low) cs (w .clausesFit) in
     let q = run-length (callFits Argument ar) encSubgoal 9 (subgoal-length ar low) (b .query) (w .queryFits) in
     let few : length ar ≤ maxPredicates = leb-true _ _ (w .fewPredicates) in
-    let z = modes-clauses ar ms cs few (leb-true _ _ (w .fewClauses)) (w .modesFit) (w .modesRise) (w .clausesFit) in
+    let r = rising ar 0 ms (omega arith) (w .modesFit) (w .modesRise) in
+    let owned : length cs ≤ maxClauses = leb-true _ _ (w .fewClauses) in
     let asked : length (b .query) ≤ maxSubgoals = leb-true _ _ (w .fewAsked) in
     let e1 = length-append (run encPredicate ar) (run encMode ms ++ (run encClause cs ++ (81 ∷ 85 ∷ run encSubgoal (b .query)))) in
     let e2 = length-append (run encMode ms) (run encClause cs ++ (81 ∷ 85 ∷ run encSubgoal (b .query))) in
     let e3 = length-append (run encClause cs) (81 ∷ 85 ∷ run encSubgoal (b .query)) in
     (omega arith, omega arith)
 
--- "The longest book is therefore 6,962 bytes .., the shortest 2"
+-- W6: "The longest book grows to 6,986 bytes"; document 01: "the shortest 2"
 pub judge-length : (s : List ℕ) (b : Book) → judge s ≡ book b → (shortest ≤ length s) × (length s ≤ longest)
 judge-length s b e =
     let w = judge-inv s b e in
@@ -123,7 +86,7 @@ judge-length s b e =
     let z = ap length (w .0) in
     (omega arith, omega arith)
 
--- "Above 6,962 bytes it judges the first 6,963, which always hold a fault"
+-- "which always hold a fault": above 6,986 bytes, and of them the first 6,987
 pub long-faulty : (s : List ℕ) → longest < length s → (f : Fault) × (k : ℕ) × (judge s ≡ fault f k)
 long-faulty s h = go (judge s) refl
   where

@@ -4,12 +4,12 @@ use mathlib.Core.List.{List, [], _∷_, _++_, map}
 use Prim.Native.Nat.{ℕ}
 use lib.ListN.{replicate}
 use Rattle.book.specs.Book.{Book}
-use Rattle.book.specs.Format.{markAt, allows, bytes, many, lowFrom, hasMode, predicate, masks, modeFields, mode, call, subgoal, headFields, clause, query, rules, readBook, fault, book, judge}
+use Rattle.book.specs.Format.{markAt, allows, bytes, many, lowFrom, predicate, masks, modeFields, mode, call, subgoal, clause, query, rules, readBook, fault, book, judge}
 use Rattle.book.specs.Encode.{PR, MO, CL, SG, QU, run, encode}
 use Rattle.book.specs.declared.fault.Fault.the-variants.{PastEnd, NoMark, OutOfTurn, OutOfRange, TooMany, Clash}
 
 unfoldable pub compute : Unit {0}
-unfolding markAt allows bytes many lowFrom hasMode predicate masks modeFields mode call subgoal headFields clause query rules readBook judge encode
+unfolding markAt allows bytes many lowFrom predicate masks modeFields mode call subgoal clause query rules readBook judge encode
 compute = tt
 
 -- "Clause: fault(H) :- low(V), volts(H,V). Query: fault(H), head(H)."
@@ -92,7 +92,18 @@ out-of-range : map judge (
 unfolding compute
 out-of-range = refl
 
--- "the predicate byte for 6": MO not rising, CL for a predicate that has MO
-clash : map judge (two (MO (1 ∷ 0 ∷ []) ++ MO (1 ∷ 1 ∷ 0 ∷ [])) ∷ two (MO (1 ∷ 0 ∷ []) ++ CL (1 ∷ 0 ∷ 0 ∷ [])) ∷ []) ≡ fault Clash 12 ∷ fault Clash 12 ∷ []
+-- "the predicate byte for 6": MO not rising, the same twice and a lower one
+clash : map judge (two (MO (1 ∷ 0 ∷ []) ++ MO (1 ∷ 1 ∷ 0 ∷ [])) ∷ two (MO (1 ∷ 0 ∷ []) ++ MO (0 ∷ 0 ∷ [])) ∷ []) ≡ fault Clash 12 ∷ fault Clash 12 ∷ []
 unfolding compute
 clash = refl
+
+-- W6: "the second ground for 6 is gone": MO and a clause for one predicate are a book
+both : judge (two (MO (0 ∷ 1 ∷ 1 ∷ []) ++ CL (0 ∷ 0 ∷ []) ++ QU))
+    ≡ book (record {
+      arities = 1 ∷ 2 ∷ [];
+      modes = record { pred = 0; masks = 1 ∷ [] } ∷ [];
+      clauses = record { head = record { pred = 0; args = 0 ∷ [] }; body = [] } ∷ [];
+      query = [];
+    })
+unfolding compute
+both = refl

@@ -53,11 +53,6 @@ pub test-inv : {A : Type 0} (b : Bool) (a : A) (r : List ℕ) (f : Fault) (k : �
 test-inv true a r f k e = (refl, e)
 test-inv false a r f k e = bad-got e
 
-pub untest-inv : {A : Type 0} (b : Bool) (a : A) (r : List ℕ) (f : Fault) (k : ℕ) {x : A} {s : List ℕ} → cond b (bad f k) (got a r) ≡ got x s
-    → (b ≡ false) × (got a r ≡ got x s)
-untest-inv true a r f k e = bad-got e
-untest-inv false a r f k e = (refl, e)
-
 -- ---- bytes
 
 pub byte-inv : (r : Range) (s : List ℕ) {x : ℕ} {t : List ℕ} → byte r s ≡ got x t → (s ≡ x ∷ t) × (allows r x ≡ true)

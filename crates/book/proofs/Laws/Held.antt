@@ -19,8 +19,7 @@ use Rattle.masks.proofs.Laws.Logic.{byBool, same, and-intro, and-left, and-righ
 use Rattle.masks.proofs.Laws.Lists.{take-front, length-values, values-cong, getD-values, joined-cong, joined-cut, any-joined, joined-any}
 use Rattle.book.specs.Limits.{maxPredicates, maxClauses, maxSubgoals}
 use Rattle.book.specs.Book.{Call, Mode, Clause}
-use Rattle.book.specs.Format.{hasMode}
-use Rattle.book.specs.Held.{window, countIn, byteOf, callIn, clauseSize, rulesSize, clauseAt, clausesOf, StoredClause, modeSize, hasIn, masksIn, modeBytes, HaveMode, modeAt, modesOf, StoredMode}
+use Rattle.book.specs.Held.{window, countIn, byteOf, callIn, clauseSize, rulesSize, clauseAt, clausesOf, StoredClause, modeSize, hasIn, masksIn, modeBytes, hasMode, HaveMode, modeAt, modesOf, StoredMode}
 use Rattle.book.proofs.Laws.Windows.{drop-window, getD-window, getD-window-first, window-others, drop-longer, Stored, stored-sets}
 
 -- ---- a clause

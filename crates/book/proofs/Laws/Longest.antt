@@ -1,15 +1,15 @@
--- A book that attains the bound, by computing: "63 full MO and one predicate that owns all the clauses". Assumes nothing.
+-- A book that attains the bound, by computing: 64 full MO and 64 full clauses. Assumes nothing.
 use mathlib.Core.Path.{_≡_, refl}
 use lib.ListN.{length, replicate}
 use Rattle.masks.specs.Limits.{maxArity, maxMasks}
 use Rattle.masks.specs.Lists.{values}
 use Rattle.book.specs.Limits.{maxPredicates, maxClauses, maxSubgoals, longest}
 use Rattle.book.specs.Book.{Call, Book}
-use Rattle.book.specs.Format.{allows, hasMode}
+use Rattle.book.specs.Format.{allows}
 use Rattle.book.specs.Encode.{encode, WellFormed}
 
 compute : Unit {0}
-unfolding allows hasMode encode
+unfolding allows encode
 compute = tt
 
 -- a call of the last predicate, of six positions
@@ -20,7 +20,7 @@ abbrev pub longest-book : Book
 longest-book =
     record {
       arities = replicate maxPredicates maxArity;
-      modes = values (λ p. record { pred = p; masks = replicate maxMasks 0 }) 63;
+      modes = values (λ p. record { pred = p; masks = replicate maxMasks 0 }) maxPredicates;
       clauses = replicate maxClauses (record { head = full; body = replicate maxSubgoals full });
       query = replicate maxSubgoals full;
     }

@@ -10,7 +10,7 @@ use lib.ListN.{length, getD, drop}
 use Rattle.masks.specs.Limits.{maxMasks}
 use Rattle.book.specs.Limits.{maxPredicates, maxClauses, maxSubgoals}
 use Rattle.book.specs.Book.{Call, Mode, Clause, Book}
-use Rattle.book.specs.Format.{Stands, allows, Got, bad, got, andThen, wrong, byte, bytes, onTurn, many, turn, markAt, hasMode, predicate, masks, modeFields, mode, low, call, subgoal, headFields, clause, query, rules, readBook, Judged, fault, book, judged, judge}
+use Rattle.book.specs.Format.{Stands, allows, Got, bad, got, andThen, wrong, byte, bytes, onTurn, many, turn, markAt, predicate, masks, modeFields, mode, low, call, subgoal, clause, query, rules, readBook, Judged, fault, book, judged, judge}
 use Rattle.book.specs.declared.fault.Fault.{Fault}
 use Rattle.book.specs.declared.fault.Fault.the-variants.{PastEnd, NoMark, OutOfTurn, OutOfRange, TooMany, Clash}
 use Rattle.book.specs.declared.mark.Phase.{Phase}
@@ -122,16 +122,10 @@ mode-standing : (ar : List ℕ) (acc : List Mode) (s : List ℕ) → Standing (m
 unfolding mode
 mode-standing ar acc s = fields-standing ar (low acc) (drop 2 s)
 
-head-standing : (ar : List ℕ) (ms : List Mode) (s : List ℕ) → Standing (headFields ar ms s)
-unfolding headFields call
-head-standing ar ms [] = past-end
-head-standing ar ms (x ∷ s) =
-    then-standing (call NoWildcard ar (x ∷ s)) _ (call-standing NoWildcard ar (x ∷ s)) (λ h t. test-standing (hasMode ms (h .pred)) (at-byte Clash x s) read)
-
-clause-standing : (ar : List ℕ) (ms : List Mode) (acc : List Clause) (s : List ℕ) → Standing (clause ar ms acc s)
+clause-standing : (ar : List ℕ) (acc : List Clause) (s : List ℕ) → Standing (clause ar acc s)
 unfolding clause
-clause-standing ar ms acc s =
-    then-standing (headFields ar ms (drop 2 s)) _ (head-standing ar ms (drop 2 s))
+clause-standing ar acc s =
+    then-standing (call NoWildcard ar (drop 2 s)) _ (call-standing NoWildcard ar (drop 2 s))
     (λ h t. then-standing (many Body (subgoal ar) maxSubgoals [] t) _ (many-standing Body (subgoal ar) (subgoal-standing ar) maxSubgoals [] t) (λ body u. read))
 
 query-standing : (ar s : List ℕ) → Standing (query ar s)
@@ -145,7 +139,7 @@ unfolding rules
 rules-standing ar s =
     then-standing (many Modes (mode ar) (suc maxPredicates) [] s) _ (many-standing Modes (mode ar) (mode-standing ar) (suc maxPredicates) [] s)
     (λ ms t.
-    then-standing (many Clauses (clause ar ms) maxClauses [] t) _ (many-standing Clauses (clause ar ms) (clause-standing ar ms) maxClauses [] t)
+    then-standing (many Clauses (clause ar) maxClauses [] t) _ (many-standing Clauses (clause ar) (clause-standing ar) maxClauses [] t)
     (λ cs u. then-standing (query ar u) _ (query-standing ar u) (λ q v. read)))
 
 book-standing : (s : List ℕ) → Standing (readBook s)

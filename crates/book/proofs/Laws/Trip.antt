@@ -2,7 +2,7 @@
 -- formed: record by record, both ways, by the laws of reading. Assumes nothing.
 use mathlib.Core.Path.{_≡_, refl, sym, ap, _∙_}
 use mathlib.Core.Logic.{⊎-elim}
-use mathlib.Core.Bool.{Bool, true, false, not, cond, _&&_}
+use mathlib.Core.Bool.{Bool, true, cond, _&&_}
 use mathlib.Core.List.{List, [], _∷_, _++_, append-assoc, append-nil}
 use Prim.Native.Nat.{ℕ, suc, _+_, _^_, _≤_, _<_}
 use native.Mathlib.Omega.{arith}
@@ -11,10 +11,10 @@ use lib.ListN.{length, getD, drop}
 use borrow.Author.Tests.{eqb-true, eq-eqb, leb-true, le-leb, ltb-true}
 use Rattle.masks.specs.Limits.{maxArity, maxMasks}
 use Rattle.masks.specs.Lists.{all}
-use Rattle.masks.proofs.Laws.Logic.{byBool, and-intro, and-left, and-right, not-elim}
+use Rattle.masks.proofs.Laws.Logic.{and-intro, and-left, and-right}
 use Rattle.book.specs.Limits.{maxPredicates, maxClauses, maxSubgoals}
 use Rattle.book.specs.Book.{Call, noClause, Mode, Clause, Book}
-use Rattle.book.specs.Format.{Got, bad, got, andThen, wrong, byte, bytes, many, turn, markAt, allows, lowFrom, low, hasMode, spelling, call, predicate, masks, modeFields, mode, subgoal, headFields, clause, query, rules, readBook, book, judged, judge}
+use Rattle.book.specs.Format.{Got, bad, got, andThen, wrong, byte, bytes, many, turn, markAt, allows, lowFrom, low, spelling, call, predicate, masks, modeFields, mode, subgoal, clause, query, rules, readBook, book, judged, judge}
 use Rattle.book.specs.Encode.{run, encPredicate, encMode, encCall, encSubgoal, encClause, encode, callFits, modeFits, rises, clauseFits, WellFormed}
 use Rattle.book.specs.declared.fault.Fault.the-variants.{Clash}
 use Rattle.book.specs.declared.mark.Mark.the-variants.{Pr, Mo, Cl, Sg, Qu}
@@ -23,7 +23,7 @@ use Rattle.book.specs.declared.mark.Turn.the-variants.{Mine, Over}
 use Rattle.book.specs.declared.range.Range.{Range}
 use Rattle.book.specs.declared.range.Range.the-variants.{Below, AtMost, Argument, NoWildcard}
 use Rattle.book.proofs.Laws.Marks.{sole-predicates, sole-modes, sole-clauses, sole-body, sole-query, own-leads, sole-starts, clauses-over-starts, query-over-ends, clause-ends, clauses-end}
-use Rattle.book.proofs.Laws.Got.{then-inv, then-got, test-inv, untest-inv, carry, byte-inv, byte-got, bytes-got, bytes-inv, Each, Follows, each-all, all-each, many-got, many-inv}
+use Rattle.book.proofs.Laws.Got.{then-inv, then-got, test-inv, carry, byte-inv, byte-got, bytes-got, bytes-inv, Each, Follows, each-all, all-each, many-got, many-inv}
 
 -- ---- computed: "all PR, then all MO, then clauses, then one QU", of a book with one of each
 
@@ -165,67 +165,51 @@ mode-inv ar acc s m r t e =
 
 -- ---- a clause
 
-abbrev pub ClauseFits : List ℕ → List Mode → List Clause → Clause → Type 0
-ClauseFits ar ms acc c = clauseFits ar ms c ≡ true
+abbrev pub ClauseFits : List ℕ → List Clause → Clause → Type 0
+ClauseFits ar acc c = clauseFits ar c ≡ true
 
-module _ (ar : List ℕ) (ms : List Mode) (c : Clause) (t : clauseFits ar ms c ≡ true) where
+module _ (ar : List ℕ) (c : Clause) (t : clauseFits ar c ≡ true) where
   abbrev goals : Bool
   goals = leb (length (c .body)) maxSubgoals && all (callFits Argument ar) (c .body)
 
-  rest : (not (hasMode ms (c .head .pred)) && goals) ≡ true
-  rest = and-right (callFits NoWildcard ar (c .head)) (not (hasMode ms (c .head .pred)) && goals) t
+  rest : goals ≡ true
+  rest = and-right (callFits NoWildcard ar (c .head)) goals t
 
   pub clause-head : callFits NoWildcard ar (c .head) ≡ true
-  clause-head = and-left (callFits NoWildcard ar (c .head)) (not (hasMode ms (c .head .pred)) && goals) t
-
-  pub clause-free : hasMode ms (c .head .pred) ≡ false
-  clause-free =
-      byBool (hasMode ms (c .head .pred)) (not-elim (hasMode ms (c .head .pred)) (and-left (not (hasMode ms (c .head .pred))) goals rest)) (λ f. f)
+  clause-head = and-left (callFits NoWildcard ar (c .head)) goals t
 
   pub clause-few : length (c .body) ≤ maxSubgoals
-  clause-few = leb-true _ _ (and-left (leb (length (c .body)) maxSubgoals) (all (callFits Argument ar) (c .body)) (and-right (not (hasMode ms (c .head .pred))) goals rest))
+  clause-few = leb-true _ _ (and-left (leb (length (c .body)) maxSubgoals) (all (callFits Argument ar) (c .body)) rest)
 
   pub clause-goals : all (callFits Argument ar) (c .body) ≡ true
-  clause-goals = and-right (leb (length (c .body)) maxSubgoals) (all (callFits Argument ar) (c .body)) (and-right (not (hasMode ms (c .head .pred))) goals rest)
+  clause-goals = and-right (leb (length (c .body)) maxSubgoals) (all (callFits Argument ar) (c .body)) rest
 
-clause-got : (ar : List ℕ) (ms : List Mode) (acc : List Clause) (c : Clause) (r : List ℕ) → ClauseFits ar ms acc c → turn Body (markAt r) ≡ Over → clause ar ms acc (encClause c ++ r) ≡ got c r
-unfolding clause headFields
-clause-got ar ms acc c r h o =
+clause-got : (ar : List ℕ) (acc : List Clause) (c : Clause) (r : List ℕ) → ClauseFits ar acc c → turn Body (markAt r) ≡ Over → clause ar acc (encClause c ++ r) ≡ got c r
+unfolding clause
+clause-got ar acc c r h o =
     let rest· = run encSubgoal (c .body) ++ r in
-    let head· : headFields ar ms (encCall (c .head) ++ rest·) ≡ got (c .head) rest· =
-    rw (call-got NoWildcard ar (c .head) rest· (clause-head ar ms c h), clause-free ar ms c h) in
-    let bytes· : headFields ar ms ((encCall (c .head) ++ run encSubgoal (c .body)) ++ r) ≡ got (c .head) rest· =
-    ap (headFields ar ms) (append-assoc (encCall (c .head)) (run encSubgoal (c .body)) r) ∙ head· in
+    let bytes· : call NoWildcard ar ((encCall (c .head) ++ run encSubgoal (c .body)) ++ r) ≡ got (c .head) rest· =
+    ap (call NoWildcard ar) (append-assoc (encCall (c .head)) (run encSubgoal (c .body)) r) ∙ call-got NoWildcard ar (c .head) rest· (clause-head ar c h) in
     then-got _ bytes·
     ∙ then-got _ (many-got Body (subgoal ar) (SubgoalFits ar) encSubgoal (λ s q. own-leads Body (encCall s ++ q) Sg refl) (λ b s q k f. subgoal-got ar b s q k) maxSubgoals [] (c .body) r
-    (clause-few ar ms c h) (all-each (callFits Argument ar) [] (c .body) (clause-goals ar ms c h)) o)
+    (clause-few ar c h) (all-each (callFits Argument ar) [] (c .body) (clause-goals ar c h)) o)
 
-clause-reads : (ar : List ℕ) (ms : List Mode) (acc : List Clause) (c : Clause) (r : List ℕ) → ClauseFits ar ms acc c → Follows Clauses r → clause ar ms acc (encClause c ++ r) ≡ got c r
-clause-reads ar ms acc c r h f = clause-got ar ms acc c r h (⊎-elim (clause-ends (markAt r)) (clauses-end (markAt r)) f)
+clause-reads : (ar : List ℕ) (acc : List Clause) (c : Clause) (r : List ℕ) → ClauseFits ar acc c → Follows Clauses r → clause ar acc (encClause c ++ r) ≡ got c r
+clause-reads ar acc c r h f = clause-got ar acc c r h (⊎-elim (clause-ends (markAt r)) (clauses-end (markAt r)) f)
 
-head-inv : (ar : List ℕ) (ms : List Mode) (s : List ℕ) (h : Call) (r : List ℕ) → headFields ar ms s ≡ got h r
-    → (s ≡ encCall h ++ r) × (callFits NoWildcard ar h ≡ true) × (hasMode ms (h .pred) ≡ false)
-unfolding headFields
-head-inv ar ms s h r e =
-    let w = then-inv (call NoWildcard ar s) (λ k q. cond (hasMode ms (k .pred)) (wrong Clash s) (got k q)) e in
-    let x = untest-inv (hasMode ms (w .0 .pred)) (w .0) (w .1) Clash (length s) (w .3) in
-    let b = call-inv NoWildcard ar s (w .0) (w .1) (w .2) in
-    carry (λ (y : Call) (l : List ℕ). (s ≡ encCall y ++ l) × (callFits NoWildcard ar y ≡ true) × (hasMode ms (y .pred) ≡ false)) (x .1) (b .0, b .1, x .0)
-
-pub clause-inv : (ar : List ℕ) (ms : List Mode) (acc : List Clause) (s : List ℕ) (c : Clause) (r : List ℕ) → turn Clauses (markAt s) ≡ Mine → clause ar ms acc s ≡ got c r → (s ≡ encClause c ++ r) × ClauseFits ar ms acc c
+pub clause-inv : (ar : List ℕ) (acc : List Clause) (s : List ℕ) (c : Clause) (r : List ℕ) → turn Clauses (markAt s) ≡ Mine → clause ar acc s ≡ got c r → (s ≡ encClause c ++ r) × ClauseFits ar acc c
 unfolding clause
-clause-inv ar ms acc s c r t e =
+clause-inv ar acc s c r t e =
     let made : Call → List Call → List ℕ → Got Clause = λ h body u. got (record { head = h; body = body }) u in
-    let w = then-inv (headFields ar ms (drop 2 s)) (λ h q. andThen (many Body (subgoal ar) maxSubgoals [] q) (made h)) e in
+    let w = then-inv (call NoWildcard ar (drop 2 s)) (λ h q. andThen (many Body (subgoal ar) maxSubgoals [] q) (made h)) e in
     let h = w .0 in
     let v = then-inv (many Body (subgoal ar) maxSubgoals [] (w .1)) (made h) (w .3) in
-    let b = head-inv ar ms (drop 2 s) h (w .1) (w .2) in
+    let b = call-inv NoWildcard ar (drop 2 s) h (w .1) (w .2) in
     let n = many-inv Body (subgoal ar) (SubgoalFits ar) encSubgoal (body-inv ar) maxSubgoals (w .1) (v .0) (v .1) (v .2) in
-    let free : not (hasMode ms (h .pred)) ≡ true = rw (b .2) in
     let bytes· : drop 2 s ≡ (encCall h ++ run encSubgoal (v .0)) ++ v .1 = b .0 ∙ (ap (λ (l : List ℕ). encCall h ++ l) (n .from) ∙ sym (append-assoc (encCall h) (run encSubgoal (v .0)) (v .1))) in
-    carry (λ (x : Clause) (l : List ℕ). (s ≡ encClause x ++ l) × ClauseFits ar ms acc x) (v .3) (
+    carry (λ (x : Clause) (l : List ℕ). (s ≡ encClause x ++ l) × ClauseFits ar acc x) (v .3) (
       sole-starts Clauses s sole-clauses t ∙ ap (λ (l : List ℕ). spelling Cl ++ l) bytes·,
-      and-intro (b .1) (and-intro free (and-intro (le-leb _ _ (n .few)) (each-all (callFits Argument ar) [] (v .0) (n .good)))),
+      and-intro (b .1) (and-intro (le-leb _ _ (n .few)) (each-all (callFits Argument ar) [] (v .0) (n .good))),
     )
 
 -- ---- MO records rise
@@ -301,8 +285,8 @@ read-got b w =
     (run encMode ms ++ (run encClause cs ++ asks q)) few (all-each (allows (AtMost maxArity)) [] ar (w .aritiesFit)) (over-predicates q ms cs))
     ∙ then-got _ (many-got Modes (mode ar) (ModeFits ar) encMode (λ m r. own-leads Modes (m .pred ∷ length (m .masks) ∷ (m .masks ++ r)) Mo refl) (λ acc m r k f. mode-got ar acc m r k)
     (suc maxPredicates) [] ms (run encClause cs ++ asks q) fewer (modes-each ar [] ms (w .modesFit) (w .modesRise)) (over-modes q cs))
-    ∙ then-got _ (many-got Clauses (clause ar ms) (ClauseFits ar ms) encClause (λ c r. own-leads Clauses ((encCall (c .head) ++ run encSubgoal (c .body)) ++ r) Cl refl) (clause-reads ar ms)
-    maxClauses [] cs (asks q) (leb-true _ _ (w .fewClauses)) (all-each (clauseFits ar ms) [] cs (w .clausesFit)) (over-clauses q))
+    ∙ then-got _ (many-got Clauses (clause ar) (ClauseFits ar) encClause (λ c r. own-leads Clauses ((encCall (c .head) ++ run encSubgoal (c .body)) ++ r) Cl refl) (clause-reads ar)
+    maxClauses [] cs (asks q) (leb-true _ _ (w .fewClauses)) (all-each (clauseFits ar) [] cs (w .clausesFit)) (over-clauses q))
     ∙ then-got _ (rw append-nil at (many-got Query (subgoal ar) (SubgoalFits ar) encSubgoal (λ c r. own-leads Query (encCall c ++ r) Sg refl) (λ acc c r k f. subgoal-got ar acc c r k)
     maxSubgoals [] q [] (leb-true _ _ (w .fewAsked)) (all-each (callFits Argument ar) [] q (w .queryFits)) over-query))
 
@@ -311,19 +295,19 @@ unfolding readBook rules query encode lowFrom
 read-inv s b r e =
     let made : List ℕ → List Mode → List Clause → List Call → List ℕ → Got Book = λ ar ms cs q t. got (record { arities = ar; modes = ms; clauses = cs; query = q }) t in
     let asked : List ℕ → List Mode → List Clause → List ℕ → Got Book = λ ar ms cs t. andThen (many Query (subgoal ar) maxSubgoals [] (drop 2 t)) (made ar ms cs) in
-    let ruled : List ℕ → List Mode → List ℕ → Got Book = λ ar ms t. andThen (many Clauses (clause ar ms) maxClauses [] t) (asked ar ms) in
+    let ruled : List ℕ → List Mode → List ℕ → Got Book = λ ar ms t. andThen (many Clauses (clause ar) maxClauses [] t) (asked ar ms) in
     let moded : List ℕ → List ℕ → Got Book = λ ar t. andThen (many Modes (mode ar) (suc maxPredicates) [] t) (ruled ar) in
     let w1 = then-inv (many Predicates predicate maxPredicates [] s) moded e in
     let ar = w1 .0 in
     let w2 = then-inv (many Modes (mode ar) (suc maxPredicates) [] (w1 .1)) (ruled ar) (w1 .3) in
     let ms = w2 .0 in
-    let w3 = then-inv (many Clauses (clause ar ms) maxClauses [] (w2 .1)) (asked ar ms) (w2 .3) in
+    let w3 = then-inv (many Clauses (clause ar) maxClauses [] (w2 .1)) (asked ar ms) (w2 .3) in
     let cs = w3 .0 in
     let w4 = then-inv (many Query (subgoal ar) maxSubgoals [] (drop 2 (w3 .1))) (made ar ms cs) (w3 .3) in
     let q = w4 .0 in
     let a = many-inv Predicates predicate PredicateFits encPredicate predicate-inv maxPredicates s ar (w1 .1) (w1 .2) in
     let m = many-inv Modes (mode ar) (ModeFits ar) encMode (mode-inv ar) (suc maxPredicates) (w1 .1) ms (w2 .1) (w2 .2) in
-    let c = many-inv Clauses (clause ar ms) (ClauseFits ar ms) encClause (clause-inv ar ms) maxClauses (w2 .1) cs (w3 .1) (w3 .2) in
+    let c = many-inv Clauses (clause ar) (ClauseFits ar) encClause (clause-inv ar) maxClauses (w2 .1) cs (w3 .1) (w3 .2) in
     let u = many-inv Query (subgoal ar) (SubgoalFits ar) encSubgoal (query-inv ar) maxSubgoals (drop 2 (w3 .1)) q (w4 .1) (w4 .2) in
     let ends : drop 2 (w3 .1) ≡ run encSubgoal q = u .from ∙ (ap (λ (l : List ℕ). run encSubgoal q ++ l) (query-over-ends (w4 .1) (u .over)) ∙ append-nil (run encSubgoal q)) in
     let query· : w3 .1 ≡ asks q = clauses-over-starts (w3 .1) (c .over) ∙ ap (λ (l : List ℕ). spelling Qu ++ l) ends in
@@ -338,7 +322,7 @@ read-inv s b r e =
         modesFit = f .0;
         modesRise = f .1;
         fewClauses = le-leb _ _ (c .few);
-        clausesFit = each-all (clauseFits ar ms) [] cs (c .good);
+        clausesFit = each-all (clauseFits ar) [] cs (c .good);
         fewAsked = le-leb _ _ (u .few);
         queryFits = each-all (callFits Argument ar) [] q (u .good);
       },
