@@ -7,8 +7,8 @@ use Rattle.masks.specs.Set.{Holds}
 use Rattle.masks.specs.declared.reply.Reply.{Reply}
 use Rattle.book.specs.Limits.{maxPredicates, maxClauses}
 use Rattle.book.specs.Book.{Book}
-use Rattle.book.specs.Format.{number, hasMode, Judged, fault, book, judge}
-use Rattle.book.specs.Held.{modeAt, modesOf, bookIn}
+use Rattle.book.specs.Format.{number, Judged, fault, book, judge}
+use Rattle.book.specs.Held.{hasMode, modeAt, modesOf, bookIn}
 use Rattle.records.specs.declared.field.Found.{Found}
 use Rattle.records.specs.declared.field.Found.the-variants.{Next, Bad}
 use Rattle.reading.specs.declared.Reading.{Reading}

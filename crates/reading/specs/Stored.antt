@@ -9,8 +9,8 @@ use Rattle.masks.specs.Set.{Holds}
 use Rattle.book.specs.Limits.{maxPredicates, maxClauses, maxSubgoals}
 use Rattle.book.specs.Book.{Call, Mode, Clause, Book}
 use Rattle.book.specs.Format as format
-use Rattle.book.specs.Format.{leads, markAt, turn, Got, bad, many, mode, subgoal, hasMode, query}
-use Rattle.book.specs.Held.{callIn, clauseSize, rulesSize, clauseAt, clausesOf, StoredClause, modesSize, modesOf, bookIn}
+use Rattle.book.specs.Format.{leads, markAt, turn, Got, bad, many, mode, subgoal, query}
+use Rattle.book.specs.Held.{callIn, clauseSize, rulesSize, clauseAt, clausesOf, StoredClause, modesSize, modesOf, hasMode, bookIn}
 use Rattle.book.specs.declared.mark.Mark.{Mark}
 use Rattle.book.specs.declared.mark.Mark.the-variants.{Sg}
 use Rattle.book.specs.declared.mark.Phase.{Phase}
@@ -62,18 +62,17 @@ pub record ReadsBody (ar s : List ℕ) (from k : ℕ) (r : Found) (before after 
 
 -- ---- clauses, and the query
 
--- a clause is read, whatever the modes are that the set has the predicates of, and stored as clause k
-pub record ReadsClause (ar s : List ℕ) (set at k : ℕ) (r : Found) (before after : List ℕ) : Type 0 where
+-- a clause is read, and stored as clause k
+pub record ReadsClause (ar s : List ℕ) (at k : ℕ) (r : Found) (before after : List ℕ) : Type 0 where
   pub clause : Clause
-  pub inside : placeOf r ≤ length s
-  pub reads : (ms : List Mode) → Holds set (hasMode ms) → Reads s r (λ n. clause) (format.clause ar ms [] (drop at s))
+  pub reads : Reads s r (λ n. clause) (format.clause ar [] (drop at s))
   pub stored : (end n : ℕ) → r ≡ Next end n → length before ≡ rulesSize → StoredClause before after k clause
 
 -- the clauses are read
-pub record ReadsClauses (ar s : List ℕ) (set from : ℕ) (r : FoundRun) (before after : List ℕ) : Type 0 where
+pub record ReadsClauses (ar s : List ℕ) (from : ℕ) (r : FoundRun) (before after : List ℕ) : Type 0 where
   pub clauses : List Clause
   pub few : r .n ≤ maxClauses
-  pub reads : (ms : List Mode) → Holds set (hasMode ms) → Reads s (r .found) (λ n. clauses) (many Clauses (format.clause ar ms) maxClauses [] (drop from s))
+  pub reads : Reads s (r .found) (λ n. clauses) (many Clauses (format.clause ar) maxClauses [] (drop from s))
   pub stored : (at n : ℕ) → r .found ≡ Next at n → length before ≡ rulesSize → clausesOf after (r .n) ≡ clauses
 
 -- the query is read, and stored as the clause behind all others

@@ -160,7 +160,7 @@ fn read_rules<'a>(
             with_mode: 0,
         };
     };
-    let c = read_clauses(s, ar, m.with_mode, at, rules);
+    let c = read_clauses(s, ar, at, rules);
     let g = c.found;
     let Found::Next(end, _) = g else {
         return FoundRules {
@@ -240,9 +240,9 @@ fn read_modes(s: &[u8], ar: &[u8], from: usize, modes: &mut [u8]) -> FoundModes
 }
 
 // "then clauses": how many there are, stored from the start of the rules.
-fn read_clauses(s: &[u8], ar: &[u8], with_mode: u64, from: usize, rules: &mut [u64]) -> FoundRun
+fn read_clauses(s: &[u8], ar: &[u8], from: usize, rules: &mut [u64]) -> FoundRun
     requires { ⌜ (from ≤ length (now s)) × Arities (now ar) ⌝ }
-    ensures { λ r. ⌜ ReadsClauses (now (ar .entry)) (now (s .entry)) «with_mode» from r (now (rules .entry)) (now (rules .exit)) ⌝ }
+    ensures { λ r. ⌜ ReadsClauses (now (ar .entry)) (now (s .entry)) from r (now (rules .entry)) (now (rules .exit)) ⌝ }
 {
     let mut at = from;
     let mut n: usize = 0;
@@ -253,7 +253,7 @@ fn read_clauses(s: &[u8], ar: &[u8], with_mode: u64, from: usize, rules: &mut [u
                 n,
             };
         }
-        let g = read_clause(s, ar, with_mode, at, rules, n);
+        let g = read_clause(s, ar, at, rules, n);
         match g {
             Found::Bad(_, _) => {
                 return FoundRun { found: g, n };
@@ -271,11 +271,11 @@ fn read_clauses(s: &[u8], ar: &[u8], with_mode: u64, from: usize, rules: &mut [u
 }
 
 // The clause whose record is at a place, stored as clause k.
-fn read_clause(s: &[u8], ar: &[u8], with_mode: u64, at: usize, rules: &mut [u64], k: usize) -> Found
+fn read_clause(s: &[u8], ar: &[u8], at: usize, rules: &mut [u64], k: usize) -> Found
     requires { ⌜ (at + 2 ≤ length (now s)) × Arities (now ar) × (k < maxClauses) ⌝ }
-    ensures { λ r. ⌜ ReadsClause (now (ar .entry)) (now (s .entry)) «with_mode» at k r (now (rules .entry)) (now (rules .exit)) ⌝ }
+    ensures { λ r. ⌜ ReadsClause (now (ar .entry)) (now (s .entry)) at k r (now (rules .entry)) (now (rules .exit)) ⌝ }
 {
-    let h = read_head(s, ar, with_mode, at);
+    let h = read_head(s, ar, at);
     let g = h.found;
     match g {
         Found::Bad(_, _) => g,

@@ -1,23 +1,21 @@
--- What the readers leave beside their answers: a call in a word, and bytes in an array that is lent, which may have no room for them. Where it has none, a
--- store leaves it as it was. Assumes nothing.
+-- What is read of a call, and what the readers leave beside their answers: bytes in an array that is lent, which may have no room for them. Where it has
+-- none, a store leaves it as it was. Assumes nothing.
 use mathlib.Core.Path.{_≡_}
 use mathlib.Core.Bool.{cond}
 use mathlib.Core.List.{List, [], _∷_}
-use Prim.Native.Nat.{ℕ, _+_, _*_, _≤_}
+use Prim.Native.Nat.{ℕ, _*_, _≤_}
 use lib.Dec.{eqb}
-use lib.ListN.{length, drop}
+use lib.ListN.{length}
 use lib.Seq.{sets}
 use Rattle.masks.specs.Limits.{maxMasks}
-use Rattle.masks.specs.Set.{Holds}
 use Rattle.book.specs.Book.{Call, Mode}
-use Rattle.book.specs.Format.{Got, got, andThen, bytes, hasMode, headFields}
-use Rattle.book.specs.Held.{callIn, modeSize, modesSize, StoredMode}
+use Rattle.book.specs.Format.{Got, got, andThen, bytes}
+use Rattle.book.specs.Held.{modeSize, modesSize, StoredMode}
 use Rattle.book.specs.declared.range.Range.{Range}
 use Rattle.book.specs.declared.range.Range.the-variants.{Argument, NoWildcard}
 use Rattle.records.specs.declared.field.Found.{Found}
 use Rattle.records.specs.declared.field.Found.the-variants.{Next}
-use Rattle.records.specs.declared.field.FoundCall.{FoundCall}
-use Rattle.records.specs.Found.{placeOf, Reads}
+use Rattle.records.specs.Found.{Reads}
 
 -- ---- a call
 
@@ -28,17 +26,6 @@ argumentFrom least = cond (eqb least 255) NoWildcard Argument
 -- what follows the predicate p of a call: n arguments
 unfoldable pub arguments : Range → ℕ → ℕ → List ℕ → Got Call
 arguments r p n s = andThen (bytes r n [] s) (λ args t. got (record { pred = p; args = args }) t)
-
--- a call is read into a word, and the byte answered is its predicate
-pub record ReadsCall (s : List ℕ) (r : FoundCall) (g : Got Call) : Type 0 where
-  pub reads : Reads s (r .found) (λ n. callIn (r .call)) g
-  pub named : (at p : ℕ) → r .found ≡ Next at p → callIn (r .call) .pred ≡ p
-
--- the head of the clause whose record is at a place is read into a word, whatever the modes are that the set has the predicates of
-pub record ReadsHead (ar s : List ℕ) (set at : ℕ) (r : FoundCall) : Type 0 where
-  pub inside : placeOf (r .found) ≤ length s
-  pub reads : (ms : List Mode) → Holds set (hasMode ms)
-      → Reads s (r .found) (λ n. callIn (r .call)) (headFields ar ms (drop (at + 2) s))
 
 -- ---- bytes that are stored
 

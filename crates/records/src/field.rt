@@ -6,7 +6,6 @@ use book::limits::LITERAL;
 use book::limits::MODE_SIZE;
 use book::limits::WILDCARD;
 use book::range::Range;
-use masks::constraint::has_member;
 use masks::constraint::patterns;
 use masks::limits::MAX_ARITY;
 use masks::limits::MAX_MASKS;
@@ -20,7 +19,7 @@ ghost use Rattle.masks.specs.Limits.{maxArity};
 ghost use Rattle.book.specs.Format.{allows, byte, bytes, predicate, call, subgoal, masks, modeFields};
 ghost use Rattle.book.specs.Held.{callIn};
 ghost use Rattle.records.specs.Found.{Reads, Arities};
-ghost use Rattle.records.specs.Stored.{argumentFrom, arguments, ReadsCall, ReadsHead, ReadsBytes, ReadsMasks, ReadsMode};
+ghost use Rattle.records.specs.Stored.{argumentFrom, arguments, ReadsBytes, ReadsMasks, ReadsMode};
 
 // What reading comes to: the place after what was read and, where that is a byte, the byte, or a fault and its place. Whatever is counted or larger
 // stands beside it.
@@ -70,27 +69,12 @@ pub fn read_mode(s: &[u8], ar: &[u8], low: u8, at: usize, modes: &mut [u8]) -> F
     }
 }
 
-// The head of the clause whose record is at a place: "6: `CL` for a predicate that has `MO`", tried last. The set has those predicates.
-pub fn read_head(s: &[u8], ar: &[u8], with_mode: u64, at: usize) -> FoundCall
+// The head of the clause whose record is at a place.
+pub fn read_head(s: &[u8], ar: &[u8], at: usize) -> FoundCall
     requires { ⌜ (at + 2 ≤ length (now s)) × Arities (now ar) ⌝ }
-    ensures { λ r. ⌜ ReadsHead (now (ar .entry)) (now (s .entry)) «with_mode» at r ⌝ }
+    ensures { λ r. ⌜ Reads (now (s .entry)) (r .found) (λ _. callIn (r .call)) (call Range.NoWildcard (now (ar .entry)) (drop (at + 2) (now (s .entry)))) ⌝ }
 {
-    let from = at + 2;
-    let r = read_call(s, ar, from, LITERAL);
-    let g = r.found;
-    let call = r.call;
-    match g {
-        Found::Bad(_, _) => r,
-        Found::Next(_, pred) => {
-            if has_member(with_mode, pred) {
-                return FoundCall {
-                    found: Found::Bad(Fault::Clash, from),
-                    call,
-                };
-            }
-            r
-        }
-    }
+    read_call(s, ar, at + 2, LITERAL)
 }
 
 // The subgoal whose record is at a place.
@@ -122,7 +106,7 @@ fn read_masks(s: &[u8], at: usize, patterns: u8, p: u8, modes: &mut [u8]) -> Fou
 // A predicate and as many arguments as its arity, each a variable or a byte from the least one on.
 fn read_call(s: &[u8], ar: &[u8], at: usize, least: u8) -> FoundCall
     requires { ⌜ (at ≤ length (now s)) × Arities (now ar) × (254 ≤ least) ⌝ }
-    ensures { λ r. ⌜ ReadsCall (now (s .entry)) r (call (argumentFrom least) (now (ar .entry)) (drop at (now (s .entry)))) ⌝ }
+    ensures { λ r. ⌜ Reads (now (s .entry)) (r .found) (λ _. callIn (r .call)) (call (argumentFrom least) (now (ar .entry)) (drop at (now (s .entry)))) ⌝ }
 {
     let g = read_byte(s, at, Range::Below(ar.len() as u8));
     match g {
@@ -134,7 +118,7 @@ fn read_call(s: &[u8], ar: &[u8], at: usize, least: u8) -> FoundCall
 // The n arguments of a call of a predicate. The word of the call has them from its low end on, above the predicate and n.
 fn read_args(s: &[u8], from: usize, pred: u8, n: u8, least: u8) -> FoundCall
     requires { ⌜ (from ≤ length (now s)) × (n ≤ maxArity) × (254 ≤ least) ⌝ }
-    ensures { λ r. ⌜ ReadsCall (now (s .entry)) r (arguments (argumentFrom least) pred n (drop from (now (s .entry)))) ⌝ }
+    ensures { λ r. ⌜ Reads (now (s .entry)) (r .found) (λ _. callIn (r .call)) (arguments (argumentFrom least) pred n (drop from (now (s .entry)))) ⌝ }
 {
     let mut call = n as u64 * 256 + pred as u64;
     let mut at = from;
@@ -160,7 +144,7 @@ fn read_args(s: &[u8], from: usize, pred: u8, n: u8, least: u8) -> FoundCall
         at += 1;
     }
     FoundCall {
-        found: Found::Next(at, pred),
+        found: Found::Next(at, 0),
         call,
     }
 }

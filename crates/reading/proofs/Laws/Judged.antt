@@ -9,10 +9,10 @@ use Rattle.masks.specs.Outcome.{Outcome, Answers}
 use Rattle.masks.specs.declared.reply.Reply.{Reply}
 use Rattle.book.specs.Limits.{maxClauses}
 use Rattle.book.specs.Book.{Book}
-use Rattle.book.specs.Format.{number, hasMode, Judged, fault, book, judge}
+use Rattle.book.specs.Format.{number, Judged, fault, book, judge}
 use Rattle.book.specs.Encode.{encode, WellFormed}
 use Rattle.book.specs.Answer.{onBook}
-use Rattle.book.specs.Held.{bookIn}
+use Rattle.book.specs.Held.{hasMode, bookIn}
 use Rattle.records.specs.declared.field.Found.{Found}
 use Rattle.records.specs.declared.field.Found.the-variants.{Next, Bad}
 use Rattle.reading.specs.declared.Reading.{Reading}

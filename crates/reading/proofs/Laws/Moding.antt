@@ -15,9 +15,9 @@ use Rattle.masks.proofs.Laws.Lists.{any-append}
 use Rattle.masks.proofs.Laws.Set.{bitAt-zero, bitAt-more}
 use Rattle.book.specs.Limits.{maxPredicates}
 use Rattle.book.specs.Book.{Mode}
-use Rattle.book.specs.Format.{allows, spelling, leads, low, lowFrom, markAt, turn, mode, modeFields, hasMode}
+use Rattle.book.specs.Format.{allows, spelling, leads, low, lowFrom, markAt, turn, mode, modeFields}
 use Rattle.book.specs.Encode.{encMode}
-use Rattle.book.specs.Held.{modesSize, modeAt, modesOf}
+use Rattle.book.specs.Held.{modesSize, modeAt, modesOf, hasMode}
 use Rattle.book.specs.declared.fault.Fault.{Fault}
 use Rattle.book.specs.declared.mark.Mark.the-variants.{Mo}
 use Rattle.book.specs.declared.mark.Phase.the-variants.{Modes}

@@ -86,12 +86,12 @@ module _ (preds : ℕ) (arities s : List ℕ) (from : ℕ) {m : FoundModes} {mod
     stored = λ a n d. bad-next e d;
   }
 
-  module _ {at n : ℕ} (e : m .found ≡ Next at n) {c : FoundRun} {one : List ℕ} (v : ReadsClauses (take preds arities) s (m .«with_mode») at c rules· one) where
+  module _ {at n : ℕ} (e : m .found ≡ Next at n) {c : FoundRun} {one : List ℕ} (v : ReadsClauses (take preds arities) s at c rules· one) where
     abbrev item : List Clause → List ℕ → Got Clause
-    item = clause (take preds arities) (w .modes)
+    item = clause (take preds arities)
 
     read : Reads s (c .found) (λ k. v .clauses) (many Clauses item maxClauses [] (drop at s))
-    read = v .reads (w .modes) (w .given)
+    read = v .reads
 
     -- the clauses have one
     pub rules-unclaused : {u : Fault} {k : ℕ} → c .found ≡ Bad u k
@@ -113,7 +113,7 @@ module _ (preds : ℕ) (arities s : List ℕ) (from : ℕ) {m : FoundModes} {mod
       rules-asked =
           let u : Reads s (Next end k) (λ j. v .clauses) (many Clauses item maxClauses [] (drop at s)) =
           subst (λ (r : Found). Reads s r (λ j. v .clauses) (many Clauses item maxClauses [] (drop at s))) d read in
-          let r = many-inv Clauses item (ClauseFits (take preds arities) (w .modes)) encClause (clause-inv (take preds arities) (w .modes)) maxClauses (drop at s) (v .clauses) (drop end s) (sym (u .is)) in
+          let r = many-inv Clauses item (ClauseFits (take preds arities)) encClause (clause-inv (take preds arities)) maxClauses (drop at s) (v .clauses) (drop end s) (sym (u .is)) in
           let o = ap length (clauses-over-starts (drop end s) (r .over)) in
           let l : length (drop end s) ≡ length s - end = length-drop end s in
           omega arith

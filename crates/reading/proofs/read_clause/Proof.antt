@@ -5,6 +5,7 @@ use borrow.Author.Needs.{needs}
 use Rattle.book.specs.declared.mark.Phase.the-variants.{Body}
 use Rattle.book.specs.declared.mark.Mark.the-variants.{Cl}
 use Rattle.book.specs.Format.{markAt}
+use Rattle.records.proofs.Laws.Reads.{next-inside}
 use Rattle.reading.proofs.Laws.Clauses.{clause-headless, clause-unbodied, clause-ended}
 use Rattle.reading.proofs.Laws.Runs.{ends-at}
 use Rattle.reading.proofs.read_clause.Statement.{statement}
@@ -33,7 +34,7 @@ read-body-requires c κs =
     let pre = c .before .before .before .before .before .before .before .before .before .before .before .before .pre in
     let read-head = c .before .before .before .before .before .before .before .before .read-head in
     let g = c .before .before .before .before .before .before .g in
-    (rw (g .given .1) at (read-head .ensures .inside), pre .1, omega arith)
+    (next-inside (read-head .ensures) (g .given .1), pre .1, omega arith)
 
 enum-told-2 : tie.Need-enum-told-2
 enum-told-2 c = search needs
@@ -74,7 +75,7 @@ returns-3 c =
     let put-word = c .before .before .before .before .before .before .before .before .before .before .before .put-word in
     let read-body = c .before .before .before .before .before .before .before .read-body in
     let b = c .before .before .before .b in
-    clause-ended _ _ _ _ _ (read-head .ensures) _ (g .given .1) (read-body .ensures) (pre .2) (put-word .ensures) (b .given .1) (c .ended .ensures)
+    clause-ended _ _ _ _ (read-head .result .call) (read-head .ensures) _ (g .given .1) (read-body .ensures) (pre .2) (put-word .ensures) (b .given .1) (c .ended .ensures)
 
 pub read-clause-spec : {M : Type 1} → statement M
 read-clause-spec =

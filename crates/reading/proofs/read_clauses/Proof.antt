@@ -12,13 +12,13 @@ use Rattle.reading.proofs.read_clauses.Statement.{statement}
 use Rattle.reading.proofs.read_clauses.Tie as tie
 
 abbrev Inv-loop : tie.InvT-loop
-Inv-loop s ar with-mode from rules₀ at₀ n₀ t10 t11 rules at n = Clausing ar s with-mode from at n rules₀ rules
+Inv-loop s ar from rules₀ at₀ n₀ t10 t11 rules at n = Clausing ar s from at n rules₀ rules
 
 abbrev μ-loop : tie.MeasureT-loop
-μ-loop s ar with-mode from rules₀ at₀ n₀ t10 t11 rules at n = 64 - n
+μ-loop s ar from rules₀ at₀ n₀ t10 t11 rules at n = 64 - n
 
 loop-holds : tie.Need-loop-holds Inv-loop μ-loop
-loop-holds c = clausing-start _ _ _ _ _ (c .before .before .before .pre .0)
+loop-holds c = clausing-start _ _ _ _ (c .before .before .before .pre .0)
 
 is-mark-requires : tie.Need-is-mark-requires Inv-loop μ-loop
 is-mark-requires c κs = c .before .loop .inv .inside
@@ -30,7 +30,7 @@ returns : tie.Need-returns Inv-loop μ-loop
 returns c =
     let loop = c .before .before .before .before .loop in
     let is-mark = c .before .before .is-mark in
-    clausing-full _ _ _ _ _ (loop .inv) (sym (is-mark .ensures) ∙ c .before .if1 .taken) (omega arith)
+    clausing-full _ _ _ _ (loop .inv) (sym (is-mark .ensures) ∙ c .before .if1 .taken) (omega arith)
 
 read-clause-requires : tie.Need-read-clause-requires Inv-loop μ-loop
 read-clause-requires c κs =
@@ -39,7 +39,7 @@ read-clause-requires c κs =
     let loop = c .before .before .before .before .before .loop in
     let is-mark = c .before .before .before .is-mark in
     let if1 = c .before .before .if1 in
-    (clausing-there _ (args .s .now) _ _ _ (loop .inv) (sym (is-mark .ensures) ∙ if1 .taken), pre .1, omega arith)
+    (clausing-there _ (args .s .now) _ _ (loop .inv) (sym (is-mark .ensures) ∙ if1 .taken), pre .1, omega arith)
 
 enum-told : tie.Need-enum-told Inv-loop μ-loop
 enum-told c = search needs
@@ -56,7 +56,7 @@ returns-2 c =
     let is-mark = c .before .before .before .before .before .before .before .before .is-mark in
     let if1 = c .before .before .before .before .before .before .before .if1 in
     let read-clause = c .before .before .before .before .read-clause in
-    clausing-bad _ _ _ _ _ (loop .inv) (sym (is-mark .ensures) ∙ if1 .taken) (omega arith) (read-clause .ensures) (c .enum-told .given .1)
+    clausing-bad _ _ _ _ (loop .inv) (sym (is-mark .ensures) ∙ if1 .taken) (omega arith) (read-clause .ensures) (c .enum-told .given .1)
 
 enum-known-g : tie.Need-enum-known-g Inv-loop μ-loop
 enum-known-g c = search needs
@@ -74,7 +74,7 @@ loop-again c =
     let if1 = c .before .before .before .before .before .before .before .before .if1 in
     let read-clause = c .before .before .before .before .before .read-clause in
     let rules = c .before .before .before .before .rules in
-    clausing-next _ _ _ _ _ (loop .inv) (sym (is-mark .ensures) ∙ if1 .taken) (omega arith) (read-clause .ensures) (c .before .g .given .1) (rules .given)
+    clausing-next _ _ _ _ (loop .inv) (sym (is-mark .ensures) ∙ if1 .taken) (omega arith) (read-clause .ensures) (c .before .g .given .1) (rules .given)
 
 ended-requires : tie.Need-ended-requires Inv-loop μ-loop
 unfolding markAt
@@ -90,7 +90,7 @@ returns-3 c =
     let loop = c .before .before .before .before .before .loop in
     let is-mark = c .before .before .before .is-mark in
     let if1 = c .before .before .if1 in
-    clausing-end _ _ _ _ _ (loop .inv) (sym (is-mark .ensures) ∙ if1 .left) (c .ended .ensures)
+    clausing-end _ _ _ _ (loop .inv) (sym (is-mark .ensures) ∙ if1 .left) (c .ended .ensures)
 
 pub read-clauses-spec : {M : Type 1} → statement M
 read-clauses-spec =

@@ -1,35 +1,31 @@
 -- A call read into a word from the low end on: each argument is a byte above those before it. Assumes nothing.
 use mathlib.Core.Path.{_≡_, refl, sym, ap, ap₂, _∙_, subst}
-use mathlib.Core.Bool.{true, false, _||_}
+use mathlib.Core.Bool.{true, _||_}
 use mathlib.Core.List.{List, [], _∷_, _++_}
-use Prim.Native.Nat.{ℕ, suc, _+_, _-_, _*_, _%_, _^_, min, _≤_, _<_}
+use Prim.Native.Nat.{ℕ, suc, _+_, _*_, _%_, _^_, min, _≤_, _<_}
 use native.Mathlib.Nat.{mul-assoc, mul-le-mul-right}
 use native.Mathlib.Omega.{arith}
 use lib.Dec.{eqb, ltb, leb}
-use lib.ListN.{length, getD, take, drop, length-drop}
+use lib.ListN.{length, getD, take, drop}
 use lib.Seq.{ext-getD}
 use lib.Pow.{areBytes, pow-add, pow-mono, shl-exact}
 use borrow.Author.Tests.{lt-ltb, ltb-true, eqb-true, eqb-false}
 use Rattle.masks.specs.Limits.{maxArity}
 use Rattle.masks.specs.Lists.{values}
-use Rattle.masks.specs.Set.{bitAt, Holds}
 use Rattle.masks.proofs.Laws.Logic.{byBool, and-intro, and-left, and-right}
 use Rattle.masks.proofs.Laws.Lists.{length-values, getD-values, take-values}
-use Rattle.book.specs.Book.{Call, Mode}
-use Rattle.book.specs.Format.{allows, byte, call, hasMode, headFields}
+use Rattle.book.specs.Book.{Call}
+use Rattle.book.specs.Format.{allows, byte, call}
 use Rattle.book.specs.Held.{countIn, byteOf, callIn}
 use Rattle.book.specs.declared.fault.Fault.{Fault}
-use Rattle.book.specs.declared.fault.Fault.the-variants.{Clash}
 use Rattle.book.specs.declared.range.Range.{Range}
-use Rattle.book.specs.declared.range.Range.the-variants.{Below, NoWildcard}
-use Rattle.book.proofs.Laws.Trip.{call-known, call-inv}
+use Rattle.book.specs.declared.range.Range.the-variants.{Below}
 use Rattle.book.proofs.Laws.Words.{wordOf, byteOf-wordOf}
 use Rattle.records.specs.declared.field.Found.{Found}
 use Rattle.records.specs.declared.field.Found.the-variants.{Next, Bad}
-use Rattle.records.specs.declared.field.FoundCall.{FoundCall}
 use Rattle.records.specs.Found.{Reads}
-use Rattle.records.specs.Stored.{argumentFrom, arguments, ReadsCall, ReadsHead}
-use Rattle.records.proofs.Laws.Reads.{argument-is, no-wildcard-is, bad-next, next-byte, then-bad, then-next, reads-map, next-inside, Left, left-start, left-bad, left-next, left-end}
+use Rattle.records.specs.Stored.{argumentFrom, arguments}
+use Rattle.records.proofs.Laws.Reads.{argument-is, no-wildcard-is, then-bad, then-next, reads-map, Left, left-start, left-bad, left-next, left-end}
 
 -- ---- arguments
 
@@ -127,9 +123,9 @@ module _ (r : Range) (s : List ℕ) (p n from : ℕ) where
     calling-less = let l = wordOf-less (p ∷ n ∷ c .args) (c .bytes) in rw (c .word) (subst (λ (k : ℕ). wordOf (p ∷ n ∷ c .args) < 2 ^ k) size l)
 
     module _ (h : i < n) {g : Found} (w· : Reads s g (λ x. x) (byte r (drop at s))) where
-      pub calling-bad : {v : Fault} {q : ℕ} → g ≡ Bad v q → ReadsCall s (record { found = g; call = w }) (arguments r p n (drop from s))
+      pub calling-bad : {v : Fault} {q : ℕ} → g ≡ Bad v q → Reads s g (λ k. callIn w) (arguments r p n (drop from s))
       unfolding arguments
-      calling-bad e = record { reads = then-bad _ (left-bad r s n from (c .left) h w· {f = λ k. []} e) e; named = λ a q d. bad-next e d }
+      calling-bad e = then-bad _ (left-bad r s n from (c .left) h w· {f = λ k. []} e) e
 
       pub calling-next : {next x more : ℕ} → g ≡ Next next x → x < 256 → more ≡ w + x * 2 ^ shift → Calling r s p n from next (i + 1) (shift + 8) more
       calling-next {next} {x} e b d =
@@ -141,58 +137,21 @@ module _ (r : Range) (s : List ℕ) (p n from : ℕ) where
             place = let f = c .place in omega arith;
           }
 
-    pub calling-end : n ≤ maxArity → n ≤ i → ReadsCall s (record { found = Next at p; call = w }) (arguments r p n (drop from s))
+    pub calling-end : n ≤ maxArity → n ≤ i → Reads s (Next at 0) (λ k. callIn w) (arguments r p n (drop from s))
     unfolding arguments
     calling-end few h =
         let e : length (c .args) ≡ n = (let t = c .left .turns in let z = c .left .size in omega arith) in
         let is : callIn w ≡ record { pred = p; args = c .args } = ap callIn (c .word) ∙ callIn-word p n (c .args) few e (c .bytes) in
-        record {
-          reads = rw is (reads-map (λ (l : List ℕ). record { pred = p; args = l }) (left-end r s n from (c .left) p h));
-          named = λ a q d. ap (λ (k : Call). k .pred) is ∙ next-byte d;
-        }
+        rw is (reads-map (λ (l : List ℕ). record { pred = p; args = l }) (left-end r s n from (c .left) 0 h))
 
--- ---- a call, and the head of a clause
+-- ---- a call
 
 module _ (range : Range) (ar s : List ℕ) (at : ℕ) {g : Found} (w : Reads s g (λ x. x) (byte (Below (length ar)) (drop at s))) where
-  pub call-none : (c : ℕ) {v : Fault} {p : ℕ} → g ≡ Bad v p → ReadsCall s (record { found = g; call = c }) (call range ar (drop at s))
+  pub call-none : {c : Call} {v : Fault} {p : ℕ} → g ≡ Bad v p → Reads s g (λ n. c) (call range ar (drop at s))
   unfolding call
-  call-none c e = record { reads = then-bad _ w e; named = λ a q d. bad-next e d }
+  call-none e = then-bad _ w e
 
-  pub call-read : {next p : ℕ} {r : FoundCall} → g ≡ Next next p → ReadsCall s r (arguments range p (getD ar p 0) (drop next s)) → ReadsCall s r (call range ar (drop at s))
+  pub call-read : {next p : ℕ} {f : Found} {c : Call} → g ≡ Next next p → Reads s f (λ n. c) (arguments range p (getD ar p 0) (drop next s))
+      → Reads s f (λ n. c) (call range ar (drop at s))
   unfolding call arguments
-  call-read e v = record { reads = then-next _ w e (v .reads); named = v .named }
-
--- its predicate is one of the book
-pub called-below : (range : Range) (ar s : List ℕ) (at : ℕ) {r : FoundCall} → ReadsCall s r (call range ar (drop at s)) → {next p : ℕ} → r .found ≡ Next next p → p < length ar
-unfolding allows
-called-below range ar s at {r} w {next} {p} e =
-    let c = callIn (r .call) in
-    let u : Reads s (Next next p) (λ k. c) (call range ar (drop at s)) = subst (λ (q : Found). Reads s q (λ k. c) (call range ar (drop at s))) e (w .reads) in
-    rw (← w .named next p e) (ltb-true (c .pred) (length ar) (call-known range ar c (call-inv range ar (drop at s) c (drop next s) (sym (u .is)) .1)))
-
-module _ (ar s : List ℕ) (set at : ℕ) {r : FoundCall} (w : ReadsCall s r (call NoWildcard ar (drop (at + 2) s))) where
-  pub head-faulty : {v : Fault} {k : ℕ} → r .found ≡ Bad v k → ReadsHead ar s set at r
-  unfolding headFields
-  head-faulty e = record { inside = w .reads .inside; reads = λ ms i. then-bad _ (w .reads) e }
-
-  module _ {next p : ℕ} (e : r .found ≡ Next next p) where
-    -- whether it has MO
-    has : (ms : List Mode) → Holds set (hasMode ms) → hasMode ms (callIn (r .call) .pred) ≡ bitAt set p
-    has ms i = ap (hasMode ms) (w .named next p e) ∙ sym (i p)
-
-    pub head-clash : at + 2 ≤ length s → bitAt set p ≡ true → ReadsHead ar s set at (record { found = Bad Clash (at + 2); call = r .call })
-    unfolding headFields
-    head-clash h t =
-        let z : length (drop (at + 2) s) ≡ length s - (at + 2) = simp length-drop in
-        record { inside = h; reads = λ ms i. then-next _ (w .reads) e (record { inside = h; is = rw (has ms i ∙ t, z) }) }
-
-    pub head-owns : bitAt set p ≡ false → ReadsHead ar s set at r
-    unfolding headFields
-    head-owns t =
-        record {
-          inside = w .reads .inside;
-          reads =
-              λ ms i.
-              subst (λ (g : Found). Reads s g (λ n. callIn (r .call)) (headFields ar ms (drop (at + 2) s))) (sym e)
-              (then-next _ (w .reads) e (record { inside = next-inside (w .reads) e; is = rw (has ms i ∙ t) }));
-        }
+  call-read e v = then-next _ w e v

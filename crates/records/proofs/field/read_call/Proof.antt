@@ -41,7 +41,7 @@ returns : tie.Need-returns
 returns c =
     let args = c .before .before .before .before .before .args in
     let read-byte = c .before .before .read-byte in
-    call-none _ _ _ (args .at) (read-byte .ensures) 0 (c .enum-told .given .1)
+    call-none _ _ _ (args .at) (read-byte .ensures) (c .enum-told .given .1)
 
 returns-2 : tie.Need-returns-2
 returns-2 c =

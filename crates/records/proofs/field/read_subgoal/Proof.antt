@@ -11,7 +11,7 @@ read-call-requires : tie.Need-read-call-requires
 read-call-requires c κs = search needs
 
 returns : tie.Need-returns
-returns c = subgoal-reads _ (c .before .before .before .args .at) _ (c .read-call .ensures .reads)
+returns c = subgoal-reads _ (c .before .before .before .args .at) _ (c .read-call .ensures)
 
 pub read-subgoal-spec : {M : Type 1} → statement M
 read-subgoal-spec = tie.close (tie.spec add-read-call read-call-requires returns)
