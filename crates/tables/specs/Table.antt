@@ -1,4 +1,5 @@
--- The analysis. Document 01: "The analysis goes in rounds over the whole table (definition 5.4)." Every definition computes. Assumes nothing.
+-- The analysis. Document 01: "The analysis goes in rounds over the whole table (definition 5.4)."; document 02's W6: "A predicate may have both MO and
+-- clauses: table 0 starts from its MO, and every round takes the joint of MO and clauses." Every definition computes. Assumes nothing.
 use mathlib.Core.Bool.{Bool, true, false, cond, _&&_}
 use mathlib.Core.List.{List, [], _∷_}
 use mathlib.Core.Option.{Option, none, some}
@@ -6,12 +7,12 @@ use Prim.Native.Nat.{ℕ, zero, suc, _+_, _^_}
 use lib.Dec.{eqb}
 use lib.ListN.{length, getD}
 use Rattle.masks.specs.Lists.{any, all, values}
-use Rattle.masks.specs.Constraint.{trivial, written, minimise, sameMasks}
+use Rattle.masks.specs.Constraint.{admits, trivial, written, minimise, sameMasks}
 use Rattle.book.specs.Book.{Mode, Clause, Book}
 use Rattle.book.specs.Table.{Table, entry}
 use Rattle.ordering.specs.Good.{goodClause}
 
--- ---- "Table 0: each MO as given and minimised, all others trivial."
+-- ---- what a book itself asks of a predicate, with clauses or without
 
 -- the alternatives of p, where it has MO
 unfoldable pub modeOf : List Mode → ℕ → Option (List ℕ)
@@ -19,12 +20,14 @@ modeOf [] p = none
 modeOf (m ∷ ms) p = cond (eqb (m .pred) p) (some (m .masks)) (modeOf ms p)
 
 -- "An outside predicate with no MO asks for nothing: it is trivial. One with MO and n = 0 has no alternative: it is ill"
-abbrev pub firstNeed : Option (List ℕ) → List ℕ
-firstNeed none = trivial
-firstNeed (some masks) = minimise masks
+abbrev pub asked : Option (List ℕ) → List ℕ
+asked none = trivial
+asked (some masks) = masks
+
+-- ---- "Table 0: each MO as given and minimised, all others trivial."
 
 unfoldable pub firstNeeds : List Mode → ℕ → Table
-firstNeeds ms n = values (λ p. firstNeed (modeOf ms p)) n
+firstNeeds ms n = values (λ p. minimise (asked (modeOf ms p))) n
 
 unfoldable pub start : Book → Table
 start B = firstNeeds (B .modes) (length (B .arities))
@@ -44,9 +47,13 @@ defined cs p = any (λ c. eqb (c .head .pred) p) cs
 unfoldable pub good : Table → List Clause → ℕ → ℕ → Bool
 good T cs p a = all (λ c. goodClause T c a) (own cs p)
 
+-- W6: "the joint of MO and clauses": a pattern that fits the MO of p, and is good
+unfoldable pub gets : Book → Table → ℕ → ℕ → Bool
+gets B T p a = admits (asked (modeOf (B .modes) p)) a && good T (B .clauses) p a
+
 -- the constraint of p in the table after T
 unfoldable pub next : Book → Table → ℕ → List ℕ
-next B T p = cond (defined (B .clauses) p) (written (good T (B .clauses) p) (2 ^ getD (B .arities) p 0)) (entry T p)
+next B T p = cond (defined (B .clauses) p) (written (gets B T p) (2 ^ getD (B .arities) p 0)) (entry T p)
 
 -- "A round reads only the table before it."
 unfoldable pub step : Book → Table → Table

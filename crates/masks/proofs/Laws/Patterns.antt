@@ -65,14 +65,14 @@ member-below (suc k) w (suc m) l t = let h = member-below k (w / 2) m (let p = p
 abbrev pub asked : ℕ → ℕ → ℕ → Bool
 asked mask p i = not (bitAt mask i) || bitAt p i
 
-within-asked : (mask p i : ℕ) → within mask p ≡ true → asked mask p i ≡ true
+pub within-asked : (mask p i : ℕ) → within mask p ≡ true → asked mask p i ≡ true
 within-asked mask p i t = go (bitAt mask i) (bitAt p i) (ap (λ (x : ℕ). bitAt x i) (sym (within-and mask p t)) ∙ bitAt-and mask p i)
   where
     go : (x y : Bool) → x ≡ (x && y) → (not x || y) ≡ true
     go true y e = sym e
     go false y e = refl
 
-asked-within : (k mask p : ℕ) → mask < 2 ^ k → ((i : ℕ) → i < k → asked mask p i ≡ true) → within mask p ≡ true
+pub asked-within : (k mask p : ℕ) → mask < 2 ^ k → ((i : ℕ) → i < k → asked mask p i ≡ true) → within mask p ≡ true
 unfolding bitAt
 asked-within zero mask p l f = let e : mask ≡ 0 = omega arith in ap (λ (x : ℕ). within x p) e ∙ within-zero p
 asked-within (suc k) mask p l f =

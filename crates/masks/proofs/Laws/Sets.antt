@@ -15,17 +15,17 @@ use borrow.Author.Tests.{eqb-true, eq-eqb, lt-ltb}
 use Rattle.masks.specs.Limits.{maxArity, allPatterns}
 use Rattle.masks.specs.Lists.{anyBelow, below, has}
 use Rattle.masks.specs.Mask.{within}
-use Rattle.masks.specs.Constraint.{admits, isWritten, drops, least, written, minimise}
+use Rattle.masks.specs.Constraint.{admits, inRange, isWritten, drops, least, written, minimise}
 use Rattle.masks.specs.Set.{bitAt, Holds, members}
 use Rattle.masks.specs.Patterns.{EachLane, Agrees}
 use Rattle.masks.proofs.Laws.Logic.{byBool, clash, same, false-of, and-intro, and-left, and-right, or-left, or-right, or-case, not-intro, not-elim}
 use Rattle.masks.proofs.Laws.Lists.{below-has, has-below, below-cong, anyBelow-at, at-anyBelow, allBelow, allBelow-at, sets-append}
 use Rattle.masks.proofs.Laws.Mask.{within-refl, within-le, and-within}
 use Rattle.masks.proofs.Laws.Words as words
-use Rattle.masks.proofs.Laws.Constraint.{admits-has, has-admits, admits-up, admits-append, written-cong, written-admits}
+use Rattle.masks.proofs.Laws.Constraint.{inRange-has, admits-has, has-admits, admits-up, admits-append, written-cong, written-admits}
 use Rattle.masks.proofs.Laws.Set.{bitAt-zero, bitAt-or, bitAt-more}
 use Rattle.masks.proofs.Laws.Members.{bitAt-and, bitAt-xor, Lowest}
-use Rattle.masks.proofs.Laws.Patterns.{ones as allOnes, bitAt-ones, columns, bitAt-column}
+use Rattle.masks.proofs.Laws.Patterns.{ones as allOnes, bitAt-ones, within-asked, asked-within, columns, bitAt-column}
 
 -- ---- the members
 
@@ -364,3 +364,13 @@ module _ (k a : ℕ) where
       let i = words.within-le (cut k a) (bitAnd (cut k a) a)
       (λ j t. bitAt-and (cut k a) a j ∙ and-intro t (and-left (bitAt a j) (bitAt (2 ^ k - 1) j) (sym (bitAt-and a (2 ^ k - 1) j) ∙ t))) in
       omega arith)
+
+  -- a mask of k positions is contained in it where it is contained in the pattern
+  within-cut : k ≤ maxArity → (m : ℕ) → m < 2 ^ k → within m a ≡ true → within m (cut k a) ≡ true
+  within-cut h m l t = asked-within k m (cut k a) l (λ i g. ap (λ (b : Bool). not (bitAt m i) || b) (cut-bits h i g) ∙ within-asked m a i t)
+
+  -- so a constraint of k positions admits it where it admits the pattern
+  pub admits-cut : k ≤ maxArity → (c : List ℕ) → inRange (2 ^ k) c ≡ true → admits c (cut k a) ≡ admits c a
+  admits-cut h c s =
+      same (admits c (cut k a)) (admits c a) (admits-up c (cut k a) a cut-within)
+      (λ t. let r = admits-has c a t in has-admits c (cut k a) (r .0) (r .1) (within-cut h (r .0) (inRange-has (2 ^ k) c s (r .0) (r .1)) (r .2)))

@@ -8,11 +8,11 @@ use Rattle.book.specs.Book.{Call, Mode, Clause, Book}
 use Rattle.book.specs.Table.{Table}
 use Rattle.book.proofs.Laws.Examples.{k1-book}
 use Rattle.ordering.proofs.Laws.Brought.{computing}
-use Rattle.tables.specs.Table.{modeOf, firstNeeds, start, own, defined, good, next, step, table, settled, patternsOf, seek, rounds, final}
+use Rattle.tables.specs.Table.{modeOf, firstNeeds, start, own, defined, good, gets, next, step, table, settled, patternsOf, seek, rounds, final}
 use Rattle.tables.specs.Image.{image}
 
 unfoldable pub compute : Unit {0}
-unfolding computing drops least written minimise k1-book modeOf firstNeeds start own defined good next step table settled patternsOf seek rounds final
+unfolding computing drops least written minimise k1-book modeOf firstNeeds start own defined good gets next step table settled patternsOf seek rounds final
 compute = tt
 
 -- ---- books

@@ -1,19 +1,20 @@
 -- Table 0 as it is held, predicate by predicate; and the image of a table, row by row. Assumes nothing.
 use mathlib.Core.Path.{_≡_, refl, sym, ap, ap₂, _∙_}
-use mathlib.Core.Bool.{Bool, true, false, cond}
+use mathlib.Core.Bool.{true, false, cond}
 use mathlib.Core.List.{List, [], _∷_, _++_}
 use mathlib.Core.Option.{none, some}
 use Prim.Native.Nat.{ℕ, _+_, _<_}
 use native.Mathlib.Numerals.{add-one}
 use native.Mathlib.Omega.{arith}
 use lib.Dec.{eqb}
-use lib.ListN.{length, getD, set, length-set}
+use lib.ListN.{length, set, length-set}
 use lib.Seq.{getD-set-same, getD-set-other}
 use borrow.Author.Tests.{eqb-true, eqb-false, eq-eqb, ne-eqb}
 use Rattle.masks.specs.Mask.{within}
 use Rattle.masks.specs.Set.{bitAt, members}
 use Rattle.masks.specs.Patterns.{EachLane}
-use Rattle.masks.specs.Constraint.{trivial, admits, minimise}
+use Rattle.masks.specs.Constraint.{trivial, admits, inRange, isWritten, minimise}
+use Rattle.masks.proofs.Laws.Constraint.{minimise-same}
 use Rattle.masks.specs.Lists.{values}
 use Rattle.masks.proofs.Laws.Logic.{byBool, or-left}
 use Rattle.masks.proofs.Laws.Mask.{within-zero}
@@ -22,14 +23,13 @@ use Rattle.masks.proofs.Laws.Patterns.{ones, bitAt-ones}
 use Rattle.masks.proofs.Laws.Sets.{members-none, members-zero}
 use Rattle.masks.proofs.Laws.Lists.{values-cong, getD-values}
 use Rattle.book.specs.Limits.{maxPredicates}
-use Rattle.book.specs.Book.{Mode}
 use Rattle.book.specs.Held.{hasIn, masksIn, modeBytes, modeAt, modesOf}
 use Rattle.book.specs.Table.{Table, entryIn, tableIn, Admitted}
 use Rattle.book.specs.Sets.{Cleared}
 use Rattle.book.proofs.Laws.Held.{modesOf-joined}
 use Rattle.writing.proofs.Laws.Chunks.{Chunks}
 use Rattle.tables.proofs.Laws.Modes.{modeOf-joined}
-use Rattle.tables.specs.Table.{modeOf, firstNeed, firstNeeds}
+use Rattle.tables.specs.Table.{modeOf, asked, firstNeeds}
 use Rattle.tables.specs.Image.{row, rows}
 
 -- ---- table 0
@@ -49,10 +49,11 @@ module _ (modes : List ℕ) (p : ℕ) where
 
 -- so what p needs first: nothing where it has no MO, else its alternatives, minimised
 module _ (modes : List ℕ) (p : ℕ) (h : p < maxPredicates) where
-  pub first-none : hasIn (modeBytes modes p) ≡ false → trivial ≡ firstNeed (modeOf (modesOf modes maxPredicates) p)
-  first-none e = rw (modeOf-modesOf modes p maxPredicates h, e)
+  pub first-none : hasIn (modeBytes modes p) ≡ false → trivial ≡ minimise (asked (modeOf (modesOf modes maxPredicates) p))
+  unfolding isWritten inRange
+  first-none e = rw (modeOf-modesOf modes p maxPredicates h, e) (sym (minimise-same trivial refl))
 
-  pub first-some : hasIn (modeBytes modes p) ≡ true → minimise (masksIn (modeBytes modes p)) ≡ firstNeed (modeOf (modesOf modes maxPredicates) p)
+  pub first-some : hasIn (modeBytes modes p) ≡ true → minimise (masksIn (modeBytes modes p)) ≡ minimise (asked (modeOf (modesOf modes maxPredicates) p))
   first-some e = rw (modeOf-modesOf modes p maxPredicates h, e)
 
 -- the loop that makes it: the first p constraints are there
@@ -77,7 +78,7 @@ filling-start modes table words s r t u =
     }
 
 pub filling-next : (modes : List ℕ) (p : ℕ) {table words : List ℕ} (masks patterns : ℕ) → p < maxPredicates
-    → members masks ≡ firstNeed (modeOf (modesOf modes maxPredicates) p) → EachLane (λ a. bitAt patterns a ≡ admits (members masks) a)
+    → members masks ≡ minimise (asked (modeOf (modesOf modes maxPredicates) p)) → EachLane (λ a. bitAt patterns a ≡ admits (members masks) a)
     → Filling modes p table words → Filling modes (p + 1) (set table p masks) (set words p patterns)
 unfolding tableIn firstNeeds
 filling-next modes p {table} {words} masks patterns h e f g =

@@ -1,18 +1,17 @@
 -- What modes say of a predicate: that of the first MO it has; where they rise, they are told by what they say. Assumes nothing.
 use mathlib.Core.Path.{_≡_, refl, sym, ap, ap₂, _∙_}
-use mathlib.Core.Bool.{Bool, true, false, cond, _||_}
+use mathlib.Core.Bool.{Bool, true, false, cond}
 use mathlib.Core.List.{List, [], _∷_, _++_}
 use mathlib.Core.Option.{Option, none, some, Option·none-ne-some, Option·some-injective}
 use Prim.Native.Nat.{ℕ, zero, suc, _≤_, _<_}
 use native.Mathlib.Omega.{arith}
 use lib.Dec.{eqb, ltb, leb}
 use borrow.Author.Tests.{eqb-true, eq-eqb, ne-eqb, ltb-true, leb-true, le-leb}
-use Rattle.masks.specs.Lists.{any, all, joined}
+use Rattle.masks.specs.Lists.{all, joined}
 use Rattle.book.specs.Book.{Mode}
-use Rattle.book.specs.Format.{hasMode}
 use Rattle.book.specs.Encode.{rises}
 use Rattle.tables.specs.Table.{modeOf}
-use Rattle.masks.proofs.Laws.Logic.{byBool, byRange, clash, and-intro, and-left, and-right}
+use Rattle.masks.proofs.Laws.Logic.{byBool, byRange, and-intro, and-left, and-right}
 
 -- ---- modes one after the other
 
@@ -62,16 +61,6 @@ modeOf-all t (m ∷ ms) h p masks e = go (eqb (m .pred) p) refl (modeOf-all t ms
         → cond b (some (m .masks)) (modeOf ms p) ≡ some masks → t (record { pred = p; masks = masks }) ≡ true
     go true q r e = rw (← Option·some-injective (m .masks) masks e, ← eqb-true (m .pred) p q) (and-left (t m) (all t ms) h)
     go false q r e = r e
-
-pub mode-none : (ms : List Mode) (p : ℕ) → hasMode ms p ≡ false → modeOf ms p ≡ none
-unfolding modeOf hasMode
-mode-none [] p e = refl
-mode-none (m ∷ ms) p e = go (eqb (m .pred) p) (mode-none ms p) e
-  where
-    go : (b : Bool) → (any (λ (m : Mode). eqb (m .pred) p) ms ≡ false → modeOf ms p ≡ none) → (b || any (λ (m : Mode). eqb (m .pred) p) ms) ≡ false
-        → cond b (some (m .masks)) (modeOf ms p) ≡ none
-    go true r e = clash refl e
-    go false r e = r e
 
 -- ---- modes that rise say of each predicate one thing, and are told by what they say
 

@@ -1,7 +1,7 @@
--- One round. What is good stays good where more is bound or the table admits more; and a predicate's constraint after a round depends only on
+-- One round. What is good stays good where more is bound or the table admits more; and a predicate's constraint after a round depends only on its MO and on
 -- those of the predicates that its clauses call. Assumes nothing.
 use mathlib.Core.Path.{_≡_, refl, ap, _∙_, subst}
-use mathlib.Core.Bool.{Bool, true, false, cond, false≢true}
+use mathlib.Core.Bool.{Bool, true, false, cond, _&&_, false≢true}
 use mathlib.Core.List.{List, [], _∷_}
 use Prim.Native.Nat.{ℕ, _^_, _≤_, _<_}
 use lib.Dec.{eqb}
@@ -9,10 +9,10 @@ use lib.ListN.{length, getD, List·getD-eq-default}
 use Rattle.masks.specs.Lists.{any, all}
 use Rattle.masks.specs.Mask.{within}
 use Rattle.masks.specs.Constraint.{admits, written}
-use Rattle.masks.proofs.Laws.Logic.{and-left, and-right}
+use Rattle.masks.proofs.Laws.Logic.{and-intro, and-left, and-right}
 use Rattle.masks.proofs.Laws.Lists.{all-mono, all-same, length-values, getD-values}
 use Rattle.masks.proofs.Laws.Mask.{within-refl}
-use Rattle.masks.proofs.Laws.Constraint.{Up, admits-written-up, written-cong}
+use Rattle.masks.proofs.Laws.Constraint.{Up, admits-up, admits-written-up, written-sound, written-cong}
 use Rattle.book.specs.Book.{Clause, Book}
 use Rattle.book.specs.Table.{Table, entry, tableIn}
 use Rattle.book.proofs.Laws.Sets.{callsBelow}
@@ -21,7 +21,7 @@ use Rattle.ordering.proofs.Laws.Held.{outside, callsBelow-outside, tableIn-cut}
 use Rattle.ordering.proofs.Laws.Adorn.{More, more-refl}
 use Rattle.ordering.proofs.Laws.Good.{good-clause-mono, clause-same}
 use Rattle.tables.specs.Calls.{calls, touched}
-use Rattle.tables.specs.Table.{own, defined, good, next, step}
+use Rattle.tables.specs.Table.{modeOf, asked, own, defined, good, gets, next, step}
 
 -- ---- tables
 
@@ -47,6 +47,31 @@ good-up T cs p a b w = good-mono T T (more-refl T) cs p a b w
 pub good-more : (T U : Table) → More T U → (cs : List Clause) (p a : ℕ) → good T cs p a ≡ true → good U cs p a ≡ true
 good-more T U h cs p a = good-mono T U h cs p a a (within-refl a)
 
+-- ---- the patterns that a predicate gets: those of its MO that are good
+
+module _ (B : Book) where
+  pub gets-good : (T : Table) (p a : ℕ) → gets B T p a ≡ true → (admits (asked (modeOf (B .modes) p)) a ≡ true) × (good T (B .clauses) p a ≡ true)
+  unfolding gets
+  gets-good T p a e =
+      let m = admits (asked (modeOf (B .modes) p)) a in
+      (and-left m (good T (B .clauses) p a) e, and-right m (good T (B .clauses) p a) e)
+
+  pub good-gets : (T : Table) (p a : ℕ) → admits (asked (modeOf (B .modes) p)) a ≡ true → good T (B .clauses) p a ≡ true → gets B T p a ≡ true
+  unfolding gets
+  good-gets T p a m g = and-intro m g
+
+  gets-mono : (T U : Table) → More T U → (p a b : ℕ) → within a b ≡ true → gets B T p a ≡ true → gets B U p b ≡ true
+  gets-mono T U h p a b w e =
+      let g = gets-good T p a e in
+      good-gets U p b (admits-up (asked (modeOf (B .modes) p)) a b w (g .0)) (good-mono T U h (B .clauses) p a b w (g .1))
+
+  pub gets-up : (T : Table) (p : ℕ) → Up (gets B T p)
+  gets-up T p a b w = gets-mono T T (more-refl T) p a b w
+
+  -- MONOTONE, with the MO, which no round changes
+  pub gets-more : (T U : Table) → More T U → (p a : ℕ) → gets B T p a ≡ true → gets B U p a ≡ true
+  gets-more T U h p a = gets-mono T U h p a a (within-refl a)
+
 -- ---- who calls whom
 
 module _ (T U : Table) (x : ℕ → Bool) (agree : (q : ℕ) → x q ≡ false → entry T q ≡ entry U q) where
@@ -56,9 +81,11 @@ module _ (T U : Table) (x : ℕ → Bool) (agree : (q : ℕ) → x q ≡ false �
 
   -- so where no clause of p calls what changed, a round gives p what the round before gave it
   pub next-same : (B : Book) (p : ℕ) → defined (B .clauses) p ≡ true → touched x (B .clauses) p ≡ false → next B T p ≡ next B U p
-  unfolding next
+  unfolding next gets
   next-same B p d n =
-      rw d (written-cong (good T (B .clauses) p) (good U (B .clauses) p) (2 ^ getD (B .arities) p 0) (λ a l. good-same (B .clauses) p n a))
+      rw d
+      (written-cong (gets B T p) (gets B U p) (2 ^ getD (B .arities) p 0)
+      (λ a l. ap (λ (b : Bool). admits (asked (modeOf (B .modes) p)) a && b) (good-same (B .clauses) p n a)))
 
 -- clauses that call predicates below n only touch none that is not
 touched-inside : (n : ℕ) (cs : List Clause) (p : ℕ) → all (λ c. callsBelow n (c .body)) cs ≡ true → touched (outside n) cs p ≡ false
@@ -87,7 +114,7 @@ module _ (B : Book) (T : Table) where
     unfolding step
     step-at = getD-values (next B T) [] (length (B .arities)) p h
 
-    pub step-defined : defined (B .clauses) p ≡ true → entry (step B T) p ≡ written (good T (B .clauses) p) (2 ^ getD (B .arities) p 0)
+    pub step-defined : defined (B .clauses) p ≡ true → entry (step B T) p ≡ written (gets B T p) (2 ^ getD (B .arities) p 0)
     unfolding next
     step-defined d = step-at ∙ rw d
 
@@ -95,9 +122,12 @@ module _ (B : Book) (T : Table) where
     unfolding next
     step-outside d = step-at ∙ rw d
 
-    -- "gets exactly the patterns good"
-    pub step-admits : defined (B .clauses) p ≡ true → (a : ℕ) → a < 2 ^ getD (B .arities) p 0
-        → admits (entry (step B T) p) a ≡ good T (B .clauses) p a
+    -- "gets exactly the patterns good", of those of its MO
+    pub step-admits : defined (B .clauses) p ≡ true → (a : ℕ) → a < 2 ^ getD (B .arities) p 0 → admits (entry (step B T) p) a ≡ gets B T p a
     step-admits d a l =
-        ap (λ (c : List ℕ). admits c a) (step-defined d)
-        ∙ admits-written-up (good T (B .clauses) p) (good-up T (B .clauses) p) (2 ^ getD (B .arities) p 0) a l
+        ap (λ (c : List ℕ). admits c a) (step-defined d) ∙ admits-written-up (gets B T p) (gets-up B T p) (2 ^ getD (B .arities) p 0) a l
+
+    -- and none else, whatever stands in the bits past the arity
+    pub step-sound : defined (B .clauses) p ≡ true → (a : ℕ) → admits (entry (step B T) p) a ≡ true → gets B T p a ≡ true
+    step-sound d a e =
+        written-sound (gets B T p) (gets-up B T p) (2 ^ getD (B .arities) p 0) a (subst (λ (c : List ℕ). admits c a ≡ true) (step-defined d) e)

@@ -1,33 +1,33 @@
--- The rounds. Tables fall, since a round is monotone and table 0 admits all that the first can; a round that changes something takes a pattern away
+-- The rounds. Tables fall, since a round is monotone and table 0 admits all that a MO does; a round that changes something takes a pattern away
 -- from a predicate with clauses, so the rounds end within the number of their patterns; and the table they end in is the greatest whose patterns
 -- are good under itself. Assumes nothing.
 use mathlib.Core.Path.{_≡_, refl, sym, ap, ap₂, _∙_, subst}
 use mathlib.Core.Bool.{Bool, true, false, cond, false≢true}
 use mathlib.Core.List.{List, [], _∷_}
-use mathlib.Core.Option.{Option, none, some}
 use Prim.Native.Nat.{ℕ, zero, suc, _+_, _*_, _^_, _≤_, _<_}
 use native.Mathlib.Nat.{pow-le-pow-right}
 use native.Mathlib.Omega.{arith}
 use lib.Dec.{eqb}
 use lib.ListN.{length, getD}
-use lib.Pow.{pow-pos}
 use lib.Seq.{ext-getD}
-use borrow.Author.Tests.{eqb-true, eqb-false, lt-ltb, leb-true}
+use borrow.Author.Tests.{eqb-true, eqb-false, leb-true}
 use Rattle.masks.specs.Mask.{within}
-use Rattle.masks.specs.Constraint.{admits, trivial, inRange, isWritten, sameMasks}
+use Rattle.masks.specs.Limits.{allPatterns}
+use Rattle.masks.specs.Constraint.{admits, trivial, isWritten, minimise, sameMasks}
 use Rattle.masks.proofs.Laws.Logic.{byBool, clash, false-of, same, and-intro, and-left, and-right, or-left, byRange}
 use Rattle.masks.proofs.Laws.Lists.{length-values, getD-values}
 use Rattle.masks.proofs.Laws.Mask.{within-zero}
-use Rattle.masks.proofs.Laws.Constraint.{sameMasks-true, sameMasks-refl, canonical, written-isWritten, written-sound, written-mono, written-admits, minimise-isWritten-at}
+use Rattle.masks.proofs.Laws.Constraint.{sameMasks-true, sameMasks-refl, inRange-mono, canonical, written-isWritten, written-mono, written-admits, minimise-isWritten-at, admits-minimise}
+use Rattle.masks.proofs.Laws.Joining.{power-le}
 use Rattle.book.specs.Limits.{maxPredicates}
 use Rattle.book.specs.Book.{Book}
 use Rattle.book.specs.Encode.{WellFormed}
 use Rattle.book.specs.Table.{Table, entry}
 use Rattle.ordering.proofs.Laws.Adorn.{More, more-refl}
-use Rattle.tables.specs.Table.{modeOf, firstNeed, firstNeeds, start, defined, good, step, table, sameTable, settled, sumBelow, patternsOf, seek, rounds, final}
+use Rattle.tables.specs.Table.{modeOf, asked, firstNeeds, start, defined, good, gets, step, table, sameTable, settled, sumBelow, patternsOf, seek, rounds, final}
 use Rattle.tables.proofs.Laws.Sums.{sum-le, sum-stuck, sum-most, howMany, howMany-le, howMany-most, howMany-stuck}
-use Rattle.tables.proofs.Laws.Valid.{arity-low, masks-low, defined-apart}
-use Rattle.tables.proofs.Laws.Round.{past-none, more-trans, good-up, good-more, step-length, step-defined, step-outside}
+use Rattle.tables.proofs.Laws.Valid.{arity-low, asked-low}
+use Rattle.tables.proofs.Laws.Round.{past-none, more-trans, good-more, gets-good, good-gets, gets-more, step-length, step-defined, step-outside, step-sound}
 
 -- ---- equal tables, by the test
 
@@ -107,7 +107,7 @@ module _ (B : Book) where
       record {
         long = step-length B T;
         written· = λ p h. byBool (defined (B .clauses) p)
-            (λ d. rw (step-defined B T p h d) (written-isWritten (good T (B .clauses) p) (2 ^ getD (B .arities) p 0)))
+            (λ d. rw (step-defined B T p h d) (written-isWritten (gets B T p) (2 ^ getD (B .arities) p 0)))
             (λ d. rw (step-outside B T p h d) (t .written· p h));
       }
 
@@ -117,7 +117,7 @@ module _ (B : Book) where
       byRange p (length (B .arities))
       (λ h. byBool (defined (B .clauses) p)
       (λ d. rw (step-defined B U p h d)
-      (written-mono (good T (B .clauses) p) (good U (B .clauses) p) (2 ^ getD (B .arities) p 0) (λ x l. good-more T U f (B .clauses) p x) a
+      (written-mono (gets B T p) (gets B U p) (2 ^ getD (B .arities) p 0) (λ x l. gets-more B T U f p x) a
       (rw (step-defined B T p h d) at e)))
       (λ d. rw (step-outside B U p h d) (f p a (rw (step-outside B T p h d) at e))))
       (λ h. past-none (after T) p a (omega (arith, step-length B T)) e)
@@ -180,23 +180,30 @@ module _ (B : Book) where
   -- ---- a book that is well formed
 
   module _ (w : WellFormed B) where
-    pub start-at : (p : ℕ) → p < length (B .arities) → entry (start B) p ≡ firstNeed (modeOf (B .modes) p)
+    pub start-at : (p : ℕ) → p < length (B .arities) → entry (start B) p ≡ minimise (asked (modeOf (B .modes) p))
     unfolding start firstNeeds
-    start-at p h = getD-values (λ p. firstNeed (modeOf (B .modes) p)) [] (length (B .arities)) p h
-
-    start-written : (p : ℕ) (o : Option (List ℕ)) → modeOf (B .modes) p ≡ o → isWritten (2 ^ getD (B .arities) p 0) (firstNeed o) ≡ true
-    unfolding isWritten inRange
-    start-written p none e = rw (lt-ltb 0 (2 ^ getD (B .arities) p 0) (pow-pos (getD (B .arities) p 0)))
-    start-written p (some masks) e =
-        unfold isWritten in minimise-isWritten-at (2 ^ getD (B .arities) p 0) masks (masks-low B w p masks e)
+    start-at p h = getD-values (λ p. minimise (asked (modeOf (B .modes) p))) [] (length (B .arities)) p h
 
     pub start-proper : Proper B (start B)
     unfolding start firstNeeds
     start-proper =
         record {
-          long = length-values (λ p. firstNeed (modeOf (B .modes) p)) (length (B .arities));
-          written· = λ p h. rw (start-at p h) (start-written p (modeOf (B .modes) p) refl);
+          long = length-values (λ p. minimise (asked (modeOf (B .modes) p))) (length (B .arities));
+          written· = λ p h. rw (start-at p h) (minimise-isWritten-at (2 ^ getD (B .arities) p 0) (asked (modeOf (B .modes) p)) (asked-low B w p));
         }
+
+    -- table 0 asks of a predicate what its MO asks
+    pub start-asked : (p a : ℕ) → p < length (B .arities) → admits (entry (start B) p) a ≡ admits (asked (modeOf (B .modes) p)) a
+    start-asked p a h =
+        let m = asked (modeOf (B .modes) p) in
+        ap (λ (c : List ℕ). admits c a) (start-at p h)
+        ∙ admits-minimise m (inRange-mono (2 ^ getD (B .arities) p 0) allPatterns m (power-le (getD (B .arities) p 0) (arity-low B w p)) (asked-low B w p)) a
+
+    -- so a table below it lies inside every MO
+    pub below-asked : (T : Table) → More T (start B) → (p a : ℕ) → admits (entry T p) a ≡ true → admits (asked (modeOf (B .modes) p)) a ≡ true
+    below-asked T f p a e =
+        byRange p (length (B .arities)) (λ h. sym (start-asked p a h) ∙ f p a e)
+        (λ h. let l = start-proper .long in past-none (start B) p a (omega arith) (f p a e))
 
     pub table-proper : (k : ℕ) → Proper B (table B k)
     unfolding table
@@ -213,7 +220,7 @@ module _ (B : Book) where
     first-falls p a e =
         byRange p (length (B .arities))
         (λ h. byBool (defined (B .clauses) p)
-        (λ d. rw (start-at p h, defined-apart B w p d) (trivial-admits a))
+        (λ d. start-asked p a h ∙ gets-good B (start B) p a (step-sound B (start B) p h d a e) .0)
         (λ d. rw (step-outside B (start B) p h d) at e))
         (λ h. past-none (after (start B)) p a (omega (arith, step-length B (start B))) e)
 
@@ -261,13 +268,16 @@ module _ (B : Book) where
     unfolding final
     final-below-start = below-start (rounds B)
 
+    -- W6: the final table lies inside every MO
+    pub final-asked : (p a : ℕ) → admits (entry (final B) p) a ≡ true → admits (asked (modeOf (B .modes) p)) a ≡ true
+    final-asked = below-asked (final B) final-below-start
+
     -- what the final table admits of a predicate with clauses is good under it
     pub final-closed : Closed (final B)
     final-closed p d a e =
         byRange p (length (B .arities))
-        (λ h. written-sound (good (final B) (B .clauses) p) (good-up (final B) (B .clauses) p) (2 ^ getD (B .arities) p 0) a
-        (subst (λ (c : List ℕ). admits c a ≡ true) (step-defined B (final B) p h d)
-        (subst (λ (W : Table). admits (entry W p) a ≡ true) (sym final-fixed) e)))
+        (λ h.
+        gets-good B (final B) p a (step-sound B (final B) p h d a (subst (λ (W : Table). admits (entry W p) a ≡ true) (sym final-fixed) e)) .1)
         (λ h. let l = final-proper .long in past-none (final B) p a (omega arith) e)
 
     -- GREATEST: a table below table 0 whose patterns are good under itself is below every table, so below the final one
@@ -281,8 +291,8 @@ module _ (B : Book) where
             byRange p (length (B .arities))
             (λ h. byBool (defined (B .clauses) p)
             (λ d. rw (step-defined B (table B k) p h d)
-            (written-mono (admits (entry X p)) (good (table B k) (B .clauses) p) (2 ^ getD (B .arities) p 0)
-            (λ y l g. good-more X (table B k) ih (B .clauses) p y (f p d y g)) a
+            (written-mono (admits (entry X p)) (gets B (table B k) p) (2 ^ getD (B .arities) p 0)
+            (λ y l g. good-gets B (table B k) p y (below-asked X s p y g) (good-more X (table B k) ih (B .clauses) p y (f p d y g))) a
             (subst (λ (c : List ℕ). admits c a ≡ true) (sym (written-admits (2 ^ getD (B .arities) p 0) (entry X p) (x .written· p h))) e)))
             (λ d. rw (step-outside B (table B k) p h d) (ih p a e)))
             (λ h. let l = x .long in past-none X p a (omega arith) e)
