@@ -15,7 +15,7 @@ use Rattle.book.specs.Held.{clauseAt, clausesOf, modesOf}
 use Rattle.book.specs.Table.{Table, entry, entryIn, tableIn, Admitted}
 use Rattle.book.specs.Sets.{Cleared, Owns}
 use Rattle.ordering.specs.Good.{goodClause}
-use Rattle.tables.specs.Table.{defined, step, rounds, final}
+use Rattle.tables.specs.Table.{modeOf, asked, defined, step, rounds, final}
 use Rattle.needs.specs.Sets.{eachIn}
 
 -- ---- a round
@@ -35,11 +35,12 @@ pub record Given (B : Book) (rules own : List ℕ) : Type 0 where
   pub clauses· : clausesOf rules (length (B .clauses)) ≡ B .clauses
   pub owns : Owns rules (length (B .clauses)) own
 
--- the predicates due have clauses; each has its constraint in written form, and a round takes patterns from it and gives none; it gives the others what
--- they have
+-- the predicates due have clauses; each has its constraint in written form, inside its MO, and a round takes patterns from it and gives none; it gives the
+-- others what they have
 pub record Due (B : Book) (T : Table) (due : ℕ) : Type 0 where
   pub defined· : (p : ℕ) → bitAt due p ≡ true → defined (B .clauses) p ≡ true
   pub written· : (p : ℕ) → p < length (B .arities) → isWritten allPatterns (entry T p) ≡ true
+  pub inside : (p a : ℕ) → admits (entry T p) a ≡ true → admits (asked (modeOf (B .modes) p)) a ≡ true
   pub falls : (p a : ℕ) → admits (entry (step B T) p) a ≡ true → admits (entry T p) a ≡ true
   pub others : (p : ℕ) → p < length (B .arities) → bitAt due p ≡ false → entry (step B T) p ≡ entry T p
 

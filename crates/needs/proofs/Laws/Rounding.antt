@@ -1,5 +1,6 @@
 -- A round, predicate by predicate: those due get the patterns that they had and under which their clauses are good, the others keep what they have, and
--- those marked are the ones that have others than before. Since a table only loses patterns, and the others would get what they have, that is a step.
+-- those marked are the ones that have others than before. Since a table only loses patterns, from those of the MO on, and the others would get what they
+-- have, that is a step.
 -- Assumes nothing.
 use mathlib.Core.Path.{_≡_, refl, sym, ap, ap₂, _∙_, subst}
 use mathlib.Core.Bool.{Bool, true, false, _&&_, _||_, or-false}
@@ -26,7 +27,7 @@ use Rattle.book.proofs.Laws.Held.{clausesOf-at}
 use Rattle.book.proofs.Laws.Table.{tableIn-at}
 use Rattle.tables.specs.Table.{good, defined, step}
 use Rattle.tables.proofs.Laws.Valid.{defined-known, bodies-known, clause-callable}
-use Rattle.tables.proofs.Laws.Round.{good-cut}
+use Rattle.tables.proofs.Laws.Round.{gets-good, good-gets, good-cut}
 use Rattle.tables.proofs.Laws.Full.{step-full}
 use Rattle.needs.specs.Round.{allGood, Stays, Given, Due, Stepped, AllSame, Compares}
 use Rattle.needs.proofs.Laws.Calls.{own-good}
@@ -55,7 +56,7 @@ module _ (B : Book) (rules own· : List ℕ) (g : Given B rules own·) where
       ∙ ap (λ (cs : List Clause). good (tableIn table maxPredicates) cs p a) (g .clauses·)
       ∙ good-cut table (length (B .arities)) maxPredicates few-predicates (B .clauses) (bodies-known B (g .well)) p a
 
-  -- so what stays of the patterns that it had is what the step gives it, since the tables fall
+  -- so what stays of the patterns that it had is what the step gives it, since the tables fall and lie inside the MO
   pub good-stepped : (table old : List ℕ) {due : ℕ} → Admitted table old → Due B (tableIn table (length (B .arities))) due → (p : ℕ) → bitAt due p ≡ true
       → (word : ℕ) → EachLane (λ a. bitAt word a ≡ (bitAt (getD old p 0) a && allGood rules (getD own· p 0) table a))
       → EachLane (λ a. bitAt word a ≡ admits (entry (step B (tableIn table (length (B .arities)))) p) a)
@@ -66,11 +67,12 @@ module _ (B : Book) (rules own· : List ℕ) (g : Given B rules own·) where
       let few = few-predicates in
       let m : p < maxPredicates = omega arith in
       let now = step-full B (g .well) T p h (d .defined· p e) a in
+      let ok = good T (B .clauses) p a in
       f a l
-      ∙ ap₂ (λ (x y : Bool). x && y)
-      (t p m a l ∙ ap (λ (c : List ℕ). admits c a) (sym (tableIn-at table n p h))) (all-good table p a m ∙ sym now)
-      ∙ same (admits (entry T p) a && admits (entry (step B T) p) a) (admits (entry (step B T) p) a)
-      (λ q. and-right (admits (entry T p) a) (admits (entry (step B T) p) a) q) (λ q. and-intro (d .falls p a q) q)
+      ∙ ap₂ (λ (x y : Bool). x && y) (t p m a l ∙ ap (λ (c : List ℕ). admits c a) (sym (tableIn-at table n p h))) (all-good table p a m)
+      ∙ same (admits (entry T p) a && ok) (admits (entry (step B T) p) a)
+      (λ q. now ∙ good-gets B T p a (d .inside p a (and-left (admits (entry T p) a) ok q)) (and-right (admits (entry T p) a) ok q))
+      (λ q. and-intro (d .falls p a q) (gets-good B T p a (sym now ∙ q) .1))
 
 -- ---- the loop over the predicates due: those below n are done
 
