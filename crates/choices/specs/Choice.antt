@@ -1,17 +1,16 @@
 -- Choices of orders. Document 01, "The plan": what a choice is, what it reaches, and when it makes the book well-moded. Assumes nothing.
 use mathlib.Core.Path.{_≡_}
-use mathlib.Core.Bool.{true, false}
+use mathlib.Core.Bool.{true}
 use mathlib.Core.List.{List}
-use mathlib.Core.Option.{Option, none, some}
 use Prim.Native.Nat.{ℕ, _<_}
 use lib.ListN.{length, getD}
-use Rattle.masks.specs.Constraint.{trivial, admits}
+use Rattle.masks.specs.Constraint.{admits}
 use Rattle.book.specs.Book.{Clause, noClause, Book}
 use Rattle.ordering.specs.Adorn.{nothing, headBound}
 use Rattle.ordering.specs.Orders.{Rearranges}
 use Rattle.ordering.specs.Good.{brought}
 use Rattle.ordering.specs.Asks.{Asked, asks, called}
-use Rattle.tables.specs.Table.{modeOf, defined}
+use Rattle.tables.specs.Table.{modeOf, asked}
 
 -- "clauses are numbered from 0" (past the last: a clause that says nothing)
 unfoldable pub clause : Book → ℕ → Clause
@@ -45,16 +44,12 @@ pub data Reaches (B : Book) (χ : Choice) : ℕ → ℕ → Type 0 where
   by-clause : {a q b : ℕ} (k : ℕ) → k < length (B .clauses) → Reaches B χ (clause B k .head .pred) a → called q b (clauseCalls B χ k a) ≡ true
       → Reaches B χ q b
 
--- ---- "A choice makes the book well-moded (definition 3.14) when every reached pattern of an outside predicate fits its constraint."; W3: "a well-moded
--- choice needs this of every reached clause", that each head variable in none of its subgoals is bound by the pattern reached
-
--- "An outside predicate with no MO asks for nothing: it is trivial."
-abbrev pub asked : Option (List ℕ) → List ℕ
-asked none = trivial
-asked (some masks) = masks
+-- ---- "A choice makes the book well-moded (definition 3.14) when every reached pattern of an outside predicate fits its constraint."; W6: "has every reached
+-- pattern fit its declaration, for defined predicates as well"; W3: "a well-moded choice needs this of every reached clause", that each head variable in
+-- none of its subgoals is bound by the pattern reached
 
 pub record WellModed (B : Book) (χ : Choice) : Type 0 where
-  pub outside : (p a : ℕ) → Reaches B χ p a → defined (B .clauses) p ≡ false → admits (asked (modeOf (B .modes) p)) a ≡ true
+  pub fits : (p a : ℕ) → Reaches B χ p a → admits (asked (modeOf (B .modes) p)) a ≡ true
   pub brings : (k a : ℕ) → k < length (B .clauses) → Reaches B χ (clause B k .head .pred) a
       → brought (clause B k) (headBound (clause B k .head .args) a) ≡ true
 

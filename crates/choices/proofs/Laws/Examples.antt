@@ -11,8 +11,8 @@ use Rattle.masks.specs.Outcome.{Outcome, refused, done}
 use Rattle.book.specs.Encode.{run}
 use Rattle.ordering.specs.Asks.{Asked, asks}
 use Rattle.book.proofs.Laws.Examples.{k1-book}
-use Rattle.tables.proofs.Laws.Examples.{compute, choosy, stuck, chain, ill, several, fact}
-use Rattle.choices.specs.Choice.{clause, Choice, queryCalls, clauseCalls, by-query, WellModed}
+use Rattle.tables.proofs.Laws.Examples.{compute, choosy, stuck, chain, ill, several, fact, declared}
+use Rattle.choices.specs.Choice.{clause, Choice, queryCalls, clauseCalls, by-query, by-clause, WellModed}
 use Rattle.choices.specs.Reached.{marked, marksOf, nextCalls, allMarked, withCalls, grown, reached}
 use Rattle.choices.specs.Plan.{Row, firstChoice, chosen, rowsFor, rowsUnder, rowsOf, planRows, encQuery, encRow, image, planned}
 
@@ -98,6 +98,11 @@ refusal (done rounds bytes) = 0
 pub sevens : refusal (planned stuck) ∷ refusal (planned ill) ∷ [] ≡ 7 ∷ 0 ∷ []
 unfolding compute-plan
 sevens = refl
+
+-- W6: "for defined predicates as well": no order makes `declared` well-moded, whose query reaches p with nothing
+pub undeclared : WellModed declared (along (0 ∷ []) (0 ∷ [])) → ⊥
+unfolding compute-plan
+undeclared m = false≢true (m .fits 1 0 (by-clause {a = 0} 0 (omega arith) (by-query refl) refl))
 
 -- W3: "a well-moded choice needs this of every reached clause": no order makes `fact` well-moded, whose query brings nothing
 pub nothing-brought : WellModed fact (along (0 ∷ []) []) → ⊥

@@ -6,11 +6,8 @@ use mathlib.Core.Bool.{true}
 use mathlib.Core.Logic.{_↔_}
 use mathlib.Core.List.{List}
 use mathlib.Core.Option.{Option, none, some}
-use Prim.Native.Nat.{ℕ, zero, suc, _^_, _≤_, _<_}
-use native.Mathlib.Nat.{pow-le-pow-right}
-use native.Mathlib.Omega.{arith}
-use lib.ListN.{length, getD}
-use Rattle.masks.specs.Limits.{allPatterns}
+use Prim.Native.Nat.{ℕ, zero, suc, _<_}
+use lib.ListN.{length}
 use Rattle.masks.specs.Constraint.{admits}
 use Rattle.book.specs.Book.{Call, Clause, Book}
 use Rattle.book.specs.Encode.{WellFormed}
@@ -18,19 +15,17 @@ use Rattle.book.specs.Table.{Table, entry}
 use Rattle.ordering.specs.Adorn.{Bound, nothing, headBound}
 use Rattle.ordering.specs.Orders.{Rearranges}
 use Rattle.ordering.specs.Good.{readyAt, afterAt, goodFrom, firstGood, isSome, brought}
-use Rattle.tables.specs.Table.{modeOf, firstNeed, start, defined, good, step, table, rounds, final}
-use Rattle.choices.specs.Choice.{clause, Choice, IsChoice, queryCalls, clauseCalls, Reaches, by-query, by-clause, asked, WellModed}
+use Rattle.tables.specs.Table.{start, defined, good, step, table, rounds, final}
+use Rattle.choices.specs.Choice.{clause, Choice, IsChoice, queryCalls, clauseCalls, Reaches, by-query, by-clause, WellModed}
 use Rattle.choices.specs.Plan.{orStanding, firstChoice, chosen}
 use Rattle.masks.proofs.Laws.Logic.{byBool, clash}
-use Rattle.masks.proofs.Laws.Constraint.{inRange-mono, admits-written-up, admits-minimise}
 use Rattle.ordering.proofs.Laws.Orders.{standing}
 use Rattle.ordering.proofs.Laws.Greedy.{good-first}
 use Rattle.ordering.proofs.Laws.Good.{first-is-least, good-clause-parts, order-good-clause}
 use Rattle.ordering.proofs.Laws.Asks.{asks-fit, fit-asks, ready-asks}
-use Rattle.tables.proofs.Laws.Valid.{arity-low, masks-low, defined-apart}
 use Rattle.tables.proofs.Laws.Own.{good-at, at-good, defined-at}
-use Rattle.tables.proofs.Laws.Round.{good-up, step-defined, step-outside}
-use Rattle.tables.proofs.Laws.Rounds.{trivial-admits, start-at, final-below-start, final-closed}
+use Rattle.tables.proofs.Laws.Round.{good-gets, step-admits, step-outside}
+use Rattle.tables.proofs.Laws.Rounds.{start-asked, final-asked, final-closed}
 use Rattle.choices.proofs.Laws.Reached.{reaches-inside}
 
 -- ---- the first good order, or the subgoals as they stand
@@ -59,16 +54,6 @@ chosen-choice T B = record {
 }
 
 module _ (B : Book) (w : WellFormed B) where
-  -- table 0 asks of a predicate what its MO asks
-  start-asked : (p a : ℕ) → p < length (B .arities) → admits (entry (start B) p) a ≡ admits (asked (modeOf (B .modes) p)) a
-  start-asked p a h = rw (start-at B w p h) (go (modeOf (B .modes) p) refl)
-    where
-      go : (o : Option (List ℕ)) → modeOf (B .modes) p ≡ o → admits (firstNeed o) a ≡ admits (asked o) a
-      go none e = refl
-      go (some masks) e =
-          let n : 2 ^ getD (B .arities) p 0 ≤ 64 = pow-le-pow-right (omega arith) (arity-low B w p) in
-          admits-minimise masks (inRange-mono (2 ^ getD (B .arities) p 0) allPatterns masks n (masks-low B w p masks e)) a
-
   -- a clause is good under each pattern that the final table admits of its predicate
   final-clause : (k a : ℕ) → k < length (B .clauses) → admits (entry (final B) (clause B k .head .pred)) a ≡ true
       → (isSome (firstGood (final B) (clause B k .body) (headBound (clause B k .head .args) a)) ≡ true)
@@ -102,23 +87,16 @@ module _ (B : Book) (w : WellFormed B) where
         → brought (clause B k) (headBound (clause B k .head .args) a) ≡ true
     reached-brought k a l r = final-clause k a l (reached-final r) .1
 
-    -- SOUND: "A choice makes the book well-moded (definition 3.14) when every reached pattern of an outside predicate fits its constraint.", with W3's
-    -- rule; the one chosen does
+    -- SOUND: "A choice makes the book well-moded (definition 3.14) when every reached pattern of an outside predicate fits its constraint.", and of a defined
+    -- one its declaration, with W3's rule; the one chosen does
     pub sound : WellModed B (chosen B)
-    unfolding chosen
-    sound = record {
-      outside = λ p a r d.
-          sym (start-asked p a (reaches-inside B (chosen B) w (chosen-choice (final B) B) r .0)) ∙ final-below-start B w p a (reached-final r);
-      brings = reached-brought;
-    }
+    sound = record { fits = λ p a r. final-asked B w p a (reached-final r); brings = reached-brought }
 
   -- ---- any choice that makes the book well-moded
 
   module _ (χ : Choice) (ok : IsChoice B χ) (moded : WellModed B χ) where
     reached-start : (p a : ℕ) → Reaches B χ p a → admits (entry (start B) p) a ≡ true
-    reached-start p a r =
-        start-asked p a (reaches-inside B χ w ok r .0)
-        ∙ byBool (defined (B .clauses) p) (λ d. rw (defined-apart B w p d) (trivial-admits a)) (λ d. moded .outside p a r d)
+    reached-start p a r = start-asked B w p a (reaches-inside B χ w ok r .0) ∙ moded .fits p a r
 
     -- where a table admits all that is reached, what is reached is good under it
     reached-under : (T : Table) → ((q b : ℕ) → Reaches B χ q b → admits (entry T q) b ≡ true) → (p a : ℕ) → Reaches B χ p a
@@ -144,9 +122,7 @@ module _ (B : Book) (w : WellFormed B) where
         go T ih =
             let i = reaches-inside B χ w ok r in
             byBool (defined (B .clauses) p)
-            (λ d. rw (step-defined B T p (i .0) d)
-            (admits-written-up (good T (B .clauses) p) (good-up T (B .clauses) p) (2 ^ getD (B .arities) p 0) a (i .1)
-            ∙ reached-under T ih p a r))
+            (λ d. step-admits B T p (i .0) d a (i .1) ∙ good-gets B T p a (moded .fits p a r) (reached-under T ih p a r))
             (λ d. rw (step-outside B T p (i .0) d) (ih p a r))
 
     -- COMPLETE: "Reply 7 is given exactly when no choice does."; where one does, the query has an order good against the final table

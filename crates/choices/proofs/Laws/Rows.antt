@@ -221,8 +221,8 @@ module _ (B : Book) (w : WellFormed B) where
   pub body-few : (k : ℕ) → k < length (B .clauses) → length (clause B k .body) ≤ maxSubgoals
   unfolding clause
   body-few k h =
-      clause-few (B .arities) (B .modes) (clause B k)
-      (all-at (clauseFits (B .arities) (B .modes)) noClause (B .clauses) k h (w .clausesFit))
+      clause-few (B .arities) (clause B k)
+      (all-at (clauseFits (B .arities)) noClause (B .clauses) k h (w .clausesFit))
 
 -- "At most .. 64 clauses, 8 subgoals in a body or query, arity 6": 64 clauses under 64 patterns, 13 bytes each
 pub rows-length : (B : Book) (χ : Choice) (f : ℕ → ℕ → Bool) → WellFormed B → IsChoice B χ → length (run encRow (rowsUnder B χ f)) ≤ 53248
