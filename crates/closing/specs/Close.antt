@@ -1,5 +1,5 @@
--- Closing. Document 01, "Joining and closing": "Closing takes a book and a set of predicates as a 64-bit number, bit p for predicate p." Every
--- definition computes. Assumes nothing.
+-- Closing. Document 01, "Joining and closing": "Closing takes a book and a set of predicates as a 64-bit number, bit p for predicate p."; document 02's W6:
+-- "Closing writes the final constraint over the MO." Every definition computes. Assumes nothing.
 use mathlib.Core.Bool.{Bool, cond}
 use mathlib.Core.List.{List, [], _∷_}
 use mathlib.Core.Option.{Option, none, some}

@@ -10,7 +10,7 @@ use Rattle.book.specs.Format.{markAt, many, predicate, query, rules, readBook, 
 use Rattle.book.specs.Encode.{encode}
 use Rattle.book.specs.Answer.{onBook}
 use Rattle.book.proofs.Laws.Examples.{k1-book}
-use Rattle.tables.proofs.Laws.Examples.{compute, chain, several}
+use Rattle.tables.proofs.Laws.Examples.{compute, chain, several, joined}
 use Rattle.closing.specs.Close.{keptClauses, closedMode, closedModes, closeOver, close, lacked, closed, closing}
 
 compute-close : Unit {0}
@@ -42,6 +42,11 @@ modes-turn = refl
 pub mode-anew : closedModes (bitAt 1) ((1 ∷ []) ∷ []) (needs 0 (3 ∷ 1 ∷ 1 ∷ []) ∷ []) 1 ≡ needs 0 (1 ∷ []) ∷ []
 unfolding compute-close
 mode-anew = refl
+
+-- W6: "Closing writes the final constraint over the MO": p of `joined`, which has MO and a clause
+pub mode-over : close 1 joined .modes ≡ needs 0 (3 ∷ []) ∷ needs 1 (1 ∷ []) ∷ []
+unfolding compute-close
+mode-over = refl
 
 -- "the lowest such number": of 0, 1, 5 and 6 the lowest that a book of four predicates lacks
 pub lowest : lacked 99 4 ≡ some 5

@@ -3,7 +3,7 @@
 use mathlib.Core.Path.{_≡_, refl, sym, ap, _∙_}
 use mathlib.Core.Bool.{Bool, true, false, cond, _||_}
 use mathlib.Core.List.{List, [], _∷_}
-use mathlib.Core.Option.{some}
+use mathlib.Core.Option.{Option, some}
 use Prim.Native.Nat.{ℕ, _^_, _<_}
 use native.Mathlib.Omega.{arith}
 use lib.Dec.{eqb}
@@ -11,12 +11,12 @@ use lib.ListN.{length, getD}
 use borrow.Author.Tests.{ne-eqb}
 use Rattle.masks.specs.Limits.{allPatterns}
 use Rattle.masks.specs.Lists.{all}
-use Rattle.masks.specs.Constraint.{admits}
+use Rattle.masks.specs.Constraint.{admits, minimise}
 use Rattle.book.specs.Book.{Clause, Book}
 use Rattle.book.specs.Encode.{WellFormed}
 use Rattle.book.specs.Table.{Table, entry}
 use Rattle.ordering.specs.Good.{goodClause}
-use Rattle.tables.specs.Table.{modeOf, firstNeed, start, own, defined, good, final}
+use Rattle.tables.specs.Table.{modeOf, asked, start, own, defined, good, final}
 use Rattle.closing.specs.Close.{keptClauses, closedMode, closedModes, closeOver}
 use Rattle.masks.proofs.Laws.Logic.{byBool, byRange, clash}
 use Rattle.masks.proofs.Laws.Constraint.{isWritten-mono, minimise-same}
@@ -107,13 +107,13 @@ module _ (S : ℕ → Bool) (B : Book) where
     start-goes p h s =
         let k : ℕ = getD (B .arities) p 0 in
         start-at (closeOver S B) v p h
-        ∙ ap firstNeed (mode-goes p h s)
+        ∙ ap (λ (o : Option (List ℕ)). minimise (asked o)) (mode-goes p h s)
         ∙ minimise-same (entry (final B) p)
         (isWritten-mono (2 ^ k) allPatterns (entry (final B) p) (power-le k (arity-low B w p)) (final-proper B w .written· p h))
 
     start-stays : (p : ℕ) → p < length (B .arities) → S p ≡ false → entry (start (closeOver S B)) p ≡ entry (start B) p
     unfolding closeOver
-    start-stays p h s = start-at (closeOver S B) v p h ∙ ap firstNeed (mode-stays p h s) ∙ sym (start-at B w p h)
+    start-stays p h s = start-at (closeOver S B) v p h ∙ ap (λ (o : Option (List ℕ)). minimise (asked o)) (mode-stays p h s) ∙ sym (start-at B w p h)
 
     -- ---- each final table is below the other
 

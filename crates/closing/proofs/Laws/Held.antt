@@ -14,9 +14,9 @@ use Rattle.masks.specs.Lists.{all}
 use Rattle.masks.specs.Set.{bitAt, Holds}
 use Rattle.book.specs.Limits.{maxPredicates, maxClauses}
 use Rattle.book.specs.Book.{Mode, Clause, Book}
-use Rattle.book.specs.Format.{allows, hasMode}
+use Rattle.book.specs.Format.{allows}
 use Rattle.book.specs.Encode.{modeFits, WellFormed}
-use Rattle.book.specs.Held.{hasIn, masksIn, modeBytes, HaveMode, modeAt, modesOf, clausesOf, bookIn}
+use Rattle.book.specs.Held.{hasIn, masksIn, modeBytes, hasMode, HaveMode, modeAt, modesOf, clausesOf, bookIn}
 use Rattle.book.specs.Table.{Table, entry, entryIn, tableIn}
 use Rattle.tables.specs.Table.{modeOf, final}
 use Rattle.closing.specs.Close.{keptClauses, closedMode, modeWith, closedModes, closeOver, close, lacked}

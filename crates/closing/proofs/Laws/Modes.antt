@@ -1,21 +1,20 @@
 -- Modes made from what each predicate is given: they say of each predicate what it was given, they rise, and modes that rise are made again from
 -- what they say. Assumes nothing.
 use mathlib.Core.Path.{_≡_, refl, sym, _∙_}
-use mathlib.Core.Bool.{Bool, true, or-false}
+use mathlib.Core.Bool.{Bool, true}
 use mathlib.Core.List.{List, [], _∷_, _++_}
 use mathlib.Core.Option.{Option, none, some}
 use Prim.Native.Nat.{ℕ, zero, suc, _≤_, _<_}
 use native.Mathlib.Omega.{arith}
-use lib.Dec.{eqb, ltb, leb}
-use borrow.Author.Tests.{eqb-true, eq-eqb, ne-eqb, ltb-true, lt-ltb, le-leb}
-use Rattle.masks.specs.Lists.{any, all, joined}
+use lib.Dec.{ltb, leb}
+use borrow.Author.Tests.{eq-eqb, ne-eqb, ltb-true, lt-ltb, le-leb}
+use Rattle.masks.specs.Lists.{all, joined}
 use Rattle.book.specs.Book.{Mode}
-use Rattle.book.specs.Format.{hasMode}
 use Rattle.book.specs.Encode.{rises}
 use Rattle.tables.specs.Table.{modeOf}
 use Rattle.closing.specs.Close.{modeWith}
-use Rattle.masks.proofs.Laws.Logic.{byRange, clash, and-intro, and-left, and-right}
-use Rattle.masks.proofs.Laws.Lists.{all-append, joined-any}
+use Rattle.masks.proofs.Laws.Logic.{byRange, and-intro, and-left, and-right}
+use Rattle.masks.proofs.Laws.Lists.{all-append}
 use Rattle.tables.proofs.Laws.Modes.{modeOf-before, modeOf-joined, modeOf-over, rises-ext}
 
 -- ---- one mode, and modes one after the other
@@ -30,23 +29,11 @@ unfolding modeOf
 modeOf-other q none p ne = refl
 modeOf-other q (some masks) p ne = rw (ne-eqb q p ne)
 
-with-mode : (q p : ℕ) (o : Option (List ℕ)) → any (λ (m : Mode). eqb (m .pred) p) (modeWith q o) ≡ true
-    → (q ≡ p) × ((masks : List ℕ) × (o ≡ some masks))
-with-mode q p none t = clash t refl
-with-mode q p (some masks) t = (eqb-true q p (sym (or-false (eqb q p)) ∙ t), (masks, refl))
-
 -- ---- what the modes made say
 
 module _ (f : ℕ → Option (List ℕ)) where
   pub modeOf-made : (n p : ℕ) → p < n → modeOf (joined (λ q. modeWith q (f q)) n) p ≡ f p
   modeOf-made n p h = modeOf-joined (λ q. modeWith q (f q)) p (λ q. modeOf-other q (f q) p) n h ∙ modeOf-with p (f p)
-
-  pub hasMode-made : (n p : ℕ) → hasMode (joined (λ q. modeWith q (f q)) n) p ≡ true → (p < n) × ((masks : List ℕ) × (f p ≡ some masks))
-  unfolding hasMode
-  hasMode-made n p t =
-      let r = joined-any (λ (m : Mode). eqb (m .pred) p) (λ q. modeWith q (f q)) n t in
-      let w = with-mode (r .0) p (f (r .0)) (r .2) in
-      rw (← w .0) (r .1, w .1)
 
 -- ---- a test of all of them
 
