@@ -9,7 +9,7 @@ use mathlib.Core.Option.{none, some}
 use Prim.Native.Nat.{ℕ, suc, _+_, _^_, _≤_, _<_}
 use lib.Bits.{bitOr}
 use lib.ListN.{length, getD, take, drop}
-use Rattle.masks.specs.Constraint.{admits}
+use Rattle.masks.specs.Constraint.{admits, written, minimise, joint as jointOf}
 use Rattle.masks.specs.Outcome.{Outcome, refused, done, Answers}
 use Rattle.masks.specs.Joining.{joining}
 use Rattle.masks.specs.declared.Way.the-variants.{Choice, Joint}
@@ -25,7 +25,7 @@ use Rattle.reading.specs.Judged.{checked}
 use Rattle.ordering.specs.Adorn.{Bound, nothing, headBound}
 use Rattle.ordering.specs.Orders.{In, Rearranges, LexLt, Least, Sorted}
 use Rattle.ordering.specs.Good.{goodFrom, brought, filled}
-use Rattle.tables.specs.Table.{modeOf, firstNeed, defined, table, rounds, final}
+use Rattle.tables.specs.Table.{modeOf, asked, defined, good, table, rounds, final}
 use Rattle.tables.specs.Image as analysed
 use Rattle.choices.specs.Choice.{clause, IsChoice, Reaches, WellModed, Orderable}
 use Rattle.choices.specs.Plan.{Row, rowKey, chosen, planRows, image, planning}
@@ -84,7 +84,7 @@ pub record Demand1 : Type 0 where
       → drop (r .value) after ≡ drop (r .value) out
   -- the strings that are books are the bytes of the books that keep to all limits
   pub books : (s : List ℕ) (B : Book) → (judge s ≡ book B) ↔ ((encode B ≡ s) × WellFormed B)
-  -- "The longest book is therefore 6,962 bytes .., the shortest 2": none is longer or shorter, and there is one of each length
+  -- W6: "The longest book grows to 6,986 bytes"; "the shortest 2": none is longer or shorter, and there is one of each length
   pub most : (s : List ℕ) (B : Book) → judge s ≡ book B → (shortest ≤ length s) × (length s ≤ longest)
   pub attained : BookOf shortest × BookOf longest
   -- and the check answers 0 with the value 0 exactly for the books
@@ -92,8 +92,9 @@ pub record Demand1 : Type 0 where
   -- all others have a first fault, with which they are refused
   pub faults : (s : List ℕ) (f : Fault) (at : ℕ) → judge s ≡ fault f at → Faulty s f at
 
--- ---- Demand 2: the needs are those of document 01; an accepted book gets orders in which every outside call has what it must have; a book is refused as
--- unorderable exactly when no orders give that; the order chosen is the first of the good ones
+-- ---- Demand 2: the needs are those of document 01, and W6's of what a book declares itself; an accepted book gets orders in which every outside call, and
+-- every call of a predicate with MO, has what it must have; a book is refused as unorderable exactly when no orders give that; the order chosen is the
+-- first of the good ones
 
 -- σ is an order of a body, and with b bound at the start it "makes every subgoal's pattern fit the constraint of its predicate" in a table.
 abbrev pub GoodOrder : Table → List Call → Bound → List ℕ → Type 0
@@ -103,6 +104,10 @@ GoodOrder T body b σ = Rearranges (length body) σ × (goodFrom T body b σ ≡
 -- well".
 abbrev pub GoodClause : Table → Clause → ℕ → Type 0
 GoodClause T c a = ((σ : List ℕ) × GoodOrder T (c .body) (headBound (c .head .args) a) σ) × (brought c (headBound (c .head .args) a) ≡ true)
+
+-- The pattern fits the MO of the predicate as the book gives it; one without MO "asks for nothing".
+abbrev pub FitsMode : Book → ℕ → ℕ → Type 0
+FitsMode B p a = admits (asked (modeOf (B .modes) p)) a ≡ true
 
 -- "A predicate's pattern is good when all its clauses are good under it."
 abbrev pub GoodPattern : Table → Book → ℕ → ℕ → Type 0
@@ -115,16 +120,21 @@ FirstGood T body b σ = Least (GoodOrder T body b) (some σ)
 -- Of the bytes of a valid book.
 pub record Demand2 (s : List ℕ) (B : Book) : Type 0 where
   -- "Table 0: each MO as given and minimised, all others trivial."
-  pub first : (p : ℕ) → p < length (B .arities) → entry (table B 0) p ≡ firstNeed (modeOf (B .modes) p)
-  -- "Table k+1: each predicate with clauses gets exactly the patterns good under table k, the rest keep theirs."
+  pub first : (p : ℕ) → p < length (B .arities) → entry (table B 0) p ≡ minimise (asked (modeOf (B .modes) p))
+  -- "Table k+1: each predicate with clauses gets exactly the patterns good under table k, the rest keep theirs.", and W6: of those that fit its MO; "every
+  -- round takes the joint of MO and clauses"
   pub gets : (k p a : ℕ) → p < length (B .arities) → defined (B .clauses) p ≡ true → a < 2 ^ getD (B .arities) p 0
-      → (admits (entry (table B (suc k)) p) a ≡ true) ↔ GoodPattern (table B k) B p a
+      → (admits (entry (table B (suc k)) p) a ≡ true) ↔ (FitsMode B p a × GoodPattern (table B k) B p a)
+  pub joint· : (k p : ℕ) → p < length (B .arities) → defined (B .clauses) p ≡ true
+      → entry (table B (suc k)) p ≡ jointOf (asked (modeOf (B .modes) p)) (written (good (table B k) (B .clauses) p) (2 ^ getD (B .arities) p 0))
   pub keeps : (k p : ℕ) → p < length (B .arities) → defined (B .clauses) p ≡ false → entry (table B (suc k)) p ≡ entry (table B k) p
   -- the analysis gives the image of table k and k rounds, where k is the least at which table k+1 equals table k
   pub needs : analysed.analysis s ≡ done (rounds B) (analysed.image B)
   pub last : final B ≡ table B (rounds B)
   pub settled : table B (suc (rounds B)) ≡ table B (rounds B)
   pub least : (k : ℕ) → table B (suc k) ≡ table B k → rounds B ≤ k
+  -- what it needs lies inside what the book declares of it
+  pub inside : (p a : ℕ) → admits (entry (final B) p) a ≡ true → FitsMode B p a
   -- a buffer of 1,536 bytes always suffices for it
   pub tableRoom : length (analysed.image B) ≤ longestTable
   -- reply 7 is given exactly when no choice of orders makes the book well-moded; else there is a plan
@@ -132,8 +142,8 @@ pub record Demand2 (s : List ℕ) (B : Book) : Type 0 where
   pub planned : (planning s ≡ done 0 (image B)) ↔ Orderable B
   -- "The longest plan is 53,259 bytes."
   pub planRoom : length (image B) ≤ longestPlan
-  -- its orders are a choice that makes the book well-moded: every reached pattern of an outside predicate fits what the book declares, and W3's rule holds
-  -- of every reached clause
+  -- its orders are a choice that makes the book well-moded: every reached pattern of a predicate, outside or defined, fits what the book declares, and W3's
+  -- rule holds of every reached clause
   pub choice· : Orderable B → IsChoice B (chosen B)
   pub wellModed : Orderable B → WellModed B (chosen B)
   -- it has a record for exactly the clauses of reached predicates, under the patterns reached
@@ -174,7 +184,7 @@ pub record SameNeeds (s : List ℕ) (B : Book) (t : List ℕ) : Type 0 where
 
 -- Of the bytes of a valid book.
 pub record Demand3 (s : List ℕ) (B : Book) : Type 0 where
-  -- a set with a predicate that the book lacks is refused with the lowest; any other is closed, and a buffer of 6,962 bytes always suffices
+  -- a set with a predicate that the book lacks is refused with the lowest; any other is closed, and a buffer of 6,986 bytes always suffices
   pub lacks : (set p : ℕ) → lacked set (length (B .arities)) ≡ some p → closing set s ≡ refused 8 p
   pub closes : (set : ℕ) → lacked set (length (B .arities)) ≡ none → {out : List ℕ} {r : Reply} {after : List ℕ} → Answers (closing set s) out r after
       → longest ≤ length out → r .number ≡ 0
@@ -192,8 +202,8 @@ pub record Demand3 (s : List ℕ) (B : Book) : Type 0 where
   pub none· : (t : List ℕ) → Closes 0 s t → t ≡ s
   pub one : (set : ℕ) (t u : List ℕ) → Closes set s t → Closes set s u → t ≡ u
 
--- ---- Document 01's examples: "K1 to K12 are proved as one table under one statement.", and W3's two. Where there are no numbers of predicates and no query,
--- the predicates without clauses come first, and the query reaches the patterns that are named.
+-- ---- Document 01's examples: "K1 to K12 are proved as one table under one statement.", W3's two, and books for W6. Where there are no numbers of predicates
+-- and no query, the predicates without clauses come first, and the query reaches the patterns that are named.
 
 pub data Example : Type 0 where
   -- the bytes of a valid book; its rounds and its table; its plan, or that it has none
@@ -307,6 +317,19 @@ examples =
     ∷ ofBook (PR (1 ∷ []) ++ CL (0 ∷ 0 ∷ []) ++ QU ++ SG (0 ∷ 255 ∷ []))
     1 (CN (0 ∷ 1 ∷ 1 ∷ []))
     (done 0 (QO (1 ∷ 0 ∷ []) ++ CO (0 ∷ 1 ∷ 0 ∷ [])))
+    -- W6: "A predicate may have both MO and clauses": p(X) :- q(X), where p asks for {1} itself: masks 1, in no round; the query p(X), q(X) asks q first,
+    -- and p(X) alone is refused
+    ∷ ofBook (PR (1 ∷ []) ++ PR (1 ∷ []) ++ MO (1 ∷ 1 ∷ 1 ∷ []) ++ CL (1 ∷ 0 ∷ []) ++ SG (0 ∷ 0 ∷ []) ++ QU ++ SG (1 ∷ 0 ∷ []) ++ SG (0 ∷ 0 ∷ []))
+    0 (CN (0 ∷ 1 ∷ 0 ∷ []) ++ CN (1 ∷ 1 ∷ 1 ∷ []))
+    (done 0 (QO (2 ∷ 1 ∷ 0 ∷ []) ++ CO (0 ∷ 1 ∷ 1 ∷ 0 ∷ [])))
+    ∷ ofBook (PR (1 ∷ []) ++ PR (1 ∷ []) ++ MO (1 ∷ 1 ∷ 1 ∷ []) ++ CL (1 ∷ 0 ∷ []) ++ SG (0 ∷ 0 ∷ []) ++ QU ++ SG (1 ∷ 0 ∷ []))
+    0 (CN (0 ∷ 1 ∷ 0 ∷ []) ++ CN (1 ∷ 1 ∷ 1 ∷ []))
+    (refused 7 0)
+    -- W6: "every round takes the joint of MO and clauses": p(X,Y) :- m(Y), h(X), where m and p ask for {1}: masks 3
+    ∷ ofBook (PR (1 ∷ []) ++ PR (1 ∷ []) ++ PR (2 ∷ []) ++ MO (0 ∷ 1 ∷ 1 ∷ []) ++ MO (2 ∷ 1 ∷ 1 ∷ []) ++ CL (2 ∷ 0 ∷ 1 ∷ []) ++ SG (0 ∷ 1 ∷ [])
+    ++ SG (1 ∷ 0 ∷ []) ++ QU ++ SG (2 ∷ 255 ∷ 255 ∷ []))
+    1 (CN (0 ∷ 1 ∷ 1 ∷ []) ++ CN (1 ∷ 1 ∷ 0 ∷ []) ++ CN (2 ∷ 1 ∷ 3 ∷ []))
+    (done 0 (QO (1 ∷ 0 ∷ []) ++ CO (0 ∷ 3 ∷ 2 ∷ 0 ∷ 1 ∷ [])))
     ∷ []
 
 -- ---- All of it

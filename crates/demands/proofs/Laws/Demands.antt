@@ -41,9 +41,10 @@ use Rattle.reading.proofs.Laws.Judged.{check-zero}
 use Rattle.ordering.proofs.Laws.Brought.{brought-ran, head-length}
 use Rattle.ordering.proofs.Laws.Good.{good-clause-parts, good-clause-order, order-good-clause}
 use Rattle.tables.proofs.Laws.Own.{good-at, at-good}
-use Rattle.tables.proofs.Laws.Round.{step-admits, step-outside}
+use Rattle.tables.proofs.Laws.Round.{gets-good, good-gets, step-admits, step-outside}
+use Rattle.tables.proofs.Laws.Full.{step-joint}
 use Rattle.tables.proofs.Laws.Image.{table-length}
-use Rattle.tables.proofs.Laws.Rounds.{sameTable-true, true-sameTable, start-at, rounds-least, rounds-settled}
+use Rattle.tables.proofs.Laws.Rounds.{sameTable-true, true-sameTable, start-at, rounds-least, rounds-settled, final-asked}
 use Rattle.choices.proofs.Laws.Moded.{orderable}
 use Rattle.choices.proofs.Laws.Plan.{seven-none, seven-iff, plan-iff, plan-sound, plan-exact, plan-query-first, plan-first, plan-filled}
 use Rattle.choices.proofs.Laws.Rows.{rows-rise, plan-length}
@@ -105,16 +106,20 @@ module _ (s : List ℕ) (B : Book) (valid : judge s ≡ book B) where
   ordered x = orderable B well .0 x
 
   gets : (k p a : ℕ) → p < length (B .arities) → defined (B .clauses) p ≡ true → a < 2 ^ getD (B .arities) p 0
-      → (admits (entry (table B (suc k)) p) a ≡ true) ↔ say.GoodPattern (table B k) B p a
+      → (admits (entry (table B (suc k)) p) a ≡ true) ↔ (say.FitsMode B p a × say.GoodPattern (table B k) B p a)
   unfolding table clause
   gets k p a h d l =
       let e = step-admits B (table B k) p h d a l in (
-        λ t j i q.
-            let good = good-at _ (table B k) (B .clauses) p a (sym e ∙ t) j i q in
-            let (σ, r, g) = good-clause-order (table B k) (clause B j) a good in
-            ((σ, (r, g)), good-clause-parts (table B k) (clause B j) a good .1),
-        λ f. e ∙ at-good _ (table B k) (B .clauses) p a
-            (λ j i q. let x = f j i q in order-good-clause (table B k) (clause B j) a (x .0 .0) (x .0 .1 .0) (x .0 .1 .1) (x .1)),
+        λ t.
+            let got = gets-good B (table B k) p a (sym e ∙ t) in (
+              got .0,
+              λ j i q.
+                  let good = good-at _ (table B k) (B .clauses) p a (got .1) j i q in
+                  let (σ, r, g) = good-clause-order (table B k) (clause B j) a good in
+                  ((σ, (r, g)), good-clause-parts (table B k) (clause B j) a good .1),
+            ),
+        λ f. e ∙ good-gets B (table B k) p a (f .0) (at-good _ (table B k) (B .clauses) p a
+            (λ j i q. let x = f .1 j i q in order-good-clause (table B k) (clause B j) a (x .0 .0) (x .0 .1 .0) (x .0 .1 .1) (x .1))),
       )
 
   keeps : (k p : ℕ) → p < length (B .arities) → defined (B .clauses) p ≡ false → entry (table B (suc k)) p ≡ entry (table B k) p
@@ -131,11 +136,13 @@ module _ (s : List ℕ) (B : Book) (valid : judge s ≡ book B) where
       record {
         first = start-at B well;
         gets = gets;
+        joint· = λ k p. step-joint B well (table B k) p;
         keeps = keeps;
         needs = sym (on-book analysed s B (sym valid));
         last = refl;
         settled = its-own-next;
         least = no-sooner;
+        inside = final-asked B well;
         tableRoom = table-length B well;
         seven = seven-iff s B valid;
         planned = plan-iff s B valid;
