@@ -91,15 +91,15 @@ static void fill_head(input *s, size_t at, unsigned arity, unsigned stand)
             s->bytes[i] = 255;
 }
 
-// A book. Most are small and keep the limits; `over` lets the counts go one above them, and `clash` lets `MO` records fall and clauses be given to
-// predicates that have them. In half of them most clauses leave no cell empty, so that more can be ordered.
+// A book. Most are small and keep the limits; `over` lets the counts go one above them, and `clash` lets `MO` records fall. In half of them most clauses
+// leave no cell empty, so that more can be ordered, and in half of them predicates that have `MO` may have clauses, too.
 static void make_book(input *s, int over, int clash)
 {
     static const unsigned sizes[] = {1, 2, 3, 4, 6, 10, 20, 64};
     unsigned arity[65], has[65];
     unsigned preds = over && pick(3) == 0 ? 64 + pick(2) : 1 + pick(sizes[pick(8)]);
     unsigned most = 1 + pick(6), variables = 1 + pick(pick(4) == 0 ? 16 : 5);
-    unsigned filled = pick(2), modes = pick(4), clauses = over && pick(3) == 0 ? 64 + pick(2) : pick(1 + 2 * preds > 64 ? 65 : 1 + 2 * preds);
+    unsigned filled = pick(2), both = pick(2), modes = pick(4), clauses = over && pick(3) == 0 ? 64 + pick(2) : pick(1 + 2 * preds > 64 ? 65 : 1 + 2 * preds);
     s->length = 0;
     for (unsigned p = 0; p < preds; p++) {
         arity[p] = pick(most + 1);
@@ -119,7 +119,7 @@ static void make_book(input *s, int over, int clash)
     }
     for (unsigned k = 0; k < clauses; k++) {
         unsigned p = pick(preds);
-        if (has[p] && !(clash && pick(4) == 0))
+        if (has[p] && !both)
             continue;
         size_t head = s->length + 3;
         add_call(s, "CL", p, arity[p], variables);

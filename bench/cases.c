@@ -13,7 +13,7 @@
 #define FIELDS 7
 
 // As many bytes of a book does the sheet judge: one more than the longest has.
-#define SHEET_BOOK 6963
+#define SHEET_BOOK 6987
 
 enum operation { ANALYSE, PLAN, CLOSE, SHEET, OPERATIONS };
 
@@ -417,7 +417,7 @@ static void answer_line(char *line)
 
 int main(void)
 {
-    static char text[(1 << 20) + 1];
+    static char text[(1 << 21) + 1];
     char *line = text, *end;
     size_t n = fread(text, 1, sizeof text - 1, stdin);
 

@@ -131,8 +131,6 @@ static reply read_book(const u8 *s, size_t len, book *b)
                     return R(4, p - 1);
                 c->head[i] = a;
             }
-            if (b->has[pr])
-                return R(6, at + 2);
             c->pred = pr;
             c->n = 0;
             b->cl_at[b->nc] = at;

@@ -8,7 +8,7 @@ use book::limits::LONGEST_SHEET;
 use sheet::BOOK_SIZE;
 use sheet::sheet;
 
-// "Above 6,962 bytes it judges the first 6,963": no more is read.
+// W6: "`orders` cuts at 6,987": no more is read.
 fn main() {
     let mut book = [0u8; BOOK_SIZE];
     let input = read_input(&mut book);

@@ -82,7 +82,7 @@ abbrev pub judgedSheet : Judged → List ℕ
 judgedSheet (fault f at) = refusalLine (number f) at
 judgedSheet (book B) = bookSheet B
 
--- "Above 6,962 bytes it judges the first 6,963"
+-- "it judges the first" bytes of a long one; W6: "`orders` cuts at 6,987"
 unfoldable pub sheet : List ℕ → List ℕ
 sheet s = judgedSheet (judge (take (suc longest) s))
 

@@ -23,7 +23,7 @@ ghost use Rattle.writing.specs.Wrote.{Room, Wrote};
 ghost use Rattle.printing.specs.Sheet.{line, field, judgedSheet, refusalLine, printing};
 ghost use Rattle.sheet.specs.Records.{listedIn, lineIn, linesIn, judgedOrders};
 
-// "it judges the first 6,963": as many bytes of a book are looked at, one more than the longest has.
+// W6: "`orders` cuts at 6,987": as many bytes of a book are looked at, one more than the longest has.
 pub const BOOK_SIZE: usize = LONGEST + 1;
 
 // The sheet of a book, written into the output. Every string of bytes has one; a book with a fault has one line, its number and place.

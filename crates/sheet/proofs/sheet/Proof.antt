@@ -1,4 +1,4 @@
--- `sheet::sheet` meets its contract. What is printed of the bytes, or of the first 6,963, fills the front of the text, which is written
+-- `sheet::sheet` meets its contract. What is printed of the bytes, or of the first 6,987, fills the front of the text, which is written
 -- where there is room. Assumes nothing.
 use mathlib.Core.Path.{_≡_, sym, ap, _∙_}
 use mathlib.Core.List.{List}
