@@ -37,7 +37,7 @@ static const char *wanted(uint32_t number, int at_end)
     case SHODH_TOO_MANY:
         return "another record: there are 64 PR, 64 CL or 8 SG before it";
     case SHODH_CLASH:
-        return "for MO a predicate above the one before, for CL one without MO";
+        return "a predicate above that of the MO before";
     }
     return "";
 }
@@ -48,7 +48,7 @@ static void print_refusal(shodh_reply reply, size_t length)
     size_t at = (size_t)reply.value;
 
     if (reply.number == SHODH_UNORDERABLE)
-        printf("no orders give every outside call what it must have and leave no cell empty\n");
+        printf("no orders give every call what the MO of its predicate asks for and leave no cell empty\n");
     else if (at < length)
         printf("byte %zu is %u (hex %02x); wanted: %s\n", at, book[at], book[at], wanted(reply.number, 0));
     else if (length > SHODH_BOOK_SIZE)

@@ -18,7 +18,7 @@ ghost use Rattle.choices.specs.Plan.{planning};
 ghost use Rattle.plan.specs.Lent.{SomeLent, Gives};
 
 // The plan of a book, written into the output: an order for the query, and one for each clause under each pattern that the query leads to. 7 where
-// no orders give every outside call what it must have.
+// no orders give every call what the `MO` of its predicate asks for and leave no cell empty.
 pub fn plan(book: &[u8], out: &mut [u8]) -> Reply
     ensures { λ r. ⌜ Answers (planning (now (book .entry))) (now (out .entry)) r (now (out .exit)) ⌝ }
 {
