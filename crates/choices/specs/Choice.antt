@@ -10,7 +10,7 @@ use Rattle.ordering.specs.Adorn.{nothing, headBound}
 use Rattle.ordering.specs.Orders.{Rearranges}
 use Rattle.ordering.specs.Good.{brought}
 use Rattle.ordering.specs.Asks.{Asked, asks, called}
-use Rattle.tables.specs.Table.{modeOf, asked}
+use Rattle.tables.specs.Table.{declared}
 
 -- "clauses are numbered from 0" (past the last: a clause that says nothing)
 unfoldable pub clause : Book → ℕ → Clause
@@ -49,7 +49,7 @@ pub data Reaches (B : Book) (χ : Choice) : ℕ → ℕ → Type 0 where
 -- none of its subgoals is bound by the pattern reached
 
 pub record WellModed (B : Book) (χ : Choice) : Type 0 where
-  pub fits : (p a : ℕ) → Reaches B χ p a → admits (asked (modeOf (B .modes) p)) a ≡ true
+  pub fits : (p a : ℕ) → Reaches B χ p a → admits (declared (B .modes) p) a ≡ true
   pub brings : (k a : ℕ) → k < length (B .clauses) → Reaches B χ (clause B k .head .pred) a
       → brought (clause B k) (headBound (clause B k .head .args) a) ≡ true
 

@@ -25,7 +25,7 @@ use Rattle.reading.specs.Judged.{checked}
 use Rattle.ordering.specs.Adorn.{Bound, nothing, headBound}
 use Rattle.ordering.specs.Orders.{In, Rearranges, LexLt, Least, Sorted}
 use Rattle.ordering.specs.Good.{goodFrom, brought, filled}
-use Rattle.tables.specs.Table.{modeOf, asked, defined, good, table, rounds, final}
+use Rattle.tables.specs.Table.{declared, defined, good, table, rounds, final}
 use Rattle.tables.specs.Image as analysed
 use Rattle.choices.specs.Choice.{clause, IsChoice, Reaches, WellModed, Orderable}
 use Rattle.choices.specs.Plan.{Row, rowKey, chosen, planRows, image, planning}
@@ -107,7 +107,7 @@ GoodClause T c a = ((σ : List ℕ) × GoodOrder T (c .body) (headBound (c .head
 
 -- The pattern fits the MO of the predicate as the book gives it; one without MO "asks for nothing".
 abbrev pub FitsMode : Book → ℕ → ℕ → Type 0
-FitsMode B p a = admits (asked (modeOf (B .modes) p)) a ≡ true
+FitsMode B p a = admits (declared (B .modes) p) a ≡ true
 
 -- "A predicate's pattern is good when all its clauses are good under it."
 abbrev pub GoodPattern : Table → Book → ℕ → ℕ → Type 0
@@ -120,13 +120,13 @@ FirstGood T body b σ = Least (GoodOrder T body b) (some σ)
 -- Of the bytes of a valid book.
 pub record Demand2 (s : List ℕ) (B : Book) : Type 0 where
   -- "Table 0: each MO as given and minimised, all others trivial."
-  pub first : (p : ℕ) → p < length (B .arities) → entry (table B 0) p ≡ minimise (asked (modeOf (B .modes) p))
+  pub first : (p : ℕ) → p < length (B .arities) → entry (table B 0) p ≡ minimise (declared (B .modes) p)
   -- "Table k+1: each predicate with clauses gets exactly the patterns good under table k, the rest keep theirs.", and W6: of those that fit its MO; "every
   -- round takes the joint of MO and clauses"
   pub gets : (k p a : ℕ) → p < length (B .arities) → defined (B .clauses) p ≡ true → a < 2 ^ getD (B .arities) p 0
       → (admits (entry (table B (suc k)) p) a ≡ true) ↔ (FitsMode B p a × GoodPattern (table B k) B p a)
   pub joint· : (k p : ℕ) → p < length (B .arities) → defined (B .clauses) p ≡ true
-      → entry (table B (suc k)) p ≡ jointOf (asked (modeOf (B .modes) p)) (written (good (table B k) (B .clauses) p) (2 ^ getD (B .arities) p 0))
+      → entry (table B (suc k)) p ≡ jointOf (declared (B .modes) p) (written (good (table B k) (B .clauses) p) (2 ^ getD (B .arities) p 0))
   pub keeps : (k p : ℕ) → p < length (B .arities) → defined (B .clauses) p ≡ false → entry (table B (suc k)) p ≡ entry (table B k) p
   -- the analysis gives the image of table k and k rounds, where k is the least at which table k+1 equals table k
   pub needs : analysed.analysis s ≡ done (rounds B) (analysed.image B)

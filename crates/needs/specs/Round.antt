@@ -2,7 +2,7 @@
 use mathlib.Core.Path.{_≡_}
 use mathlib.Core.Bool.{Bool, true, false, _&&_}
 use mathlib.Core.List.{List}
-use Prim.Native.Nat.{ℕ, _^_, _≤_, _<_}
+use Prim.Native.Nat.{ℕ, _≤_, _<_}
 use lib.ListN.{length, getD}
 use Rattle.masks.specs.Limits.{allPatterns}
 use Rattle.masks.specs.Set.{bitAt}
@@ -13,9 +13,9 @@ use Rattle.book.specs.Book.{Book}
 use Rattle.book.specs.Encode.{WellFormed}
 use Rattle.book.specs.Held.{clauseAt, clausesOf, modesOf}
 use Rattle.book.specs.Table.{Table, entry, entryIn, tableIn, Admitted}
-use Rattle.book.specs.Sets.{Cleared, Owns}
+use Rattle.book.specs.Sets.{Owns}
 use Rattle.ordering.specs.Good.{goodClause}
-use Rattle.tables.specs.Table.{modeOf, asked, defined, step, rounds, final}
+use Rattle.tables.specs.Table.{declared, defined, step, rounds, final}
 use Rattle.needs.specs.Sets.{eachIn}
 
 -- ---- a round
@@ -40,7 +40,7 @@ pub record Given (B : Book) (rules own : List ℕ) : Type 0 where
 pub record Due (B : Book) (T : Table) (due : ℕ) : Type 0 where
   pub defined· : (p : ℕ) → bitAt due p ≡ true → defined (B .clauses) p ≡ true
   pub written· : (p : ℕ) → p < length (B .arities) → isWritten allPatterns (entry T p) ≡ true
-  pub inside : (p a : ℕ) → admits (entry T p) a ≡ true → admits (asked (modeOf (B .modes) p)) a ≡ true
+  pub inside : (p a : ℕ) → admits (entry T p) a ≡ true → admits (declared (B .modes) p) a ≡ true
   pub falls : (p a : ℕ) → admits (entry (step B T) p) a ≡ true → admits (entry T p) a ≡ true
   pub others : (p : ℕ) → p < length (B .arities) → bitAt due p ≡ false → entry (step B T) p ≡ entry T p
 

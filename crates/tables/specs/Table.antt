@@ -24,10 +24,13 @@ abbrev pub asked : Option (List ℕ) → List ℕ
 asked none = trivial
 asked (some masks) = masks
 
+abbrev pub declared : List Mode → ℕ → List ℕ
+declared ms p = asked (modeOf ms p)
+
 -- ---- "Table 0: each MO as given and minimised, all others trivial."
 
 unfoldable pub firstNeeds : List Mode → ℕ → Table
-firstNeeds ms n = values (λ p. minimise (asked (modeOf ms p))) n
+firstNeeds ms n = values (λ p. minimise (declared ms p)) n
 
 unfoldable pub start : Book → Table
 start B = firstNeeds (B .modes) (length (B .arities))
@@ -47,9 +50,9 @@ defined cs p = any (λ c. eqb (c .head .pred) p) cs
 unfoldable pub good : Table → List Clause → ℕ → ℕ → Bool
 good T cs p a = all (λ c. goodClause T c a) (own cs p)
 
--- W6: "the joint of MO and clauses": a pattern that fits the MO of p, and is good
+-- W6: "every round takes the joint of MO and clauses": a pattern that fits what is declared of p, and is good
 unfoldable pub gets : Book → Table → ℕ → ℕ → Bool
-gets B T p a = admits (asked (modeOf (B .modes) p)) a && good T (B .clauses) p a
+gets B T p a = admits (declared (B .modes) p) a && good T (B .clauses) p a
 
 -- the constraint of p in the table after T
 unfoldable pub next : Book → Table → ℕ → List ℕ

@@ -58,7 +58,7 @@ module _ (r : Range) (ar : List ℕ) (c : Call) where
   unfolding call
   call-got s t = rw (byte-got (Below (length ar)) (c .pred) (c .args ++ s) (call-known t), ← call-size t, bytes-got r (c .args) [] s (call-range t))
 
-pub call-inv : (r : Range) (ar s : List ℕ) (c : Call) (t : List ℕ) → call r ar s ≡ got c t → (s ≡ encCall c ++ t) × (callFits r ar c ≡ true)
+call-inv : (r : Range) (ar s : List ℕ) (c : Call) (t : List ℕ) → call r ar s ≡ got c t → (s ≡ encCall c ++ t) × (callFits r ar c ≡ true)
 unfolding call
 call-inv r ar s c t e =
     let w = then-inv (byte (Below (length ar)) s) (λ p u. andThen (bytes r (getD ar p 0) [] u) (λ args v. got (record { pred = p; args = args }) v)) e in

@@ -11,7 +11,7 @@ use Rattle.masks.specs.Outcome.{Outcome, refused, done}
 use Rattle.book.specs.Encode.{run}
 use Rattle.ordering.specs.Asks.{Asked, asks}
 use Rattle.book.proofs.Laws.Examples.{k1-book}
-use Rattle.tables.proofs.Laws.Examples.{compute, choosy, stuck, chain, ill, several, fact, declared}
+use Rattle.tables.proofs.Laws.Examples.{compute, choosy, stuck, chain, ill, several, fact, strict}
 use Rattle.choices.specs.Choice.{clause, Choice, queryCalls, clauseCalls, by-query, by-clause, WellModed}
 use Rattle.choices.specs.Reached.{marked, marksOf, nextCalls, allMarked, withCalls, grown, reached}
 use Rattle.choices.specs.Plan.{Row, firstChoice, chosen, rowsFor, rowsUnder, rowsOf, planRows, encQuery, encRow, image, planned}
@@ -99,8 +99,8 @@ pub sevens : refusal (planned stuck) ∷ refusal (planned ill) ∷ [] ≡ 7 ∷ 
 unfolding compute-plan
 sevens = refl
 
--- W6: "for defined predicates as well": no order makes `declared` well-moded, whose query reaches p with nothing
-pub undeclared : WellModed declared (along (0 ∷ []) (0 ∷ [])) → ⊥
+-- W6: "for defined predicates as well": no order makes `strict` well-moded, whose query reaches p with nothing
+pub undeclared : WellModed strict (along (0 ∷ []) (0 ∷ [])) → ⊥
 unfolding compute-plan
 undeclared m = false≢true (m .fits 1 0 (by-clause {a = 0} 0 (omega arith) (by-query refl) refl))
 

@@ -25,7 +25,7 @@ use Rattle.ordering.proofs.Laws.Good.{first-is-least, good-clause-parts, order-
 use Rattle.ordering.proofs.Laws.Asks.{asks-fit, fit-asks, ready-asks}
 use Rattle.tables.proofs.Laws.Own.{good-at, at-good, defined-at}
 use Rattle.tables.proofs.Laws.Round.{good-gets, step-admits, step-outside}
-use Rattle.tables.proofs.Laws.Rounds.{start-asked, final-asked, final-closed}
+use Rattle.tables.proofs.Laws.Rounds.{start-declared, final-declared, final-closed}
 use Rattle.choices.proofs.Laws.Reached.{reaches-inside}
 
 -- ---- the first good order, or the subgoals as they stand
@@ -90,13 +90,13 @@ module _ (B : Book) (w : WellFormed B) where
     -- SOUND: "A choice makes the book well-moded (definition 3.14) when every reached pattern of an outside predicate fits its constraint.", and of a defined
     -- one its declaration, with W3's rule; the one chosen does
     pub sound : WellModed B (chosen B)
-    sound = record { fits = λ p a r. final-asked B w p a (reached-final r); brings = reached-brought }
+    sound = record { fits = λ p a r. final-declared B w p a (reached-final r); brings = reached-brought }
 
   -- ---- any choice that makes the book well-moded
 
   module _ (χ : Choice) (ok : IsChoice B χ) (moded : WellModed B χ) where
     reached-start : (p a : ℕ) → Reaches B χ p a → admits (entry (start B) p) a ≡ true
-    reached-start p a r = start-asked B w p a (reaches-inside B χ w ok r .0) ∙ moded .fits p a r
+    reached-start p a r = start-declared B w p a (reaches-inside B χ w ok r .0) ∙ moded .fits p a r
 
     -- where a table admits all that is reached, what is reached is good under it
     reached-under : (T : Table) → ((q b : ℕ) → Reaches B χ q b → admits (entry T q) b ≡ true) → (p a : ℕ) → Reaches B χ p a

@@ -44,7 +44,7 @@ use Rattle.tables.proofs.Laws.Own.{good-at, at-good}
 use Rattle.tables.proofs.Laws.Round.{gets-good, good-gets, step-admits, step-outside}
 use Rattle.tables.proofs.Laws.Full.{step-joint}
 use Rattle.tables.proofs.Laws.Image.{table-length}
-use Rattle.tables.proofs.Laws.Rounds.{sameTable-true, true-sameTable, start-at, rounds-least, rounds-settled, final-asked}
+use Rattle.tables.proofs.Laws.Rounds.{sameTable-true, true-sameTable, start-at, rounds-least, rounds-settled, final-declared}
 use Rattle.choices.proofs.Laws.Moded.{orderable}
 use Rattle.choices.proofs.Laws.Plan.{seven-none, seven-iff, plan-iff, plan-sound, plan-exact, plan-query-first, plan-first, plan-filled}
 use Rattle.choices.proofs.Laws.Rows.{rows-rise, plan-length}
@@ -142,7 +142,7 @@ module _ (s : List ℕ) (B : Book) (valid : judge s ≡ book B) where
         last = refl;
         settled = its-own-next;
         least = no-sooner;
-        inside = final-asked B well;
+        inside = final-declared B well;
         tableRoom = table-length B well;
         seven = seven-iff s B valid;
         planned = plan-iff s B valid;

@@ -31,7 +31,7 @@ use Rattle.tables.specs.Table.{defined, step, start, table, rounds, final}
 use Rattle.tables.specs.Calls.{touched}
 use Rattle.tables.proofs.Laws.Valid.{arity-low}
 use Rattle.tables.proofs.Laws.Round.{next-same, step-at, step-length, step-outside}
-use Rattle.tables.proofs.Laws.Rounds.{Proper, table-proper, tables-fall, below-start, below-asked, Going, going-start, going-next, going-less, going-rounds, going-final}
+use Rattle.tables.proofs.Laws.Rounds.{Proper, table-proper, tables-fall, below-start, below-declared, Going, going-start, going-next, going-less, going-rounds, going-final}
 use Rattle.tables.proofs.Laws.Own.{touched-defined}
 use Rattle.needs.specs.Round.{Due, Stepped, Renewed}
 
@@ -100,7 +100,7 @@ module _ (B : Book) (w : WellFormed B) where
       record {
         defined· = d;
         written· = λ p h. rw (g .now) (proper-written (table B k) (table-proper B w k) p h);
-        inside = λ p a. rw (g .now) (below-asked B w (table B k) (below-start B w k) p a);
+        inside = λ p a. rw (g .now) (below-declared B w (table B k) (below-start B w k) p a);
         falls = λ p a. rw (g .now) (tables-fall B w k p a);
         others = o;
       }

@@ -81,19 +81,19 @@ seen = rules (1 ∷ 2 ∷ []) [] (clause (call 1 (0 ∷ 1 ∷ [])) (call 0 (0 �
 abbrev pub fact : Book
 fact = rules (1 ∷ []) [] (clause (call 0 (0 ∷ [])) [] ∷ []) (call 0 (0 ∷ []) ∷ [])
 
--- W6: p needs {1} itself, and p(X) :- q(X); r(X) :- p(X), where r is predicate 0 and p predicate 1. The query r(X)
-abbrev pub declared : Book
-declared =
-    rules (1 ∷ 1 ∷ 1 ∷ []) (needs 1 (1 ∷ []) ∷ [])
-    (clause (call 0 (0 ∷ [])) (call 1 (0 ∷ []) ∷ []) ∷ clause (call 1 (0 ∷ [])) (call 2 (0 ∷ []) ∷ []) ∷ [])
-    (call 0 (0 ∷ []) ∷ [])
-
--- m and p need {1}, and p(X,Y) :- m(Y), h(X). No query
+-- W6: m and p need {1}, and p(X,Y) :- m(Y), h(X). No query
 abbrev pub joined : Book
 joined =
     rules (2 ∷ 1 ∷ 1 ∷ []) (needs 0 (1 ∷ []) ∷ needs 1 (1 ∷ []) ∷ [])
     (clause (call 0 (0 ∷ 1 ∷ [])) (call 1 (1 ∷ []) ∷ call 2 (0 ∷ []) ∷ []) ∷ [])
     []
+
+-- p needs {1} itself, and p(X) :- q(X); r(X) :- p(X), where r is predicate 0 and p predicate 1. The query r(X)
+abbrev pub strict : Book
+strict =
+    rules (1 ∷ 1 ∷ 1 ∷ []) (needs 1 (1 ∷ []) ∷ [])
+    (clause (call 0 (0 ∷ [])) (call 1 (0 ∷ []) ∷ []) ∷ clause (call 1 (0 ∷ [])) (call 2 (0 ∷ []) ∷ []) ∷ [])
+    (call 0 (0 ∷ []) ∷ [])
 
 -- p has MO and no alternative, and a fact. No query
 abbrev barred : Book
@@ -143,10 +143,10 @@ rows =
     ∷ record { book = seen; rounds = 1; needs = (0 ∷ []) ∷ (2 ∷ []) ∷ [] }
     -- W3: "The fact p(X) with no body gets mask 1.", in a round
     ∷ record { book = fact; rounds = 1; needs = (1 ∷ []) ∷ [] }
-    -- W6: "table 0 starts from its MO", and no round gives p more
-    ∷ record { book = declared; rounds = 1; needs = (1 ∷ []) ∷ (1 ∷ []) ∷ (0 ∷ []) ∷ [] }
-    -- W6: "the joint of MO and clauses"
+    -- W6: "every round takes the joint of MO and clauses"
     ∷ record { book = joined; rounds = 1; needs = (3 ∷ []) ∷ (1 ∷ []) ∷ (0 ∷ []) ∷ [] }
+    -- W6: "table 0 starts from its MO", and no round gives p more
+    ∷ record { book = strict; rounds = 1; needs = (1 ∷ []) ∷ (1 ∷ []) ∷ (0 ∷ []) ∷ [] }
     -- W6: with no alternative it is ill at once, whatever its clauses
     ∷ record { book = barred; rounds = 0; needs = [] ∷ [] }
     ∷ []

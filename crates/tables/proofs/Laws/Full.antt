@@ -21,8 +21,8 @@ use Rattle.book.specs.Encode.{WellFormed}
 use Rattle.book.specs.Table.{Table, entry}
 use Rattle.ordering.specs.Adorn.{Bound, bindVar, bindHead, headBound, nothing}
 use Rattle.ordering.specs.Good.{firstGood, isSome, brought, goodClause}
-use Rattle.tables.specs.Table.{modeOf, asked, own, defined, good, gets, step}
-use Rattle.tables.proofs.Laws.Valid.{arity-low, asked-low, own-arity}
+use Rattle.tables.specs.Table.{declared, own, defined, good, gets, step}
+use Rattle.tables.proofs.Laws.Valid.{arity-low, declared-low, own-arity}
 use Rattle.tables.proofs.Laws.Round.{good-up, step-defined, step-admits, step-sound}
 
 -- what a head binds depends on the bits of its positions alone
@@ -54,7 +54,7 @@ module _ (B : Book) (w : WellFormed B) (T : Table) (p : ℕ) where
 
   gets-cut-bits : (a : ℕ) → gets B T p (cut arity a) ≡ gets B T p a
   unfolding gets
-  gets-cut-bits a = ap₂ (λ (x y : Bool). x && y) (admits-cut arity a (arity-low B w p) (asked (modeOf (B .modes) p)) (asked-low B w p)) (good-cut-bits a)
+  gets-cut-bits a = ap₂ (λ (x y : Bool). x && y) (admits-cut arity a (arity-low B w p) (declared (B .modes) p) (declared-low B w p)) (good-cut-bits a)
 
   -- "gets exactly the patterns good", of those of its MO, whatever stands in the bits past the arity
   pub step-full : p < length (B .arities) → defined (B .clauses) p ≡ true → (a : ℕ) → admits (entry (step B T) p) a ≡ gets B T p a
@@ -76,12 +76,12 @@ module _ (B : Book) (w : WellFormed B) (T : Table) (p : ℕ) where
 
   -- W6: "every round takes the joint of MO and clauses"
   pub step-joint : p < length (B .arities) → defined (B .clauses) p ≡ true
-      → entry (step B T) p ≡ joint (asked (modeOf (B .modes) p)) (written (good T (B .clauses) p) (2 ^ arity))
+      → entry (step B T) p ≡ joint (declared (B .modes) p) (written (good T (B .clauses) p) (2 ^ arity))
   unfolding gets
   step-joint h d =
-      let m = asked (modeOf (B .modes) p) in
+      let m = declared (B .modes) p in
       let c = written (good T (B .clauses) p) (2 ^ arity) in
-      let low = inRange-mono (2 ^ arity) allPatterns m (power-le arity (arity-low B w p)) (asked-low B w p) in
+      let low = inRange-mono (2 ^ arity) allPatterns m (power-le arity (arity-low B w p)) (declared-low B w p) in
       let wide = isWritten-mono (2 ^ arity) allPatterns c (power-le arity (arity-low B w p)) (written-isWritten (good T (B .clauses) p) (2 ^ arity)) in
       canonical allPatterns (entry (step B T) p) (joint m c)
       (rw (step-defined B T p h d)

@@ -29,7 +29,7 @@ use Rattle.book.specs.Sets.{Cleared}
 use Rattle.book.proofs.Laws.Held.{modesOf-joined}
 use Rattle.writing.proofs.Laws.Chunks.{Chunks}
 use Rattle.tables.proofs.Laws.Modes.{modeOf-joined}
-use Rattle.tables.specs.Table.{modeOf, asked, firstNeeds}
+use Rattle.tables.specs.Table.{modeOf, declared, firstNeeds}
 use Rattle.tables.specs.Image.{row, rows}
 
 -- ---- table 0
@@ -49,11 +49,11 @@ module _ (modes : List ℕ) (p : ℕ) where
 
 -- so what p needs first: nothing where it has no MO, else its alternatives, minimised
 module _ (modes : List ℕ) (p : ℕ) (h : p < maxPredicates) where
-  pub first-none : hasIn (modeBytes modes p) ≡ false → trivial ≡ minimise (asked (modeOf (modesOf modes maxPredicates) p))
+  pub first-none : hasIn (modeBytes modes p) ≡ false → trivial ≡ minimise (declared (modesOf modes maxPredicates) p)
   unfolding isWritten inRange
   first-none e = rw (modeOf-modesOf modes p maxPredicates h, e) (sym (minimise-same trivial refl))
 
-  pub first-some : hasIn (modeBytes modes p) ≡ true → minimise (masksIn (modeBytes modes p)) ≡ minimise (asked (modeOf (modesOf modes maxPredicates) p))
+  pub first-some : hasIn (modeBytes modes p) ≡ true → minimise (masksIn (modeBytes modes p)) ≡ minimise (declared (modesOf modes maxPredicates) p)
   first-some e = rw (modeOf-modesOf modes p maxPredicates h, e)
 
 -- the loop that makes it: the first p constraints are there
@@ -78,7 +78,7 @@ filling-start modes table words s r t u =
     }
 
 pub filling-next : (modes : List ℕ) (p : ℕ) {table words : List ℕ} (masks patterns : ℕ) → p < maxPredicates
-    → members masks ≡ minimise (asked (modeOf (modesOf modes maxPredicates) p)) → EachLane (λ a. bitAt patterns a ≡ admits (members masks) a)
+    → members masks ≡ minimise (declared (modesOf modes maxPredicates) p) → EachLane (λ a. bitAt patterns a ≡ admits (members masks) a)
     → Filling modes p table words → Filling modes (p + 1) (set table p masks) (set words p patterns)
 unfolding tableIn firstNeeds
 filling-next modes p {table} {words} masks patterns h e f g =

@@ -21,7 +21,7 @@ use Rattle.ordering.proofs.Laws.Held.{outside, callsBelow-outside, tableIn-cut}
 use Rattle.ordering.proofs.Laws.Adorn.{More, more-refl}
 use Rattle.ordering.proofs.Laws.Good.{good-clause-mono, clause-same}
 use Rattle.tables.specs.Calls.{calls, touched}
-use Rattle.tables.specs.Table.{modeOf, asked, own, defined, good, gets, next, step}
+use Rattle.tables.specs.Table.{declared, own, defined, good, gets, next, step}
 
 -- ---- tables
 
@@ -50,20 +50,20 @@ good-more T U h cs p a = good-mono T U h cs p a a (within-refl a)
 -- ---- the patterns that a predicate gets: those of its MO that are good
 
 module _ (B : Book) where
-  pub gets-good : (T : Table) (p a : ℕ) → gets B T p a ≡ true → (admits (asked (modeOf (B .modes) p)) a ≡ true) × (good T (B .clauses) p a ≡ true)
+  pub gets-good : (T : Table) (p a : ℕ) → gets B T p a ≡ true → (admits (declared (B .modes) p) a ≡ true) × (good T (B .clauses) p a ≡ true)
   unfolding gets
   gets-good T p a e =
-      let m = admits (asked (modeOf (B .modes) p)) a in
+      let m = admits (declared (B .modes) p) a in
       (and-left m (good T (B .clauses) p a) e, and-right m (good T (B .clauses) p a) e)
 
-  pub good-gets : (T : Table) (p a : ℕ) → admits (asked (modeOf (B .modes) p)) a ≡ true → good T (B .clauses) p a ≡ true → gets B T p a ≡ true
+  pub good-gets : (T : Table) (p a : ℕ) → admits (declared (B .modes) p) a ≡ true → good T (B .clauses) p a ≡ true → gets B T p a ≡ true
   unfolding gets
   good-gets T p a m g = and-intro m g
 
   gets-mono : (T U : Table) → More T U → (p a b : ℕ) → within a b ≡ true → gets B T p a ≡ true → gets B U p b ≡ true
   gets-mono T U h p a b w e =
       let g = gets-good T p a e in
-      good-gets U p b (admits-up (asked (modeOf (B .modes) p)) a b w (g .0)) (good-mono T U h (B .clauses) p a b w (g .1))
+      good-gets U p b (admits-up (declared (B .modes) p) a b w (g .0)) (good-mono T U h (B .clauses) p a b w (g .1))
 
   pub gets-up : (T : Table) (p : ℕ) → Up (gets B T p)
   gets-up T p a b w = gets-mono T T (more-refl T) p a b w
@@ -85,7 +85,7 @@ module _ (T U : Table) (x : ℕ → Bool) (agree : (q : ℕ) → x q ≡ false �
   next-same B p d n =
       rw d
       (written-cong (gets B T p) (gets B U p) (2 ^ getD (B .arities) p 0)
-      (λ a l. ap (λ (b : Bool). admits (asked (modeOf (B .modes) p)) a && b) (good-same (B .clauses) p n a)))
+      (λ a l. ap (λ (b : Bool). admits (declared (B .modes) p) a && b) (good-same (B .clauses) p n a)))
 
 -- clauses that call predicates below n only touch none that is not
 touched-inside : (n : ℕ) (cs : List Clause) (p : ℕ) → all (λ c. callsBelow n (c .body)) cs ≡ true → touched (outside n) cs p ≡ false

@@ -11,12 +11,10 @@ use lib.Dec.{eqb}
 use lib.ListN.{length, getD}
 use lib.Seq.{ext-getD}
 use borrow.Author.Tests.{eqb-true, eqb-false, leb-true}
-use Rattle.masks.specs.Mask.{within}
 use Rattle.masks.specs.Limits.{allPatterns}
-use Rattle.masks.specs.Constraint.{admits, trivial, isWritten, minimise, sameMasks}
-use Rattle.masks.proofs.Laws.Logic.{byBool, clash, false-of, same, and-intro, and-left, and-right, or-left, byRange}
+use Rattle.masks.specs.Constraint.{admits, isWritten, minimise, sameMasks}
+use Rattle.masks.proofs.Laws.Logic.{byBool, clash, false-of, same, and-intro, and-left, and-right, byRange}
 use Rattle.masks.proofs.Laws.Lists.{length-values, getD-values}
-use Rattle.masks.proofs.Laws.Mask.{within-zero}
 use Rattle.masks.proofs.Laws.Constraint.{sameMasks-true, sameMasks-refl, inRange-mono, canonical, written-isWritten, written-mono, written-admits, minimise-isWritten-at, admits-minimise}
 use Rattle.masks.proofs.Laws.Joining.{power-le}
 use Rattle.book.specs.Limits.{maxPredicates}
@@ -24,9 +22,9 @@ use Rattle.book.specs.Book.{Book}
 use Rattle.book.specs.Encode.{WellFormed}
 use Rattle.book.specs.Table.{Table, entry}
 use Rattle.ordering.proofs.Laws.Adorn.{More, more-refl}
-use Rattle.tables.specs.Table.{modeOf, asked, firstNeeds, start, defined, good, gets, step, table, sameTable, settled, sumBelow, patternsOf, seek, rounds, final}
+use Rattle.tables.specs.Table.{declared, firstNeeds, start, defined, good, gets, step, table, sameTable, settled, sumBelow, patternsOf, seek, rounds, final}
 use Rattle.tables.proofs.Laws.Sums.{sum-le, sum-stuck, sum-most, howMany, howMany-le, howMany-most, howMany-stuck}
-use Rattle.tables.proofs.Laws.Valid.{arity-low, asked-low}
+use Rattle.tables.proofs.Laws.Valid.{arity-low, declared-low}
 use Rattle.tables.proofs.Laws.Round.{past-none, more-trans, good-more, gets-good, good-gets, gets-more, step-length, step-defined, step-outside, step-sound}
 
 -- ---- equal tables, by the test
@@ -87,10 +85,6 @@ weight-le B T U h p = go (defined (B .clauses) p)
         → cond b (howMany (admits (entry T p)) (2 ^ getD (B .arities) p 0)) 0 ≤ cond b (howMany (admits (entry U p)) (2 ^ getD (B .arities) p 0)) 0
     go true = howMany-le (admits (entry T p)) (admits (entry U p)) (2 ^ getD (B .arities) p 0) (h p)
     go false = omega arith
-
-pub trivial-admits : (a : ℕ) → admits trivial a ≡ true
-unfolding admits
-trivial-admits a = or-left (within 0 a) false (within-zero a)
 
 module _ (B : Book) where
   abbrev after : Table → Table
@@ -180,29 +174,29 @@ module _ (B : Book) where
   -- ---- a book that is well formed
 
   module _ (w : WellFormed B) where
-    pub start-at : (p : ℕ) → p < length (B .arities) → entry (start B) p ≡ minimise (asked (modeOf (B .modes) p))
+    pub start-at : (p : ℕ) → p < length (B .arities) → entry (start B) p ≡ minimise (declared (B .modes) p)
     unfolding start firstNeeds
-    start-at p h = getD-values (λ p. minimise (asked (modeOf (B .modes) p))) [] (length (B .arities)) p h
+    start-at p h = getD-values (λ p. minimise (declared (B .modes) p)) [] (length (B .arities)) p h
 
     pub start-proper : Proper B (start B)
     unfolding start firstNeeds
     start-proper =
         record {
-          long = length-values (λ p. minimise (asked (modeOf (B .modes) p))) (length (B .arities));
-          written· = λ p h. rw (start-at p h) (minimise-isWritten-at (2 ^ getD (B .arities) p 0) (asked (modeOf (B .modes) p)) (asked-low B w p));
+          long = length-values (λ p. minimise (declared (B .modes) p)) (length (B .arities));
+          written· = λ p h. rw (start-at p h) (minimise-isWritten-at (2 ^ getD (B .arities) p 0) (declared (B .modes) p) (declared-low B w p));
         }
 
     -- table 0 asks of a predicate what its MO asks
-    pub start-asked : (p a : ℕ) → p < length (B .arities) → admits (entry (start B) p) a ≡ admits (asked (modeOf (B .modes) p)) a
-    start-asked p a h =
-        let m = asked (modeOf (B .modes) p) in
+    pub start-declared : (p a : ℕ) → p < length (B .arities) → admits (entry (start B) p) a ≡ admits (declared (B .modes) p) a
+    start-declared p a h =
+        let m = declared (B .modes) p in
         ap (λ (c : List ℕ). admits c a) (start-at p h)
-        ∙ admits-minimise m (inRange-mono (2 ^ getD (B .arities) p 0) allPatterns m (power-le (getD (B .arities) p 0) (arity-low B w p)) (asked-low B w p)) a
+        ∙ admits-minimise m (inRange-mono (2 ^ getD (B .arities) p 0) allPatterns m (power-le (getD (B .arities) p 0) (arity-low B w p)) (declared-low B w p)) a
 
     -- so a table below it lies inside every MO
-    pub below-asked : (T : Table) → More T (start B) → (p a : ℕ) → admits (entry T p) a ≡ true → admits (asked (modeOf (B .modes) p)) a ≡ true
-    below-asked T f p a e =
-        byRange p (length (B .arities)) (λ h. sym (start-asked p a h) ∙ f p a e)
+    pub below-declared : (T : Table) → More T (start B) → (p a : ℕ) → admits (entry T p) a ≡ true → admits (declared (B .modes) p) a ≡ true
+    below-declared T f p a e =
+        byRange p (length (B .arities)) (λ h. sym (start-declared p a h) ∙ f p a e)
         (λ h. let l = start-proper .long in past-none (start B) p a (omega arith) (f p a e))
 
     pub table-proper : (k : ℕ) → Proper B (table B k)
@@ -220,7 +214,7 @@ module _ (B : Book) where
     first-falls p a e =
         byRange p (length (B .arities))
         (λ h. byBool (defined (B .clauses) p)
-        (λ d. start-asked p a h ∙ gets-good B (start B) p a (step-sound B (start B) p h d a e) .0)
+        (λ d. start-declared p a h ∙ gets-good B (start B) p a (step-sound B (start B) p h d a e) .0)
         (λ d. rw (step-outside B (start B) p h d) at e))
         (λ h. past-none (after (start B)) p a (omega (arith, step-length B (start B))) e)
 
@@ -269,8 +263,8 @@ module _ (B : Book) where
     final-below-start = below-start (rounds B)
 
     -- W6: the final table lies inside every MO
-    pub final-asked : (p a : ℕ) → admits (entry (final B) p) a ≡ true → admits (asked (modeOf (B .modes) p)) a ≡ true
-    final-asked = below-asked (final B) final-below-start
+    pub final-declared : (p a : ℕ) → admits (entry (final B) p) a ≡ true → admits (declared (B .modes) p) a ≡ true
+    final-declared = below-declared (final B) final-below-start
 
     -- what the final table admits of a predicate with clauses is good under it
     pub final-closed : Closed (final B)
@@ -292,7 +286,7 @@ module _ (B : Book) where
             (λ h. byBool (defined (B .clauses) p)
             (λ d. rw (step-defined B (table B k) p h d)
             (written-mono (admits (entry X p)) (gets B (table B k) p) (2 ^ getD (B .arities) p 0)
-            (λ y l g. good-gets B (table B k) p y (below-asked X s p y g) (good-more X (table B k) ih (B .clauses) p y (f p d y g))) a
+            (λ y l g. good-gets B (table B k) p y (below-declared X s p y g) (good-more X (table B k) ih (B .clauses) p y (f p d y g))) a
             (subst (λ (c : List ℕ). admits c a ≡ true) (sym (written-admits (2 ^ getD (B .arities) p 0) (entry X p) (x .written· p h))) e)))
             (λ d. rw (step-outside B (table B k) p h d) (ih p a e)))
             (λ h. let l = x .long in past-none X p a (omega arith) e)

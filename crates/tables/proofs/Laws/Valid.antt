@@ -24,7 +24,7 @@ use Rattle.book.proofs.Laws.Trip.{call-known, call-size, mode-range, clause-hea
 use Rattle.book.proofs.Laws.Bound.{arities-at}
 use Rattle.book.proofs.Laws.Sets.{callsBelow, fit-below, fit-callable}
 use Rattle.ordering.specs.Good.{at}
-use Rattle.tables.specs.Table.{modeOf, asked, own, defined}
+use Rattle.tables.specs.Table.{modeOf, asked, declared, own, defined}
 use Rattle.tables.proofs.Laws.Modes.{modeOf-all}
 
 -- ---- a clause
@@ -85,9 +85,9 @@ module _ (B : Book) (w : WellFormed B) where
   unfolding inRange allows
   masks-low p masks e = mode-range (B .arities) (record { pred = p; masks = masks }) (modeOf-all (modeFits (B .arities)) (B .modes) (w .modesFit) p masks e)
 
-  pub asked-low : (p : ℕ) → inRange (2 ^ getD (B .arities) p 0) (asked (modeOf (B .modes) p)) ≡ true
+  pub declared-low : (p : ℕ) → inRange (2 ^ getD (B .arities) p 0) (declared (B .modes) p) ≡ true
   unfolding inRange
-  asked-low p = go (modeOf (B .modes) p) refl
+  declared-low p = go (modeOf (B .modes) p) refl
     where
       go : (o : Option (List ℕ)) → modeOf (B .modes) p ≡ o → inRange (2 ^ getD (B .arities) p 0) (asked o) ≡ true
       go none e = rw (lt-ltb 0 (2 ^ getD (B .arities) p 0) (pow-pos (getD (B .arities) p 0)))
