@@ -133,7 +133,7 @@ pub record Demand2 (s : List ℕ) (B : Book) : Type 0 where
   pub last : final B ≡ table B (rounds B)
   pub settled : table B (suc (rounds B)) ≡ table B (rounds B)
   pub least : (k : ℕ) → table B (suc k) ≡ table B k → rounds B ≤ k
-  -- what it needs lies inside what the book declares of it
+  -- the final table lies inside every MO: what it admits of a predicate fits what the book declares of that
   pub inside : (p a : ℕ) → admits (entry (final B) p) a ≡ true → FitsMode B p a
   -- a buffer of 1,536 bytes always suffices for it
   pub tableRoom : length (analysed.image B) ≤ longestTable

@@ -12,7 +12,8 @@ ghost use Rattle.needs.specs.Round.{Stays, Ready, Rounds, Compares, Rene
 
 // "A round reads only the table before it": it takes the table by value, as the patterns that each constraint admits, builds a new one in the room
 // lent, which holds the same, and compares both; the old one stays intact. Only the predicates due are looked at; the others have in the old table
-// what they get. The predicates whose constraint is another one than before, none where both tables are the same.
+// what they get. A predicate's `MO` needs no look: table 0 has it, and a round gives nothing that the old table has not. The predicates whose constraint
+// is another one than before, none where both tables are the same.
 pub fn round<'a>(
     rules: &'a [u64; RULES_SIZE],
     own: &'a [u64; MAX_PREDICATES],

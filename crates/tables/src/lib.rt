@@ -26,7 +26,8 @@ ghost use Rattle.writing.specs.Wrote.{Room, Wrote};
 // The set of the mask 0 alone: a constraint that asks for nothing.
 const TRIVIAL: u64 = 1;
 
-// "Table 0: each `MO` as given and minimised, all others trivial." Having no `MO` is not having one with no alternative.
+// "Table 0: each `MO` as given and minimised, all others trivial", of predicates with clauses and without. Having no `MO` is not having one with no
+// alternative.
 pub fn first_table(
     preds: u8,
     modes: &[u8; MODES_SIZE],
