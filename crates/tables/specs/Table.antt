@@ -24,6 +24,7 @@ abbrev pub asked : Option (List ℕ) → List ℕ
 asked none = trivial
 asked (some masks) = masks
 
+-- what a book declares of p: its MO as given; without one, that it asks for nothing
 abbrev pub declared : List Mode → ℕ → List ℕ
 declared ms p = asked (modeOf ms p)
 

@@ -99,10 +99,10 @@ pub sevens : refusal (planned stuck) ∷ refusal (planned ill) ∷ [] ≡ 7 ∷ 
 unfolding compute-plan
 sevens = refl
 
--- W6: "for defined predicates as well": no order makes `strict` well-moded, whose query reaches p with nothing
-pub undeclared : WellModed strict (along (0 ∷ []) (0 ∷ [])) → ⊥
+-- W6: "for defined predicates as well": no order makes `strict` well-moded, whose query reaches p under a pattern that does not fit its MO
+pub unfit : WellModed strict (along (0 ∷ []) (0 ∷ [])) → ⊥
 unfolding compute-plan
-undeclared m = false≢true (m .fits 1 0 (by-clause {a = 0} 0 (omega arith) (by-query refl) refl))
+unfit m = false≢true (m .fits 1 0 (by-clause {a = 0} 0 (omega arith) (by-query refl) refl))
 
 -- W3: "a well-moded choice needs this of every reached clause": no order makes `fact` well-moded, whose query brings nothing
 pub nothing-brought : WellModed fact (along (0 ∷ []) []) → ⊥
