@@ -1,16 +1,30 @@
 -- Document 01: "A book holds predicates, mode alternatives, clauses and one query." Assumes nothing.
+use mathlib.Core.Bool.{Bool, false}
 use mathlib.Core.List.{List, []}
 use Prim.Native.Nat.{ℕ}
 
--- A subgoal, or the head of a clause: "predicate, one argument per position". "0 to 15 is a variable of that clause or query, 255 a literal,
--- 254 a wildcard (subgoals only)".
-pub record Call : Type 0 where
+-- The head of a clause: "predicate, one argument per position". "0 to 15 is a variable of that clause or query, 255 a literal, 254 a wildcard
+-- (subgoals only)".
+pub record Head : Type 0 where
   pub pred : ℕ
   pub args : List ℕ
 
--- the call that says nothing, for places where there is none
+-- A subgoal: the same, and document 02's W9: "The shared record of a subgoal gains this mark", that it says "not"
+pub record Call : Type 0 where
+  pub negated : Bool
+  pub pred : ℕ
+  pub args : List ℕ
+
+-- the subgoal of a predicate and its arguments, negated or not
+abbrev pub subgoalOf : Bool → Head → Call
+subgoalOf negated h = record { negated = negated; pred = h .pred; args = h .args }
+
+-- the head and the call that say nothing, for places where there is none
+abbrev pub noHead : Head
+noHead = record { pred = 0; args = [] }
+
 abbrev pub noCall : Call
-noCall = record { pred = 0; args = [] }
+noCall = subgoalOf false noHead
 
 -- "MO: predicate, n, n masks; n alternatives", in the order given
 pub record Mode : Type 0 where
@@ -19,12 +33,12 @@ pub record Mode : Type 0 where
 
 -- "CL: a clause head", and the subgoals that follow it
 pub record Clause : Type 0 where
-  pub head : Call
+  pub head : Head
   pub body : List Call
 
 -- the clause that says nothing
 abbrev pub noClause : Clause
-noClause = record { head = noCall; body = [] }
+noClause = record { head = noHead; body = [] }
 
 -- the arity of each predicate, "numbered from 0"; modes, clauses and the subgoals of the query in the order given
 pub record Book : Type 0 where

@@ -1,5 +1,5 @@
--- Every string of bytes judged from the left: document 01, "What a rule book says" and "Replies", with the places of document 02's W2 and without the second
--- ground for 6, which W6 takes away. It is recursion on the bytes that are left, so that a place is said by how many bytes are left from it on; `judge`
+-- Every string of bytes judged from the left: document 01, "What a rule book says" and "Replies", with the places of document 02's W2, without the second
+-- ground for 6, which W6 takes away, and with W9's sixth mark, `NG`. It is recursion on the bytes that are left, so that a place is said by how many bytes are left from it on; `judge`
 -- turns that into an offset, once. Every definition computes. Assumes nothing.
 use mathlib.Core.Path.{_≡_}
 use mathlib.Core.Bool.{Bool, cond, _&&_, _||_, false}
@@ -9,11 +9,11 @@ use lib.Dec.{eqb, ltb, leb}
 use lib.ListN.{length, getD, drop}
 use Rattle.masks.specs.Limits.{maxArity, maxMasks}
 use Rattle.book.specs.Limits.{maxPredicates, maxClauses, maxSubgoals}
-use Rattle.book.specs.Book.{Call, Mode, Clause, Book}
+use Rattle.book.specs.Book.{Head, Call, subgoalOf, Mode, Clause, Book}
 use Rattle.book.specs.declared.fault.Fault.{Fault}
 use Rattle.book.specs.declared.fault.Fault.the-variants.{PastEnd, NoMark, OutOfTurn, OutOfRange, TooMany, Clash}
 use Rattle.book.specs.declared.mark.Mark.{Mark}
-use Rattle.book.specs.declared.mark.Mark.the-variants.{Pr, Mo, Cl, Sg, Qu, Other, Half, End}
+use Rattle.book.specs.declared.mark.Mark.the-variants.{Pr, Mo, Cl, Sg, Ng, Qu, Other, Half, End}
 use Rattle.book.specs.declared.mark.Phase.{Phase}
 use Rattle.book.specs.declared.mark.Phase.the-variants.{Predicates, Modes, Clauses, Body, Query}
 use Rattle.book.specs.declared.mark.Turn.{Turn}
@@ -59,6 +59,7 @@ spelling Pr = 80 ∷ 82 ∷ []
 spelling Mo = 77 ∷ 79 ∷ []
 spelling Cl = 67 ∷ 76 ∷ []
 spelling Sg = 83 ∷ 71 ∷ []
+spelling Ng = 78 ∷ 71 ∷ []
 spelling Qu = 81 ∷ 85 ∷ []
 spelling Other = []
 spelling Half = []
@@ -83,16 +84,18 @@ markAt s =
     (cond (leads (spelling Mo) s) Mo
     (cond (leads (spelling Cl) s) Cl
     (cond (leads (spelling Sg) s) Sg
-    (cond (leads (spelling Qu) s) Qu (unmarked s)))))
+    (cond (leads (spelling Ng) s) Ng
+    (cond (leads (spelling Qu) s) Qu (unmarked s))))))
 
 -- ---- "Turn: all PR, then all MO, then clauses, then one QU; SG only after CL, QU or SG."
 
--- "both bytes of the mark present (1), known (2)"; the turn of a mark that is, or of the end, stands in a table
+-- "both bytes of the mark present (1), known (2)"; the turn of a mark that is, or of the end, stands in a table. W9: "`NG`, has the fields and turn of `SG`"
 abbrev pub column : Mark → Turn → Turn → Turn → Turn → Turn → Turn → Turn
 column Pr pr mo cl sg qu end = pr
 column Mo pr mo cl sg qu end = mo
 column Cl pr mo cl sg qu end = cl
 column Sg pr mo cl sg qu end = sg
+column Ng pr mo cl sg qu end = sg
 column Qu pr mo cl sg qu end = qu
 column End pr mo cl sg qu end = end
 column Other pr mo cl sg qu end = No NoMark
@@ -187,20 +190,26 @@ unfoldable pub mode : List ℕ → List Mode → List ℕ → Got Mode
 mode ar acc s = modeFields ar (low acc) (drop 2 s)
 
 -- "predicate, one argument per position"
-unfoldable pub call : Range → List ℕ → List ℕ → Got Call
-call r ar s =
+unfoldable pub fields : Range → List ℕ → List ℕ → Got Head
+fields r ar s =
     andThen (byte (Below (length ar)) s) (λ p t.
     andThen (bytes r (getD ar p 0) [] t) (λ args u.
     got (record { pred = p; args = args }) u))
 
--- "SG: the next subgoal of the clause or query just begun"
+-- W9: "254 in an `NG` is 4"
+abbrev pub argumentIn : Bool → Range
+argumentIn negated = cond negated NoWildcard Argument
+
+-- "SG: the next subgoal of the clause or query just begun", or NG, which "counts as a subgoal"
 unfoldable pub subgoal : List ℕ → List Call → List ℕ → Got Call
-subgoal ar acc s = call Argument ar (drop 2 s)
+subgoal ar acc s =
+    let negated : Bool = leads (spelling Ng) s in
+    andThen (fields (argumentIn negated) ar (drop 2 s)) (λ h t. got (subgoalOf negated h) t)
 
 -- "CL: a clause head", and the subgoals of the clause. W6: "A predicate may have both MO and clauses", so nothing else is asked of its predicate
 unfoldable pub clause : List ℕ → List Clause → List ℕ → Got Clause
 clause ar acc s =
-    andThen (call NoWildcard ar (drop 2 s)) (λ h t.
+    andThen (fields NoWildcard ar (drop 2 s)) (λ h t.
     andThen (many Body (subgoal ar) maxSubgoals [] t) (λ body u.
     got (record { head = h; body = body }) u))
 

@@ -9,21 +9,29 @@ use Rattle.masks.specs.Limits.{maxArity}
 use Rattle.masks.specs.Lists.{any, values}
 use Rattle.masks.specs.Set.{bitAt}
 use Rattle.book.specs.Limits.{maxPredicates, maxClauses, maxSubgoals}
-use Rattle.book.specs.Book.{Call, Mode, Clause, Book}
+use Rattle.book.specs.Book.{Head, Call, subgoalOf, Mode, Clause, Book}
 
 -- ---- clauses
 
--- the number of a call's arguments, in the byte that holds it: at most six, so the three lowest bits. The five above them say nothing.
+-- a byte that holds the number of arguments in its three lowest bits, since there are at most six, and above them whether a subgoal is negated. The
+-- four highest bits say nothing.
 abbrev pub countIn : ℕ → ℕ
 countIn byte = byte % 8
+
+abbrev pub negatedIn : ℕ → Bool
+negatedIn byte = eqb (byte / 8 % 2) 1
 
 -- byte i of a word, the lowest first
 abbrev pub byteOf : ℕ → ℕ → ℕ
 byteOf w i = w / 2 ^ (8 * i) % 256
 
--- a call in a word, a byte each from the lowest on: its predicate, the number of its arguments, and six arguments
+-- a head in a word, a byte each from the lowest on: its predicate, the number of its arguments, and six arguments
+abbrev pub headIn : ℕ → Head
+headIn w = record { pred = byteOf w 0; args = take (countIn (byteOf w 1)) (values (λ i. byteOf w (2 + i)) maxArity) }
+
+-- a subgoal in a word: beside the number of its arguments, that it is negated
 abbrev pub callIn : ℕ → Call
-callIn w = record { pred = byteOf w 0; args = take (countIn (byteOf w 1)) (values (λ i. byteOf w (2 + i)) maxArity) }
+callIn w = subgoalOf (negatedIn (byteOf w 1)) (headIn w)
 
 -- the words of a clause: the number of its subgoals, its head, and eight subgoals
 abbrev pub clauseSize : ℕ
@@ -37,7 +45,7 @@ rulesSize = 650
 unfoldable pub clauseAt : List ℕ → ℕ → Clause
 clauseAt rules k =
     record {
-      head = callIn (getD rules (k * clauseSize + 1) 0);
+      head = headIn (getD rules (k * clauseSize + 1) 0);
       body = values (λ j. callIn (getD rules (k * clauseSize + 2 + j) 0)) (min (getD rules (k * clauseSize) 0) maxSubgoals);
     }
 

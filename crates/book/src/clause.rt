@@ -1,6 +1,6 @@
 // Clauses, in the array of words that holds those of a book. A call, a subgoal or the head of a clause, is one word: its predicate in the lowest byte,
-// above it the number of its arguments, above that six arguments, one byte each. Of the number the three lowest bits count; the five above them say
-// nothing. Stores go through a slice, whose length the proof knows.
+// above it the number of its arguments, above that six arguments, one byte each. The number takes the three lowest bits of its byte; the bit above them is
+// set where a subgoal is negated, and the other four say nothing. Stores go through a slice, whose length the proof knows.
 use crate::limits::CLAUSE_SIZE;
 use crate::limits::MAX_SUBGOALS;
 use crate::limits::RULES_SIZE;
@@ -11,12 +11,12 @@ ghost use lib.ListN.{length, getD};
 ghost use Rattle.masks.specs.Limits.{maxArity};
 ghost use Rattle.book.specs.Limits.{maxClauses};
 ghost use Rattle.book.specs.Book.{noCall};
-ghost use Rattle.book.specs.Held.{callIn, clauseAt, StoredClause};
+ghost use Rattle.book.specs.Held.{headIn, callIn, clauseAt, StoredClause};
 
 // The head of clause k of an array.
 pub fn head_at(rules: &[u64; RULES_SIZE], k: usize) -> u64
     requires { ⌜ k ≤ maxClauses ⌝ }
-    ensures { λ r. ⌜ callIn r ≡ clauseAt (now (rules .entry)) k .head ⌝ }
+    ensures { λ r. ⌜ headIn r ≡ clauseAt (now (rules .entry)) k .head ⌝ }
 {
     rules[k * CLAUSE_SIZE + 1]
 }
@@ -42,6 +42,13 @@ pub fn predicate(call: u64) -> u8
     ensures { λ r. ⌜ r ≡ callIn call .pred ⌝ }
 {
     (call % 256) as u8
+}
+
+// A subgoal says "not".
+pub fn negated(call: u64) -> bool
+    ensures { λ r. ⌜ r ≡ callIn call .negated ⌝ }
+{
+    (call >> 11) % 2 == 1
 }
 
 // How many arguments a call has. A number above six means six.

@@ -1,12 +1,13 @@
 // Marks, and whose turn it is: document 01, "What a rule book says".
 use crate::fault::Fault;
 
-// What stands where a record may begin: one of the five marks, two other bytes, one byte, or nothing.
+// What stands where a record may begin: one of the six marks, two other bytes, one byte, or nothing.
 pub enum Mark {
     Pr,
     Mo,
     Cl,
     Sg,
+    Ng,
     Qu,
     Other,
     Half,

@@ -1,12 +1,13 @@
 -- Adorning a clause. Document 01: "variables at bound head positions start as bound; a variable at two head positions is bound if either is.
 -- Subgoals are taken in order. In each, a literal or a bound variable gives a bound position, anything else a free one. After the whole subgoal
--- all its variables become bound". Nothing above this crate looks inside `ready` and `after`. Every definition computes. Assumes nothing.
-use mathlib.Core.Bool.{Bool, true, false, cond, _&&_}
+-- all its variables become bound". Document 02, W9, of a negated subgoal: "When it is placed, every variable in it must be bound already and its pattern must fit
+-- the predicate's constraint"; "It binds nothing". Nothing above this crate looks inside `ready` and `after`. Every definition computes. Assumes nothing.
+use mathlib.Core.Bool.{Bool, true, false, not, cond, _&&_, _||_}
 use mathlib.Core.List.{List, [], _∷_}
 use Prim.Native.Nat.{ℕ, _+_, _*_, _/_, _%_}
 use lib.Dec.{eqb, ltb}
 use lib.ListN.{getD, set, replicate}
-use Rattle.masks.specs.Lists.{has}
+use Rattle.masks.specs.Lists.{all, has}
 use Rattle.masks.specs.Constraint.{admits}
 use Rattle.book.specs.Book.{Call}
 use Rattle.book.specs.Table.{Table, entry}
@@ -61,14 +62,18 @@ headBound head a = bindHead nothing head a
 
 -- ---- a subgoal in its turn
 
--- v is a variable, and stands in it; a wildcard is none
-unfoldable pub hasVariable : Call → ℕ → Bool
-hasVariable s v = ltb v variables && has (s .args) v
+-- v is a variable that it binds: it stands in it, and W9: "It binds nothing, so for W3 a head variable found only in `NG` counts as absent"; a wildcard is none
+unfoldable pub binds : Call → ℕ → Bool
+binds s v = not (s .negated) && (ltb v variables && has (s .args) v)
 
--- its pattern fits the constraint of its predicate
+-- W9, of a negated subgoal: "every variable in it must be bound already". Its other arguments are literals, which are bound: "254 in an `NG` is 4"
+unfoldable pub known : Bound → Call → Bool
+known b s = not (s .negated) || all (isBound b) (s .args)
+
+-- its pattern fits the constraint of its predicate, and W9: "every variable .. and its pattern"
 unfoldable pub ready : Table → Bound → Call → Bool
-ready T b s = admits (entry T (s .pred)) (patternOf b (s .args))
+ready T b s = admits (entry T (s .pred)) (patternOf b (s .args)) && known b s
 
--- "After the whole subgoal all its variables become bound"
+-- "After the whole subgoal all its variables become bound"; W9: "It binds nothing"
 unfoldable pub after : Bound → Call → Bound
-after b s = bindAll b (s .args)
+after b s = cond (s .negated) b (bindAll b (s .args))

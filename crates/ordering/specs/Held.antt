@@ -1,10 +1,11 @@
 -- How the code holds an order, and what is bound. Assumes nothing.
 use mathlib.Core.Path.{_≡_}
-use mathlib.Core.Bool.{Bool, true, false, cond, _&&_}
+use mathlib.Core.Bool.{Bool, true, false, not, cond, _&&_, _||_}
 use mathlib.Core.List.{List, [], _∷_}
 use mathlib.Core.Option.{Option, none, some}
 use Prim.Native.Nat.{ℕ, _+_, _*_, _%_, _^_, _<_}
 use lib.Bits.{bitOr}
+use lib.Dec.{eqb}
 use lib.ListN.{length, take}
 use Rattle.masks.specs.Lists.{values}
 use Rattle.masks.specs.Set.{bitAt}
@@ -63,6 +64,10 @@ foundOr n (some p) = p
 
 unfoldable pub picked : ℕ → (ℕ → Bool) → ℕ
 picked left passes = foundOr maxSubgoals (find (λ p. bitAt left p && passes p) (count 0 maxSubgoals))
+
+-- a subgoal whose pattern is a member of its predicate's set can run; a negated one where that is the greatest, with every argument bound
+abbrev pub canRun : ℕ → Call → ℕ → Bool
+canRun word s a = bitAt word a && (not (s .negated) || eqb (a + 1) (2 ^ length (s .args)))
 
 -- the pattern is that of the subgoal at the place, where there is one
 abbrev pub PatternAt : List Call → Bound → ℕ → ℕ → Type 0

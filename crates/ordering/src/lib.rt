@@ -5,6 +5,7 @@
 // an argument is looked up and bound by a shift, with no test of what it is.
 use book::clause::argument;
 use book::clause::arguments;
+use book::clause::negated;
 use book::clause::predicate;
 use book::clause::subgoal_at;
 use book::clause::subgoals_at;
@@ -25,10 +26,10 @@ ghost use Rattle.book.specs.declared.range.Range.the-variants.{Argument};
 ghost use Rattle.book.specs.Held.{byteOf, callIn, clauseAt};
 ghost use Rattle.book.specs.Table.{tableIn, Full};
 ghost use Rattle.book.specs.Sets.{callable};
-ghost use Rattle.ordering.specs.Adorn.{bit, patternOf, bindVar, bindAll, headBound};
+ghost use Rattle.ordering.specs.Adorn.{bit, patternOf, bindVar, headBound, after};
 ghost use Rattle.ordering.specs.Good.{readyAt, firstGood};
 ghost use Rattle.ordering.specs.Asks.{patternsIn};
-ghost use Rattle.ordering.specs.Held.{orderOf, placesOf, patternsOf, boundOf, Marked, marks, withMarks, picked, PatternAt};
+ghost use Rattle.ordering.specs.Held.{orderOf, placesOf, patternsOf, boundOf, Marked, marks, withMarks, picked, canRun, PatternAt};
 
 // An order of the subgoals of a body, if one was found: the first n places of the array, and beside each the pattern that its subgoal has in its turn.
 pub struct Order {
@@ -122,7 +123,7 @@ fn first_ready<'a>(
         rest = rest & (rest - 1);
         let s = subgoal_at(rules, k, p);
         let a = pattern(bound, s);
-        if (table[predicate(s) as usize] >> a) % 2 == 1 {
+        if can_run(table[predicate(s) as usize], s, a) {
             return Pick {
                 place: p,
                 pattern: a,
@@ -133,6 +134,20 @@ fn first_ready<'a>(
         place: MAX_SUBGOALS,
         pattern: 0,
     }
+}
+
+// A subgoal with this pattern is ready: the set of its predicate has the pattern and, where the subgoal is negated, every argument is bound.
+fn can_run(set: u64, s: u64, a: u8) -> bool
+    requires { ⌜ a < 64 ⌝ }
+    ensures { λ r. ⌜ r ≡ canRun set (callIn s) a ⌝ }
+{
+    if (set >> a) % 2 == 0 {
+        return false;
+    }
+    if !negated(s) {
+        return true;
+    }
+    a as u32 + 1 == power(arguments(s) as u64)
 }
 
 // How many places an order has: none where no order was found.
@@ -207,12 +222,16 @@ fn bound_bit(bound: u32, arg: u64) -> u32
     (bound >> (arg % 32)) % 2
 }
 
-// "After the whole subgoal all its variables become bound". The bytes behind the last argument are made literals, which are bound already.
+// "After the whole subgoal all its variables become bound"; a negated one "binds nothing". The bytes behind the last argument are made literals, which are
+// bound already.
 fn bind_all(bound: u32, s: u64) -> u32
     requires { ⌜ Marked bound × (all (allows Argument) (callIn s .args) ≡ true) ⌝ }
-    ensures { λ r. ⌜ boundOf r ≡ bindAll (boundOf bound) (callIn s .args) ⌝ }
+    ensures { λ r. ⌜ boundOf r ≡ after (boundOf bound) (callIn s) ⌝ }
     ensures { λ r. ⌜ Marked r ⌝ }
 {
+    if negated(s) {
+        return bound;
+    }
     let n = (s >> 8) % 8;
     let w = s | (ARGUMENTS << (8 * n));
     let low = bind_three(bound, w >> 16);

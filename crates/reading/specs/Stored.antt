@@ -1,6 +1,7 @@
 -- What the runs of records leave beside their answers: what was read, and that the arrays lent hold it where they have room for all. Assumes nothing.
 use mathlib.Core.Path.{_≡_}
 use mathlib.Core.Bool.{true}
+use mathlib.Core.Logic.{_⊎_}
 use mathlib.Core.List.{List, [], map}
 use Prim.Native.Nat.{ℕ, suc, _+_, _-_, _*_, _≤_}
 use lib.ListN.{length, take, drop, set}
@@ -12,7 +13,7 @@ use Rattle.book.specs.Format as format
 use Rattle.book.specs.Format.{leads, markAt, turn, Got, bad, many, mode, subgoal, query}
 use Rattle.book.specs.Held.{callIn, clauseSize, rulesSize, clauseAt, clausesOf, StoredClause, modesSize, modesOf, hasMode, bookIn}
 use Rattle.book.specs.declared.mark.Mark.{Mark}
-use Rattle.book.specs.declared.mark.Mark.the-variants.{Sg}
+use Rattle.book.specs.declared.mark.Mark.the-variants.{Sg, Ng}
 use Rattle.book.specs.declared.mark.Phase.{Phase}
 use Rattle.book.specs.declared.mark.Phase.the-variants.{Modes, Clauses}
 use Rattle.book.specs.declared.mark.Turn.the-variants.{Mine, Over}
@@ -42,10 +43,11 @@ pub record ReadsModes (ar s : List ℕ) (from : ℕ) (r : FoundModes) (before af
 
 -- ---- subgoals
 
--- a run of subgoals: SG begins its records, and no other mark does
+-- a run of subgoals: SG and NG begin its records, and no other mark does
 pub record Bodied (p : Phase) : Type 0 where
-  pub own : turn p Sg ≡ Mine
-  pub sole : (m : Mark) → turn p m ≡ Mine → m ≡ Sg
+  pub positive : turn p Sg ≡ Mine
+  pub negated : turn p Ng ≡ Mine
+  pub sole : (m : Mark) → turn p m ≡ Mine → (m ≡ Sg) ⊎ (m ≡ Ng)
 
 -- what subgoals come to in the run p, where its end is still to be judged
 abbrev pub onward : {A : Type 0} → Phase → List ℕ → Found → A → Got A

@@ -19,6 +19,7 @@ use records::field::read_mode;
 use records::field::read_predicate;
 use records::field::read_subgoal;
 use records::turn::is_mark;
+use records::turn::is_subgoal;
 use records::turn::run_end;
 ghost use mathlib.Core.Path.{_≡_};
 ghost use mathlib.Core.List.{[]};
@@ -310,7 +311,7 @@ fn read_body(s: &[u8], ar: &[u8], from: usize, rules: &mut [u64], k: usize) -> F
     let base = k * CLAUSE_SIZE;
     let mut at = from;
     let mut n: usize = 0;
-    while is_mark(s, at, b"SG") {
+    while is_subgoal(s, at) {
         if MAX_SUBGOALS <= n {
             return Found::Bad(Fault::TooMany, at);
         }

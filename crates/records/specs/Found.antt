@@ -1,13 +1,14 @@
 -- What the reader's answers stand for. Assumes nothing.
 use mathlib.Core.Path.{_≡_}
-use mathlib.Core.Bool.{true}
+use mathlib.Core.Bool.{Bool, true, _||_}
 use mathlib.Core.List.{List}
 use Prim.Native.Nat.{ℕ, _-_, _≤_}
 use lib.ListN.{length, drop}
 use Rattle.masks.specs.Limits.{maxArity}
 use Rattle.masks.specs.Lists.{all}
 use Rattle.book.specs.Limits.{maxPredicates}
-use Rattle.book.specs.Format.{allows, Got, bad, got, onTurn, turn, markAt}
+use Rattle.book.specs.Format.{spelling, leads, allows, Got, bad, got, onTurn, turn, markAt}
+use Rattle.book.specs.declared.mark.Mark.the-variants.{Sg, Ng}
 use Rattle.book.specs.declared.mark.Phase.{Phase}
 use Rattle.book.specs.declared.range.Range.the-variants.{AtMost}
 use Rattle.records.specs.declared.field.Found.{Found}
@@ -30,6 +31,10 @@ pub record Reads {A : Type 0} (s : List ℕ) (r : Found) (f : ℕ → A) (g : Go
 -- a run that no further record of its own follows: its end, with the value a, or a fault
 abbrev pub stops : {A : Type 0} → Phase → A → List ℕ → Got A
 stops p a s = onTurn (turn p (markAt s)) (got a s) a s
+
+-- a subgoal begins here, of either kind
+abbrev pub leadsSubgoal : List ℕ → Bool
+leadsSubgoal s = leads (spelling Sg) s || leads (spelling Ng) s
 
 -- the arities of a book
 pub record Arities (ar : List ℕ) : Type 0 where

@@ -1,9 +1,11 @@
 // The fields of records, byte by byte from the left, and the records that are not runs of others: a predicate, a mode, a subgoal, a head. A call is read into
 // the word that holds it, and a mode into the array that is lent for all.
+use crate::turn::is_mark;
 use book::fault::Fault;
 use book::limits::LAST_VARIABLE;
 use book::limits::LITERAL;
 use book::limits::MODE_SIZE;
+use book::limits::NEGATED;
 use book::limits::WILDCARD;
 use book::range::Range;
 use masks::constraint::patterns;
@@ -16,10 +18,10 @@ ghost use Prim.Native.Nat.{_+_, _*_, _^_, _≤_, _<_};
 ghost use lib.Dec.{leb};
 ghost use lib.ListN.{length, drop, set};
 ghost use Rattle.masks.specs.Limits.{maxArity};
-ghost use Rattle.book.specs.Format.{allows, byte, bytes, predicate, call, subgoal, masks, modeFields};
-ghost use Rattle.book.specs.Held.{callIn};
+ghost use Rattle.book.specs.Format.{allows, byte, bytes, predicate, fields, subgoal, masks, modeFields};
+ghost use Rattle.book.specs.Held.{countIn, negatedIn, headIn, callIn};
 ghost use Rattle.records.specs.Found.{Reads, Arities};
-ghost use Rattle.records.specs.Stored.{argumentFrom, arguments, ReadsBytes, ReadsMasks, ReadsMode};
+ghost use Rattle.records.specs.Stored.{argumentFrom, arguments, ReadsCall, ReadsBytes, ReadsMasks, ReadsMode};
 
 // What reading comes to: the place after what was read and, where that is a byte, the byte, or a fault and its place. Whatever is counted or larger
 // stands beside it.
@@ -72,17 +74,20 @@ pub fn read_mode(s: &[u8], ar: &[u8], low: u8, at: usize, modes: &mut [u8]) -> F
 // The head of the clause whose record is at a place.
 pub fn read_head(s: &[u8], ar: &[u8], at: usize) -> FoundCall
     requires { ⌜ (at + 2 ≤ length (now s)) × Arities (now ar) ⌝ }
-    ensures { λ r. ⌜ Reads (now (s .entry)) (r .found) (λ _. callIn (r .call)) (call Range.NoWildcard (now (ar .entry)) (drop (at + 2) (now (s .entry)))) ⌝ }
+    ensures { λ r. ⌜ Reads (now (s .entry)) (r .found) (λ _. headIn (r .call)) (fields Range.NoWildcard (now (ar .entry)) (drop (at + 2) (now (s .entry)))) ⌝ }
 {
-    read_call(s, ar, at + 2, LITERAL)
+    read_call(s, ar, at + 2, LITERAL, false)
 }
 
-// The subgoal whose record is at a place.
+// The subgoal whose record is at a place, `SG` or `NG`: "254 in an `NG` is 4".
 pub fn read_subgoal(s: &[u8], ar: &[u8], at: usize) -> FoundCall
     requires { ⌜ (at + 2 ≤ length (now s)) × Arities (now ar) ⌝ }
     ensures { λ r. ⌜ Reads (now (s .entry)) (r .found) (λ _. callIn (r .call)) (subgoal (now (ar .entry)) [] (drop at (now (s .entry)))) ⌝ }
 {
-    read_call(s, ar, at + 2, WILDCARD)
+    if is_mark(s, at, b"NG") {
+        return read_call(s, ar, at + 2, LITERAL, true);
+    }
+    read_call(s, ar, at + 2, WILDCARD, false)
 }
 
 // "n, n masks", each one of so many patterns, stored as the mode of predicate p.
@@ -103,24 +108,25 @@ fn read_masks(s: &[u8], at: usize, patterns: u8, p: u8, modes: &mut [u8]) -> Fou
     }
 }
 
-// A predicate and as many arguments as its arity, each a variable or a byte from the least one on.
-fn read_call(s: &[u8], ar: &[u8], at: usize, least: u8) -> FoundCall
+// A predicate and as many arguments as its arity, each a variable or a byte from the least one on, into the word of a call that is negated or not.
+fn read_call(s: &[u8], ar: &[u8], at: usize, least: u8, negated: bool) -> FoundCall
     requires { ⌜ (at ≤ length (now s)) × Arities (now ar) × (254 ≤ least) ⌝ }
-    ensures { λ r. ⌜ Reads (now (s .entry)) (r .found) (λ _. callIn (r .call)) (call (argumentFrom least) (now (ar .entry)) (drop at (now (s .entry)))) ⌝ }
+    ensures { λ r. ⌜ ReadsCall (now (s .entry)) r negated (fields (argumentFrom least) (now (ar .entry)) (drop at (now (s .entry)))) ⌝ }
 {
     let g = read_byte(s, at, Range::Below(ar.len() as u8));
     match g {
         Found::Bad(_, _) => FoundCall { found: g, call: 0 },
-        Found::Next(next, pred) => read_args(s, next, pred, ar[pred as usize], least),
+        Found::Next(next, pred) => read_args(s, next, pred, ar[pred as usize], least, negated),
     }
 }
 
 // The n arguments of a call of a predicate. The word of the call has them from its low end on, above the predicate and n.
-fn read_args(s: &[u8], from: usize, pred: u8, n: u8, least: u8) -> FoundCall
+fn read_args(s: &[u8], from: usize, pred: u8, n: u8, least: u8, negated: bool) -> FoundCall
     requires { ⌜ (from ≤ length (now s)) × (n ≤ maxArity) × (254 ≤ least) ⌝ }
-    ensures { λ r. ⌜ Reads (now (s .entry)) (r .found) (λ _. callIn (r .call)) (arguments (argumentFrom least) pred n (drop from (now (s .entry)))) ⌝ }
+    ensures { λ r. ⌜ ReadsCall (now (s .entry)) r negated (arguments (argumentFrom least) pred n (drop from (now (s .entry)))) ⌝ }
 {
-    let mut call = n as u64 * 256 + pred as u64;
+    let count = signed(n, negated);
+    let mut call = count as u64 * 256 + pred as u64;
     let mut at = from;
     let mut shift: u32 = 16;
     let mut i: u8 = 0;
@@ -147,6 +153,14 @@ fn read_args(s: &[u8], from: usize, pred: u8, n: u8, least: u8) -> FoundCall
         found: Found::Next(at, 0),
         call,
     }
+}
+
+// The byte of a word that holds the number of a call's arguments, and whether it is negated.
+fn signed(n: u8, negated: bool) -> u8
+    requires { ⌜ n ≤ maxArity ⌝ }
+    ensures { λ r. ⌜ (countIn r ≡ n) × (negatedIn r ≡ negated) ⌝ }
+{
+    if negated { n + NEGATED } else { n }
 }
 
 // A word that has no bits from a place on, with a byte there.

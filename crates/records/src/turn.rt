@@ -1,4 +1,5 @@
-// Marks, and whose turn it is where a record may begin: "all `PR`, then all `MO`, then clauses, then one `QU`; `SG` only after `CL`, `QU` or `SG`".
+// Marks, and whose turn it is where a record may begin: "all `PR`, then all `MO`, then clauses, then one `QU`; `SG` only after `CL`, `QU` or `SG`",
+// and `NG`, which "has the fields and turn of `SG`".
 use crate::field::Found;
 use book::fault::Fault;
 use book::fault::place;
@@ -9,7 +10,7 @@ ghost use mathlib.Core.Path.{_≡_};
 ghost use Prim.Native.Nat.{_≤_};
 ghost use lib.ListN.{length, drop};
 ghost use Rattle.book.specs.Format as format;
-ghost use Rattle.records.specs.Found.{Reads, stops};
+ghost use Rattle.records.specs.Found.{Reads, stops, leadsSubgoal};
 
 // The two bytes at a place are this mark.
 pub fn is_mark(s: &[u8], at: usize, m: &[u8; 2]) -> bool
@@ -23,6 +24,17 @@ pub fn is_mark(s: &[u8], at: usize, m: &[u8; 2]) -> bool
         return false;
     }
     s[at + 1] == m[1]
+}
+
+// A subgoal begins at a place, `SG` or `NG`.
+pub fn is_subgoal(s: &[u8], at: usize) -> bool
+    requires { ⌜ at ≤ length (now s) ⌝ }
+    ensures { λ r. ⌜ r ≡ leadsSubgoal (drop at (now (s .entry))) ⌝ }
+{
+    if is_mark(s, at, b"SG") {
+        return true;
+    }
+    is_mark(s, at, b"NG")
 }
 
 // What comes of a run where none of its records follows: its end, or a fault.
@@ -39,7 +51,7 @@ pub fn run_end(s: &[u8], at: usize, p: Phase) -> Found
     }
 }
 
-// What `PR`, `MO`, `CL`, `SG`, `QU` and the end of the bytes mean in each run.
+// What `PR`, `MO`, `CL`, `SG` or `NG`, `QU` and the end of the bytes mean in each run.
 fn turn(p: Phase, m: Mark) -> Turn
     ensures { λ r. ⌜ r ≡ format.turn p m ⌝ }
 {
@@ -55,7 +67,7 @@ fn turn(p: Phase, m: Mark) -> Turn
     }
 }
 
-// The entry of a row for a mark: "both bytes of the mark present (1), known (2)", else as given.
+// The entry of a row for a mark: "both bytes of the mark present (1), known (2)", else as given. `NG` has the turn of `SG`.
 fn column(m: Mark, pr: Turn, mo: Turn, cl: Turn, sg: Turn, qu: Turn, end: Turn) -> Turn
     ensures { λ r. ⌜ r ≡ format.column m pr mo cl sg qu end ⌝ }
 {
@@ -64,6 +76,7 @@ fn column(m: Mark, pr: Turn, mo: Turn, cl: Turn, sg: Turn, qu: Turn, end: Turn) 
         Mark::Mo => mo,
         Mark::Cl => cl,
         Mark::Sg => sg,
+        Mark::Ng => sg,
         Mark::Qu => qu,
         Mark::End => end,
         Mark::Other => Turn::No(Fault::NoMark),
@@ -88,13 +101,16 @@ fn mark_at(s: &[u8], at: usize) -> Mark
     if is_mark(s, at, b"SG") {
         return Mark::Sg;
     }
+    if is_mark(s, at, b"NG") {
+        return Mark::Ng;
+    }
     if is_mark(s, at, b"QU") {
         return Mark::Qu;
     }
     unmarked(s, at)
 }
 
-// What stands at a place where there is none of the five marks.
+// What stands at a place where there is none of the six marks.
 fn unmarked(s: &[u8], at: usize) -> Mark
     requires { ⌜ at ≤ length (now s) ⌝ }
     ensures { λ r. ⌜ r ≡ format.unmarked (drop at (now (s .entry))) ⌝ }

@@ -11,6 +11,7 @@ use crate::put::put_mark;
 use book::clause::argument;
 use book::clause::arguments;
 use book::clause::head_at;
+use book::clause::negated;
 use book::clause::predicate;
 use book::clause::subgoal_at;
 use book::clause::subgoals_at;
@@ -26,8 +27,8 @@ ghost use lib.ListN.{length, take};
 ghost use Rattle.masks.specs.Limits.{maxMasks};
 ghost use Rattle.masks.specs.Outcome.{Answers, done};
 ghost use Rattle.book.specs.Limits.{maxClauses, maxPredicates};
-ghost use Rattle.book.specs.Encode.{run, encPredicate, encMode, encCall, encSubgoal, encClause, encode};
-ghost use Rattle.book.specs.Held.{callIn, clauseAt, clausesOf, HaveMode, modesOf, bookIn};
+ghost use Rattle.book.specs.Encode.{run, encPredicate, encMode, encHead, encSubgoal, encClause, encode};
+ghost use Rattle.book.specs.Held.{headIn, callIn, clauseAt, clausesOf, HaveMode, modesOf, bookIn};
 ghost use Rattle.writing.specs.Wrote.{Room, Wrote};
 
 // Writes the bytes of a book from the output's start, or answers 9 where the output is too short.
@@ -162,17 +163,29 @@ fn put_body(out: &mut [u8], at: usize, rules: &[u64; RULES_SIZE], k: usize) -> u
     let mut p = at;
     let mut j: usize = 0;
     while j < n {
-        let q = put_mark(out, p, b"SG");
-        p = put_call(out, q, subgoal_at(rules, k, j));
+        p = put_subgoal(out, p, subgoal_at(rules, k, j));
         j += 1;
     }
     p
 }
 
+// "`SG`", or "`NG`", with the same fields.
+fn put_subgoal(out: &mut [u8], at: usize, call: u64) -> usize
+    requires { ⌜ Room (now out) at (encSubgoal (callIn call)) ⌝ }
+    ensures { λ r. ⌜ Wrote (now (out .entry)) (now (out .exit)) at r (encSubgoal (callIn call)) ⌝ }
+{
+    if negated(call) {
+        let p = put_mark(out, at, b"NG");
+        return put_call(out, p, call);
+    }
+    let q = put_mark(out, at, b"SG");
+    put_call(out, q, call)
+}
+
 // "predicate, one argument per position".
 fn put_call(out: &mut [u8], at: usize, call: u64) -> usize
-    requires { ⌜ Room (now out) at (encCall (callIn call)) ⌝ }
-    ensures { λ r. ⌜ Wrote (now (out .entry)) (now (out .exit)) at r (encCall (callIn call)) ⌝ }
+    requires { ⌜ Room (now out) at (encHead (headIn call)) ⌝ }
+    ensures { λ r. ⌜ Wrote (now (out .entry)) (now (out .exit)) at r (encHead (headIn call)) ⌝ }
 {
     let n = arguments(call);
     let mut p = put_byte(out, at, predicate(call));

@@ -1,7 +1,7 @@
 -- No valid book is longer than 6,986 bytes, and none is shorter than 2: a record has a greatest length, and there are no more MO than predicates. Assumes
 -- nothing.
 use mathlib.Core.Path.{_≡_, refl, ap}
-use mathlib.Core.Bool.{Bool, true}
+use mathlib.Core.Bool.{Bool, true, false, cond}
 use mathlib.Core.List.{List, [], _∷_, _++_}
 use Prim.Native.Nat.{ℕ, zero, suc, _+_, _*_, _≤_, _<_}
 use native.Mathlib.Omega.{arith}
@@ -14,11 +14,12 @@ use Rattle.masks.specs.Lists.{all}
 use Rattle.masks.proofs.Laws.Logic.{and-left, and-right}
 use Rattle.book.specs.Limits.{longest, shortest, maxPredicates, maxClauses, maxSubgoals}
 use Rattle.book.specs.Book.{Call, Mode, Clause, Book}
-use Rattle.book.specs.Format.{allows, Judged, fault, book, judge}
+use Rattle.book.specs.Format.{spelling, allows, argumentIn, Judged, fault, book, judge}
 use Rattle.book.specs.Encode.{run, encPredicate, encMode, encSubgoal, encClause, encode, callFits, modeFits, clauseFits, WellFormed}
 use Rattle.book.specs.declared.fault.Fault.{Fault}
-use Rattle.book.specs.declared.range.Range.the-variants.{AtMost, Argument, NoWildcard}
-use Rattle.book.proofs.Laws.Trip.{call-size, mode-few, clause-head, clause-few, clause-goals, rising, judge-inv}
+use Rattle.book.specs.declared.mark.Mark.the-variants.{Sg, Ng}
+use Rattle.book.specs.declared.range.Range.the-variants.{AtMost, NoWildcard}
+use Rattle.book.proofs.Laws.Trip.{fields-size, mode-few, clause-head, clause-few, clause-goals, rising, judge-inv}
 
 -- ---- the length of records
 
@@ -39,15 +40,27 @@ arities-at [] t i = omega arith
 arities-at (x ∷ ar) t zero = leb-true _ _ (and-left (allows (AtMost maxArity) x) (all (allows (AtMost maxArity)) ar) t)
 arities-at (x ∷ ar) t (suc i) = arities-at ar (and-right (allows (AtMost maxArity) x) (all (allows (AtMost maxArity)) ar) t) i
 
+-- of either kind
+pub subgoal-size : (c : Call) → length (encSubgoal c) ≡ 3 + length (c .args)
+subgoal-size c = go (c .negated)
+  where
+    go : (n : Bool) → length (cond n (spelling Ng ++ (c .pred ∷ c .args)) (spelling Sg ++ (c .pred ∷ c .args))) ≡ 3 + length (c .args)
+    go true = omega arith
+    go false = omega arith
+
 module _ (ar : List ℕ) (arity : (i : ℕ) → getD ar i 0 ≤ maxArity) where
-  subgoal-length : (c : Call) → callFits Argument ar c ≡ true → length (encSubgoal c) ≤ 9
-  subgoal-length c t = let a = call-size Argument ar c t in let b = arity (c .pred) in omega arith
+  subgoal-length : (c : Call) → callFits ar c ≡ true → length (encSubgoal c) ≤ 9
+  subgoal-length c t =
+      let n = subgoal-size c in
+      let a = fields-size (argumentIn (c .negated)) ar (c .pred) (c .args) t in
+      let b = arity (c .pred) in
+      omega arith
 
   clause-length : (c : Clause) → clauseFits ar c ≡ true → length (encClause c) ≤ 81
   clause-length c t =
-      let a = call-size NoWildcard ar (c .head) (clause-head ar c t) in
+      let a = fields-size NoWildcard ar (c .head .pred) (c .head .args) (clause-head ar c t) in
       let b = arity (c .head .pred) in
-      let d = run-length (callFits Argument ar) encSubgoal 9 subgoal-length (c .body) (clause-goals ar c t) in
+      let d = run-length (callFits ar) encSubgoal 9 subgoal-length (c .body) (clause-goals ar c t) in
       let e = clause-few ar c t in
       let f = length-append (c .head .args) (run encSubgoal (c .body)) in
       omega arith
@@ -68,7 +81,7 @@ encode-length b w =
     let p = run-length (allows (AtMost maxArity)) encPredicate 3 (λ a t. omega arith) ar (w .aritiesFit) in
     let m = run-length (modeFits ar) encMode 24 (mode-length ar) ms (w .modesFit) in
     let c = run-length (clauseFits ar) encClause 81 (clause-length ar low) cs (w .clausesFit) in
-    let q = run-length (callFits Argument ar) encSubgoal 9 (subgoal-length ar low) (b .query) (w .queryFits) in
+    let q = run-length (callFits ar) encSubgoal 9 (subgoal-length ar low) (b .query) (w .queryFits) in
     let few : length ar ≤ maxPredicates = leb-true _ _ (w .fewPredicates) in
     let r = rising ar 0 ms (omega arith) (w .modesFit) (w .modesRise) in
     let owned : length cs ≤ maxClauses = leb-true _ _ (w .fewClauses) in

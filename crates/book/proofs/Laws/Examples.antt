@@ -1,16 +1,21 @@
--- Document 01's book of 45 bytes, and the places of faults, by computing. Assumes nothing.
+-- Document 01's book of 45 bytes, the places of faults, and W9's subgoals that say "not", by computing. Assumes nothing.
 use mathlib.Core.Path.{_≡_, refl}
+use mathlib.Core.Bool.{Bool, true, false}
 use mathlib.Core.List.{List, [], _∷_, _++_, map}
 use Prim.Native.Nat.{ℕ}
 use lib.ListN.{replicate}
-use Rattle.book.specs.Book.{Book}
-use Rattle.book.specs.Format.{markAt, allows, bytes, many, lowFrom, predicate, masks, modeFields, mode, call, subgoal, clause, query, rules, readBook, fault, book, judge}
-use Rattle.book.specs.Encode.{PR, MO, CL, SG, QU, run, encode}
+use Rattle.book.specs.Book.{Call, Book}
+use Rattle.book.specs.Format.{markAt, allows, bytes, many, lowFrom, predicate, masks, modeFields, mode, fields, subgoal, clause, query, rules, readBook, fault, book, judge}
+use Rattle.book.specs.Encode.{PR, MO, CL, SG, NG, QU, run, encode}
 use Rattle.book.specs.declared.fault.Fault.the-variants.{PastEnd, NoMark, OutOfTurn, OutOfRange, TooMany, Clash}
 
 unfoldable pub compute : Unit {0}
-unfolding markAt allows bytes many lowFrom predicate masks modeFields mode call subgoal clause query rules readBook judge encode
+unfolding markAt allows bytes many lowFrom predicate masks modeFields mode fields subgoal clause query rules readBook judge encode
 compute = tt
+
+-- a subgoal, negated or not, of a predicate with arguments
+abbrev goal : Bool → ℕ → List ℕ → Call
+goal n p args = record { negated = n; pred = p; args = args }
 
 -- "Clause: fault(H) :- low(V), volts(H,V). Query: fault(H), head(H)."
 unfoldable pub k1-book : Book
@@ -19,9 +24,9 @@ k1-book = record {
   modes = record { pred = 1; masks = 1 ∷ [] } ∷ record { pred = 3; masks = 1 ∷ [] } ∷ [];
   clauses = record {
     head = record { pred = 2; args = 0 ∷ [] };
-    body = record { pred = 3; args = 1 ∷ [] } ∷ record { pred = 1; args = 0 ∷ 1 ∷ [] } ∷ [];
+    body = goal false 3 (1 ∷ []) ∷ goal false 1 (0 ∷ 1 ∷ []) ∷ [];
   } ∷ [];
-  query = record { pred = 2; args = 0 ∷ [] } ∷ record { pred = 0; args = 0 ∷ [] } ∷ [];
+  query = goal false 2 (0 ∷ []) ∷ goal false 0 (0 ∷ []) ∷ [];
 }
 
 pub k1 : judge (80 ∷ 82 ∷ 1 ∷ 80 ∷ 82 ∷ 2 ∷ 80 ∷ 82 ∷ 1 ∷ 80 ∷ 82 ∷ 1 ∷ 77 ∷ 79 ∷ 1 ∷ 1 ∷ 1 ∷ 77 ∷ 79 ∷ 3 ∷ 1 ∷ 1 ∷ 67 ∷ 76 ∷ 2 ∷ 0
@@ -107,3 +112,39 @@ both : judge (two (MO (0 ∷ 1 ∷ 1 ∷ []) ++ CL (0 ∷ 0 ∷ []) ++ QU))
     })
 unfolding compute
 both = refl
+
+-- ---- W9's sixth mark
+
+-- "`NG`, has the fields and turn of `SG`": of either kind a clause and the query have both, in any turn, and are written as they were read
+abbrev signs : Book
+signs = record {
+  arities = 1 ∷ 2 ∷ [];
+  modes = [];
+  clauses = record { head = record { pred = 0; args = 0 ∷ [] }; body = goal true 1 (0 ∷ 255 ∷ []) ∷ goal false 1 (0 ∷ 254 ∷ []) ∷ [] } ∷ [];
+  query = goal false 0 (3 ∷ []) ∷ goal true 0 (3 ∷ []) ∷ [];
+}
+
+both-signs : judge (two (CL (0 ∷ 0 ∷ []) ++ NG (1 ∷ 0 ∷ 255 ∷ []) ++ SG (1 ∷ 0 ∷ 254 ∷ []) ++ QU ++ SG (0 ∷ 3 ∷ []) ++ NG (0 ∷ 3 ∷ []))) ≡ book signs
+unfolding compute
+both-signs = refl
+
+signs-written : encode signs ≡ two (CL (0 ∷ 0 ∷ []) ++ NG (1 ∷ 0 ∷ 255 ∷ []) ++ SG (1 ∷ 0 ∷ 254 ∷ []) ++ QU ++ SG (0 ∷ 3 ∷ []) ++ NG (0 ∷ 3 ∷ []))
+unfolding compute
+signs-written = refl
+
+not-in-turn : map judge (two (NG (0 ∷ 0 ∷ [])) ∷ two (CL (0 ∷ 0 ∷ []) ++ MO []) ∷ two (QU ++ NG (1 ∷ 0 ∷ [])) ∷ []) ≡ fault OutOfTurn 6 ∷ fault OutOfTurn 10 ∷ fault PastEnd 12 ∷ []
+unfolding compute
+not-in-turn = refl
+
+-- "254 in an `NG` is 4", at its byte; so is a predicate that is not there
+not-any : map judge (two (QU ++ NG (1 ∷ 0 ∷ 254 ∷ [])) ∷ two (CL (0 ∷ 0 ∷ []) ++ NG (0 ∷ 254 ∷ []) ++ QU) ∷ two (QU ++ NG (2 ∷ [])) ∷ []) ≡ fault OutOfRange 12 ∷ fault OutOfRange 13 ∷ fault OutOfRange 10 ∷ []
+unfolding compute
+not-any = refl
+
+-- "5 covers `SG` and `NG` together": eight of the one and a ninth of the other
+abbrev eight : (List ℕ → List ℕ) → List ℕ
+eight mark = run mark (replicate 8 (0 ∷ 0 ∷ []))
+
+too-many-together : map judge (two (QU ++ eight SG ++ NG (0 ∷ 0 ∷ [])) ∷ two (CL (0 ∷ 0 ∷ []) ++ eight NG ++ SG (0 ∷ 0 ∷ [])) ∷ two (QU ++ eight NG ++ NG (0 ∷ 0 ∷ [])) ∷ []) ≡ fault TooMany 40 ∷ fault TooMany 42 ∷ fault TooMany 40 ∷ []
+unfolding compute
+too-many-together = refl

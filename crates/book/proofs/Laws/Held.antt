@@ -18,8 +18,8 @@ use Rattle.masks.proofs.Laws.Set.{bitAt-zero, bitAt-more}
 use Rattle.masks.proofs.Laws.Logic.{byBool, same, and-intro, and-left, and-right, or-right}
 use Rattle.masks.proofs.Laws.Lists.{take-front, length-values, values-cong, getD-values, joined-cong, joined-cut, any-joined, joined-any}
 use Rattle.book.specs.Limits.{maxPredicates, maxClauses, maxSubgoals}
-use Rattle.book.specs.Book.{Call, Mode, Clause}
-use Rattle.book.specs.Held.{window, countIn, byteOf, callIn, clauseSize, rulesSize, clauseAt, clausesOf, StoredClause, modeSize, hasIn, masksIn, modeBytes, hasMode, HaveMode, modeAt, modesOf, StoredMode}
+use Rattle.book.specs.Book.{Head, Call, Mode, Clause}
+use Rattle.book.specs.Held.{window, countIn, byteOf, headIn, callIn, clauseSize, rulesSize, clauseAt, clausesOf, StoredClause, modeSize, hasIn, masksIn, modeBytes, hasMode, HaveMode, modeAt, modesOf, StoredMode}
 use Rattle.book.proofs.Laws.Windows.{drop-window, getD-window, getD-window-first, window-others, drop-longer, Stored, stored-sets}
 
 -- ---- a clause
@@ -59,7 +59,7 @@ pub clauseAt-same : (rules after : List ℕ) (k i : ℕ) → ((j : ℕ) → j < 
     → clauseAt after i ≡ clauseAt rules k
 unfolding clauseAt
 clauseAt-same rules after k i same =
-    ap₂ (λ (h : Call) (b : List Call). record { head = h; body = b }) (ap callIn (same 1 (omega arith)))
+    ap₂ (λ (h : Head) (b : List Call). record { head = h; body = b }) (ap headIn (same 1 (omega arith)))
     (ap (λ (n : ℕ). values (callAt after i) (min n maxSubgoals)) count
     ∙ values-cong (callAt after i) (callAt rules k) (min (getD rules (k * clauseSize) 0) maxSubgoals)
     (λ j h.

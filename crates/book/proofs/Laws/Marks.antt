@@ -1,6 +1,7 @@
--- Marks, and whose turn it is: the bytes at one of the five marks are its two, and a run has those for its own that the table of turns
+-- Marks, and whose turn it is: the bytes at one of the six marks are its two, and a run has those for its own that the table of turns
 -- tells so. Assumes nothing.
 use mathlib.Core.Path.{_≡_, refl, ap, _∙_, subst}
+use mathlib.Core.Logic.{_⊎_, inl, inr, ⊎-elim}
 use mathlib.Core.Bool.{Bool, true, false, cond, false≢true}
 use mathlib.Core.List.{List, [], _∷_, _++_}
 use Prim.Native.Nat.{ℕ, suc}
@@ -11,7 +12,7 @@ use Rattle.masks.proofs.Laws.Logic.{clash, and-left, and-right}
 use Rattle.book.specs.Format.{spelling, leads, unmarked, markAt, column, turn}
 use Rattle.book.specs.declared.fault.Fault.the-variants.{PastEnd, NoMark}
 use Rattle.book.specs.declared.mark.Mark.{Mark}
-use Rattle.book.specs.declared.mark.Mark.the-variants.{Pr, Mo, Cl, Sg, Qu, Other, Half, End}
+use Rattle.book.specs.declared.mark.Mark.the-variants.{Pr, Mo, Cl, Sg, Ng, Qu, Other, Half, End}
 use Rattle.book.specs.declared.mark.Phase.{Phase}
 use Rattle.book.specs.declared.mark.Phase.the-variants.{Predicates, Modes, Clauses, Body, Query}
 use Rattle.book.specs.declared.mark.Turn.{Turn}
@@ -27,22 +28,23 @@ leads-two a b (x ∷ y ∷ s) t =
     let q = eqb-true y b (and-right (eqb x a) (eqb y b) t) in
     rw (p, q)
 
--- by cases on the five tests
-pick : (P : Mark → Type 0) (a b c d e : Bool) {m : Mark} → (a ≡ true → P Pr) → (b ≡ true → P Mo) → (c ≡ true → P Cl) → (d ≡ true → P Sg) → (e ≡ true → P Qu) → P m
-    → P (cond a Pr (cond b Mo (cond c Cl (cond d Sg (cond e Qu m)))))
-pick P true b c d e p q r s t u = p refl
-pick P false true c d e p q r s t u = q refl
-pick P false false true d e p q r s t u = r refl
-pick P false false false true e p q r s t u = s refl
-pick P false false false false true p q r s t u = t refl
-pick P false false false false false p q r s t u = u
+-- by cases on the six tests
+pick : (P : Mark → Type 0) (a b c d e f : Bool) {m : Mark} → (a ≡ true → P Pr) → (b ≡ true → P Mo) → (c ≡ true → P Cl) → (d ≡ true → P Sg) → (e ≡ true → P Ng)
+    → (f ≡ true → P Qu) → P m → P (cond a Pr (cond b Mo (cond c Cl (cond d Sg (cond e Ng (cond f Qu m))))))
+pick P true b c d e f p q r s t u v = p refl
+pick P false true c d e f p q r s t u v = q refl
+pick P false false true d e f p q r s t u v = r refl
+pick P false false false true e f p q r s t u v = s refl
+pick P false false false false true f p q r s t u v = t refl
+pick P false false false false false true p q r s t u v = u refl
+pick P false false false false false false p q r s t u v = v
 
 module _ (P : Mark → Type 0) (s : List ℕ) where
   pub byMark : (leads (spelling Pr) s ≡ true → P Pr) → (leads (spelling Mo) s ≡ true → P Mo) → (leads (spelling Cl) s ≡ true → P Cl)
-      → (leads (spelling Sg) s ≡ true → P Sg) → (leads (spelling Qu) s ≡ true → P Qu) → P (unmarked s) → P (markAt s)
+      → (leads (spelling Sg) s ≡ true → P Sg) → (leads (spelling Ng) s ≡ true → P Ng) → (leads (spelling Qu) s ≡ true → P Qu) → P (unmarked s) → P (markAt s)
   unfolding markAt
-  byMark p q r t u v =
-      pick P (leads (spelling Pr) s) (leads (spelling Mo) s) (leads (spelling Cl) s) (leads (spelling Sg) s) (leads (spelling Qu) s) p q r t u v
+  byMark p q r t u v w =
+      pick P (leads (spelling Pr) s) (leads (spelling Mo) s) (leads (spelling Cl) s) (leads (spelling Sg) s) (leads (spelling Ng) s) (leads (spelling Qu) s) p q r t u v w
 
 -- the two bytes of a mark, and the rest
 abbrev pub Spelt : List ℕ → Mark → Type 0
@@ -50,13 +52,14 @@ Spelt s Pr = s ≡ spelling Pr ++ drop 2 s
 Spelt s Mo = s ≡ spelling Mo ++ drop 2 s
 Spelt s Cl = s ≡ spelling Cl ++ drop 2 s
 Spelt s Sg = s ≡ spelling Sg ++ drop 2 s
+Spelt s Ng = s ≡ spelling Ng ++ drop 2 s
 Spelt s Qu = s ≡ spelling Qu ++ drop 2 s
 Spelt s Other = Unit {0}
 Spelt s Half = Unit {0}
 Spelt s End = s ≡ []
 
 pub spelt : (s : List ℕ) → Spelt s (markAt s)
-spelt s = byMark (Spelt s) s (leads-two 80 82 s) (leads-two 77 79 s) (leads-two 67 76 s) (leads-two 83 71 s) (leads-two 81 85 s) (none s)
+spelt s = byMark (Spelt s) s (leads-two 80 82 s) (leads-two 77 79 s) (leads-two 67 76 s) (leads-two 83 71 s) (leads-two 78 71 s) (leads-two 81 85 s) (none s)
   where
     none : (t : List ℕ) → Spelt t (unmarked t)
     none [] = refl
@@ -66,16 +69,17 @@ spelt s = byMark (Spelt s) s (leads-two 80 82 s) (leads-two 77 79 s) (leads-two 
 -- ---- a row of the table of turns
 
 module _ (P : Mark → Type 0) (m : Mark) {pr mo cl sg qu end t : Turn} where
-  byColumn : column m pr mo cl sg qu end ≡ t → (pr ≡ t → P Pr) → (mo ≡ t → P Mo) → (cl ≡ t → P Cl) → (sg ≡ t → P Sg) → (qu ≡ t → P Qu) → (end ≡ t → P End)
-      → (No NoMark ≡ t → P Other) → (No PastEnd ≡ t → P Half) → P m
+  byColumn : column m pr mo cl sg qu end ≡ t → (pr ≡ t → P Pr) → (mo ≡ t → P Mo) → (cl ≡ t → P Cl) → (sg ≡ t → P Sg × P Ng) → (qu ≡ t → P Qu)
+      → (end ≡ t → P End) → (No NoMark ≡ t → P Other) → (No PastEnd ≡ t → P Half) → P m
   byColumn e = go m e
     where
-      go : (k : Mark) → column k pr mo cl sg qu end ≡ t → (pr ≡ t → P Pr) → (mo ≡ t → P Mo) → (cl ≡ t → P Cl) → (sg ≡ t → P Sg) → (qu ≡ t → P Qu)
+      go : (k : Mark) → column k pr mo cl sg qu end ≡ t → (pr ≡ t → P Pr) → (mo ≡ t → P Mo) → (cl ≡ t → P Cl) → (sg ≡ t → P Sg × P Ng) → (qu ≡ t → P Qu)
           → (end ≡ t → P End) → (No NoMark ≡ t → P Other) → (No PastEnd ≡ t → P Half) → P k
       go Pr e a b c d f g h i = a e
       go Mo e a b c d f g h i = b e
       go Cl e a b c d f g h i = c e
-      go Sg e a b c d f g h i = d e
+      go Sg e a b c d f g h i = d e .0
+      go Ng e a b c d f g h i = d e .1
       go Qu e a b c d f g h i = f e
       go End e a b c d f g h i = g e
       go Other e a b c d f g h i = h e
@@ -113,11 +117,15 @@ sole-modes k e = byColumn (λ (j : Mark). j ≡ Mo) k e (not-mine _ refl) (λ q.
 pub sole-clauses : Sole Clauses Cl
 sole-clauses k e = byColumn (λ (j : Mark). j ≡ Cl) k e (not-mine _ refl) (not-mine _ refl) (λ q. refl) (not-mine _ refl) (not-mine _ refl) (not-mine _ refl) (not-mine _ refl) (not-mine _ refl)
 
-pub sole-body : Sole Body Sg
-sole-body k e = byColumn (λ (j : Mark). j ≡ Sg) k e (not-mine _ refl) (not-mine _ refl) (not-mine _ refl) (λ q. refl) (not-mine _ refl) (not-mine _ refl) (not-mine _ refl) (not-mine _ refl)
+-- SG and NG are, and no other mark
+abbrev pub Signed : Mark → Type 0
+Signed m = (m ≡ Sg) ⊎ (m ≡ Ng)
 
-pub sole-query : Sole Query Sg
-sole-query k e = byColumn (λ (j : Mark). j ≡ Sg) k e (not-mine _ refl) (not-mine _ refl) (not-mine _ refl) (λ q. refl) (not-mine _ refl) (not-mine _ refl) (not-mine _ refl) (not-mine _ refl)
+pub signed-body : (k : Mark) → turn Body k ≡ Mine → Signed k
+signed-body k e = byColumn Signed k e (not-mine _ refl) (not-mine _ refl) (not-mine _ refl) (λ q. (inl refl, inr refl)) (not-mine _ refl) (not-mine _ refl) (not-mine _ refl) (not-mine _ refl)
+
+pub signed-query : (k : Mark) → turn Query k ≡ Mine → Signed k
+signed-query k e = byColumn Signed k e (not-mine _ refl) (not-mine _ refl) (not-mine _ refl) (λ q. (inl refl, inr refl)) (not-mine _ refl) (not-mine _ refl) (not-mine _ refl) (not-mine _ refl)
 
 -- the clauses end at QU, and the query at the end of the bytes
 clauses-over : (m : Mark) → turn Clauses m ≡ Over → m ≡ Qu
@@ -144,60 +152,65 @@ clauses-over-starts s e = spelt-at s (clauses-over (markAt s) e)
 pub query-over-ends : (s : List ℕ) → turn Query (markAt s) ≡ Over → s ≡ []
 query-over-ends s e = spelt-at s (query-over (markAt s) e)
 
--- ---- the two bytes of a mark, whichever of the five it is
+-- ---- the two bytes of a mark, whichever of the six it is
 
 abbrev known : Mark → Bool
 known Pr = true
 known Mo = true
 known Cl = true
 known Sg = true
+known Ng = true
 known Qu = true
 known Other = false
 known Half = false
 known End = false
 
--- by cases on the five
-byKnown : (P : Mark → Type 0) → P Pr → P Mo → P Cl → P Sg → P Qu → (m : Mark) → known m ≡ true → P m
-byKnown P a b c d e Pr t = a
-byKnown P a b c d e Mo t = b
-byKnown P a b c d e Cl t = c
-byKnown P a b c d e Sg t = d
-byKnown P a b c d e Qu t = e
-byKnown P a b c d e Other t = absurd (false≢true t)
-byKnown P a b c d e Half t = absurd (false≢true t)
-byKnown P a b c d e End t = absurd (false≢true t)
+-- by cases on the six
+byKnown : (P : Mark → Type 0) → P Pr → P Mo → P Cl → P Sg → P Ng → P Qu → (m : Mark) → known m ≡ true → P m
+byKnown P a b c d e f Pr t = a
+byKnown P a b c d e f Mo t = b
+byKnown P a b c d e f Cl t = c
+byKnown P a b c d e f Sg t = d
+byKnown P a b c d e f Ng t = e
+byKnown P a b c d e f Qu t = f
+byKnown P a b c d e f Other t = absurd (false≢true t)
+byKnown P a b c d e f Half t = absurd (false≢true t)
+byKnown P a b c d e f End t = absurd (false≢true t)
+
+signed-known : (m : Mark) → Signed m → known m ≡ true
+signed-known m = ⊎-elim (λ e. ap known e) (λ e. ap known e)
 
 -- a mark of a run is one of them
 own-known : (p : Phase) (m : Mark) → turn p m ≡ Mine → known m ≡ true
 own-known Predicates m e = ap known (sole-predicates m e)
 own-known Modes m e = ap known (sole-modes m e)
 own-known Clauses m e = ap known (sole-clauses m e)
-own-known Body m e = ap known (sole-body m e)
-own-known Query m e = ap known (sole-query m e)
+own-known Body m e = signed-known m (signed-body m e)
+own-known Query m e = signed-known m (signed-query m e)
 
 module _ (s : List ℕ) where
   mark-starts : (m : Mark) → known m ≡ true → Spelt s m → s ≡ spelling m ++ drop 2 s
-  mark-starts = byKnown (λ (m : Mark). Spelt s m → s ≡ spelling m ++ drop 2 s) (λ t. t) (λ t. t) (λ t. t) (λ t. t) (λ t. t)
+  mark-starts = byKnown (λ (m : Mark). Spelt s m → s ≡ spelling m ++ drop 2 s) (λ t. t) (λ t. t) (λ t. t) (λ t. t) (λ t. t) (λ t. t)
 
   mark-led : (m : Mark) → known m ≡ true → leads (spelling m) s ≡ true → s ≡ spelling m ++ drop 2 s
   mark-led =
       byKnown (λ (m : Mark). leads (spelling m) s ≡ true → s ≡ spelling m ++ drop 2 s) (leads-two 80 82 s) (leads-two 77 79 s) (leads-two 67 76 s)
-      (leads-two 83 71 s) (leads-two 81 85 s)
+      (leads-two 83 71 s) (leads-two 78 71 s) (leads-two 81 85 s)
 
   mark-leads : (m : Mark) → known m ≡ true → leads (spelling m) (spelling m ++ s) ≡ true
-  mark-leads = byKnown (λ (m : Mark). leads (spelling m) (spelling m ++ s) ≡ true) refl refl refl refl refl
+  mark-leads = byKnown (λ (m : Mark). leads (spelling m) (spelling m ++ s) ≡ true) refl refl refl refl refl refl
 
   mark-read : (m : Mark) → known m ≡ true → markAt (spelling m ++ s) ≡ m
   unfolding markAt
-  mark-read = byKnown (λ (m : Mark). markAt (spelling m ++ s) ≡ m) refl refl refl refl refl
+  mark-read = byKnown (λ (m : Mark). markAt (spelling m ++ s) ≡ m) refl refl refl refl refl refl
 
   mark-two : (m : Mark) → known m ≡ true → length (spelling m ++ s) ≡ suc (suc (length s))
-  mark-two = byKnown (λ (m : Mark). length (spelling m ++ s) ≡ suc (suc (length s))) refl refl refl refl refl
+  mark-two = byKnown (λ (m : Mark). length (spelling m ++ s) ≡ suc (suc (length s))) refl refl refl refl refl refl
 
 -- ---- bytes that begin with a mark of a run, and bytes that do not
 
 module _ (p : Phase) (s : List ℕ) where
-  own-starts : turn p (markAt s) ≡ Mine → s ≡ spelling (markAt s) ++ drop 2 s
+  pub own-starts : turn p (markAt s) ≡ Mine → s ≡ spelling (markAt s) ++ drop 2 s
   own-starts e = mark-starts s (markAt s) (own-known p (markAt s) e) (spelt s)
 
   -- so its two bytes are there

@@ -10,15 +10,16 @@ use lib.ListN.{length, getD, drop}
 use Rattle.masks.specs.Limits.{maxMasks}
 use Rattle.book.specs.Limits.{maxPredicates, maxClauses, maxSubgoals}
 use Rattle.book.specs.Book.{Call, Mode, Clause, Book}
-use Rattle.book.specs.Format.{Stands, allows, Got, bad, got, andThen, wrong, byte, bytes, onTurn, many, turn, markAt, predicate, masks, modeFields, mode, low, call, subgoal, clause, query, rules, readBook, Judged, fault, book, judged, judge}
+use Rattle.book.specs.Format.{Stands, allows, Got, bad, got, andThen, wrong, byte, bytes, onTurn, many, turn, markAt, predicate, masks, modeFields, mode, low, fields, argumentIn, spelling, leads, subgoal, clause, query, rules, readBook, Judged, fault, book, judged, judge}
 use Rattle.book.specs.declared.fault.Fault.{Fault}
 use Rattle.book.specs.declared.fault.Fault.the-variants.{PastEnd, NoMark, OutOfTurn, OutOfRange, TooMany, Clash}
+use Rattle.book.specs.declared.mark.Mark.the-variants.{Ng}
 use Rattle.book.specs.declared.mark.Phase.{Phase}
 use Rattle.book.specs.declared.mark.Phase.the-variants.{Predicates, Modes, Clauses, Body, Query}
 use Rattle.book.specs.declared.mark.Turn.{Turn}
 use Rattle.book.specs.declared.mark.Turn.the-variants.{Mine, Over, No}
 use Rattle.book.specs.declared.range.Range.{Range}
-use Rattle.book.specs.declared.range.Range.the-variants.{Below, AtMost, Argument, NoWildcard}
+use Rattle.book.specs.declared.range.Range.the-variants.{Below, AtMost, NoWildcard}
 
 -- ---- a fault from whose place on k bytes are left
 
@@ -95,9 +96,9 @@ many-standing p item each (suc room) acc (x ∷ s) =
 
 -- ---- the records
 
-call-standing : (r : Range) (ar s : List ℕ) → Standing (call r ar s)
-unfolding call
-call-standing r ar s = then-standing (byte (Below (length ar)) s) _ (byte-standing _ s) (λ p t. then-standing (bytes r (getD ar p 0) [] t) _ (bytes-standing r _ [] t) (λ args u. read))
+fields-standing : (r : Range) (ar s : List ℕ) → Standing (fields r ar s)
+unfolding fields
+fields-standing r ar s = then-standing (byte (Below (length ar)) s) _ (byte-standing _ s) (λ p t. then-standing (bytes r (getD ar p 0) [] t) _ (bytes-standing r _ [] t) (λ args u. read))
 
 predicate-standing : (acc s : List ℕ) → Standing (predicate acc s)
 unfolding predicate
@@ -105,27 +106,27 @@ predicate-standing acc s = byte-standing _ (drop 2 s)
 
 subgoal-standing : (ar : List ℕ) (acc : List Call) (s : List ℕ) → Standing (subgoal ar acc s)
 unfolding subgoal
-subgoal-standing ar acc s = call-standing Argument ar (drop 2 s)
+subgoal-standing ar acc s = let r = argumentIn (leads (spelling Ng) s) in then-standing (fields r ar (drop 2 s)) _ (fields-standing r ar (drop 2 s)) (λ h t. read)
 
 masks-standing : (k : ℕ) (s : List ℕ) → Standing (masks k s)
 unfolding masks
 masks-standing k s = then-standing (byte (AtMost maxMasks) s) _ (byte-standing _ s) (λ n t. bytes-standing (Below k) n [] t)
 
-fields-standing : (ar : List ℕ) (b : ℕ) (s : List ℕ) → Standing (modeFields ar b s)
+mode-fields-standing : (ar : List ℕ) (b : ℕ) (s : List ℕ) → Standing (modeFields ar b s)
 unfolding modeFields
-fields-standing ar b [] = past-end
-fields-standing ar b (x ∷ s) =
+mode-fields-standing ar b [] = past-end
+mode-fields-standing ar b (x ∷ s) =
     then-standing (byte (Below (length ar)) (x ∷ s)) _ (byte-standing _ (x ∷ s))
     (λ p t. then-standing (masks (2 ^ getD ar p 0) t) _ (masks-standing _ t) (λ ms u. test-standing (leb b p) read (at-byte Clash x s)))
 
 mode-standing : (ar : List ℕ) (acc : List Mode) (s : List ℕ) → Standing (mode ar acc s)
 unfolding mode
-mode-standing ar acc s = fields-standing ar (low acc) (drop 2 s)
+mode-standing ar acc s = mode-fields-standing ar (low acc) (drop 2 s)
 
 clause-standing : (ar : List ℕ) (acc : List Clause) (s : List ℕ) → Standing (clause ar acc s)
 unfolding clause
 clause-standing ar acc s =
-    then-standing (call NoWildcard ar (drop 2 s)) _ (call-standing NoWildcard ar (drop 2 s))
+    then-standing (fields NoWildcard ar (drop 2 s)) _ (fields-standing NoWildcard ar (drop 2 s))
     (λ h t. then-standing (many Body (subgoal ar) maxSubgoals [] t) _ (many-standing Body (subgoal ar) (subgoal-standing ar) maxSubgoals [] t) (λ body u. read))
 
 query-standing : (ar s : List ℕ) → Standing (query ar s)

@@ -1,12 +1,12 @@
 -- Sets of clauses: the loop that makes those of each predicate, with a law for its start, its next turn and its end; and the predicates that subgoals
 -- call. Assumes nothing.
 use mathlib.Core.Path.{_≡_, sym, ap, ap₂, _∙_, subst}
-use mathlib.Core.Bool.{Bool, true, _&&_, _||_, and-true, and-false, and-or-distrib-right, or-true, or-false}
+use mathlib.Core.Bool.{Bool, true, false, _&&_, _||_, and-true, and-false, and-or-distrib-right, or-true, or-false}
 use mathlib.Core.List.{List}
 use Prim.Native.Nat.{ℕ, _+_, _^_, _≤_, _<_}
 use native.Mathlib.Omega.{arith}
 use lib.Bits.{bitOr}
-use lib.Dec.{eqb, ltb}
+use lib.Dec.{eqb, leb, ltb}
 use lib.ListN.{length, getD, set, replicate, length-set, getD-replicate}
 use lib.Seq.{getD-set-same, getD-set-other}
 use borrow.Author.Tests.{eqb-true, eqb-false, ltb-true, lt-ltb, le-ltb}
@@ -14,14 +14,15 @@ use Rattle.masks.specs.Lists.{all}
 use Rattle.masks.specs.Set.{bitAt}
 use Rattle.book.specs.Limits.{maxPredicates}
 use Rattle.book.specs.Book.{Call, noCall}
-use Rattle.book.specs.Format.{allows}
+use Rattle.book.specs.Format.{allows, argumentIn}
 use Rattle.book.specs.Encode.{callFits}
 use Rattle.book.specs.Held.{clauseAt}
 use Rattle.book.specs.Sets.{callable, Known, Cleared, Owns}
 use Rattle.book.specs.declared.range.Range.the-variants.{Argument}
-use Rattle.masks.proofs.Laws.Logic.{byBool, same, and-intro, and-left, and-right}
+use Rattle.masks.proofs.Laws.Logic.{byBool, same, and-intro, and-left, and-right, or-left, or-right, or-case}
 use Rattle.masks.proofs.Laws.Lists.{all-at, all-mono}
 use Rattle.masks.proofs.Laws.Set.{bitAt-zero, eqb-comm, bitAt-more}
+use Rattle.book.proofs.Laws.Trip.{fields-known, fields-range}
 
 -- ---- one member more, in a word and in a word of an array
 
@@ -116,23 +117,26 @@ module _ (body : List Call) (j : ℕ) (t : callable body ≡ true) (h : j < leng
   callable-args = and-right (ltb (getD body j noCall .pred) maxPredicates) (all (allows Argument) (getD body j noCall .args)) called
 
 -- those that fit a book
-pub fit-callable : (ar : List ℕ) → length ar ≤ maxPredicates → (body : List Call) → all (callFits Argument ar) body ≡ true → callable body ≡ true
+pub fit-callable : (ar : List ℕ) → length ar ≤ maxPredicates → (body : List Call) → all (callFits ar) body ≡ true → callable body ≡ true
 unfolding callable allows
 fit-callable ar few =
-    all-mono (callFits Argument ar) (λ c. ltb (c .pred) maxPredicates && all (allows Argument) (c .args))
+    all-mono (callFits ar) (λ c. ltb (c .pred) maxPredicates && all (allows Argument) (c .args))
     (λ c t.
-    let l = ltb-true (c .pred) (length ar) (and-left (ltb (c .pred) (length ar)) (eqb (length (c .args)) (getD ar (c .pred) 0) && all (allows Argument) (c .args)) t) in
-    and-intro (lt-ltb (c .pred) maxPredicates (omega arith))
-    (and-right (eqb (length (c .args)) (getD ar (c .pred) 0)) (all (allows Argument) (c .args))
-    (and-right (ltb (c .pred) (length ar)) (eqb (length (c .args)) (getD ar (c .pred) 0) && all (allows Argument) (c .args)) t)))
+    let r = argumentIn (c .negated) in
+    let l = ltb-true (c .pred) (length ar) (fields-known r ar (c .pred) (c .args) t) in
+    and-intro (lt-ltb (c .pred) maxPredicates (omega arith)) (all-mono (allows r) (allows Argument) (λ x. wider (c .negated) x) (c .args) (fields-range r ar (c .pred) (c .args) t)))
+  where
+    -- what an NG may have, an SG may
+    wider : (n : Bool) (x : ℕ) → allows (argumentIn n) x ≡ true → allows Argument x ≡ true
+    wider true x t = or-case (leb x 15) (eqb x 255) t (λ s. or-left (leb x 15) (eqb x 254 || eqb x 255) s) (λ s. or-right (leb x 15) (or-right (eqb x 254) s))
+    wider false x t = t
 
 -- ---- what they call is below n
 
 unfoldable pub callsBelow : ℕ → List Call → Bool
 callsBelow n body = all (λ c. ltb (c .pred) n) body
 
-pub fit-below : (ar : List ℕ) (body : List Call) → all (callFits Argument ar) body ≡ true → callsBelow (length ar) body ≡ true
+pub fit-below : (ar : List ℕ) (body : List Call) → all (callFits ar) body ≡ true → callsBelow (length ar) body ≡ true
 unfolding callsBelow allows
 fit-below ar =
-    all-mono (callFits Argument ar) (λ s. ltb (s .pred) (length ar))
-    (λ s t. and-left (ltb (s .pred) (length ar)) (eqb (length (s .args)) (getD ar (s .pred) 0) && all (allows Argument) (s .args)) t)
+    all-mono (callFits ar) (λ s. ltb (s .pred) (length ar)) (λ s t. fields-known (argumentIn (s .negated)) ar (s .pred) (s .args) t)

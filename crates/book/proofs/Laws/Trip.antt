@@ -2,7 +2,7 @@
 -- formed: record by record, both ways, by the laws of reading. Assumes nothing.
 use mathlib.Core.Path.{_≡_, refl, sym, ap, _∙_}
 use mathlib.Core.Logic.{⊎-elim}
-use mathlib.Core.Bool.{Bool, true, cond, _&&_}
+use mathlib.Core.Bool.{Bool, true, false, cond, _&&_}
 use mathlib.Core.List.{List, [], _∷_, _++_, append-assoc, append-nil}
 use Prim.Native.Nat.{ℕ, suc, _+_, _^_, _≤_, _<_}
 use native.Mathlib.Omega.{arith}
@@ -13,16 +13,18 @@ use Rattle.masks.specs.Limits.{maxArity, maxMasks}
 use Rattle.masks.specs.Lists.{all}
 use Rattle.masks.proofs.Laws.Logic.{and-intro, and-left, and-right}
 use Rattle.book.specs.Limits.{maxPredicates, maxClauses, maxSubgoals}
-use Rattle.book.specs.Book.{Call, noClause, Mode, Clause, Book}
-use Rattle.book.specs.Format.{Got, bad, got, andThen, wrong, byte, bytes, many, turn, markAt, allows, lowFrom, low, spelling, call, predicate, masks, modeFields, mode, subgoal, clause, query, rules, readBook, book, judged, judge}
-use Rattle.book.specs.Encode.{run, encPredicate, encMode, encCall, encSubgoal, encClause, encode, callFits, modeFits, rises, clauseFits, WellFormed}
+use Rattle.book.specs.Book.{Head, Call, subgoalOf, noClause, Mode, Clause, Book}
+use Rattle.book.specs.Format.{Got, bad, got, andThen, wrong, byte, bytes, many, turn, markAt, allows, lowFrom, low, spelling, leads, fields, argumentIn, predicate, masks, modeFields, mode, subgoal, clause, query, rules, readBook, book, judged, judge}
+use Rattle.book.specs.Encode.{run, encPredicate, encMode, encHead, encSubgoal, encClause, encode, fieldsFit, headFits, callFits, modeFits, rises, clauseFits, WellFormed}
 use Rattle.book.specs.declared.fault.Fault.the-variants.{Clash}
-use Rattle.book.specs.declared.mark.Mark.the-variants.{Pr, Mo, Cl, Sg, Qu}
+use Rattle.book.specs.declared.mark.Mark.{Mark}
+use Rattle.book.specs.declared.mark.Mark.the-variants.{Pr, Mo, Cl, Sg, Ng, Qu}
+use Rattle.book.specs.declared.mark.Phase.{Phase}
 use Rattle.book.specs.declared.mark.Phase.the-variants.{Predicates, Modes, Clauses, Body, Query}
 use Rattle.book.specs.declared.mark.Turn.the-variants.{Mine, Over}
 use Rattle.book.specs.declared.range.Range.{Range}
-use Rattle.book.specs.declared.range.Range.the-variants.{Below, AtMost, Argument, NoWildcard}
-use Rattle.book.proofs.Laws.Marks.{sole-predicates, sole-modes, sole-clauses, sole-body, sole-query, own-leads, sole-starts, clauses-over-starts, query-over-ends, clause-ends, clauses-end}
+use Rattle.book.specs.declared.range.Range.the-variants.{Below, AtMost, NoWildcard}
+use Rattle.book.proofs.Laws.Marks.{sole-predicates, sole-modes, sole-clauses, Signed, signed-body, signed-query, own-leads, own-starts, sole-starts, clauses-over-starts, query-over-ends, clause-ends, clauses-end}
 use Rattle.book.proofs.Laws.Got.{then-inv, then-got, test-inv, carry, byte-inv, byte-got, bytes-got, bytes-inv, Each, Follows, each-all, all-each, many-got, many-inv}
 
 -- ---- computed: "all PR, then all MO, then clauses, then one QU", of a book with one of each
@@ -37,35 +39,33 @@ pub in-turn : encode
 unfolding encode
 in-turn = refl
 
--- ---- a call
+-- ---- the fields of a head or a subgoal
 
-module _ (r : Range) (ar : List ℕ) (c : Call) where
-  pub call-known : callFits r ar c ≡ true → allows (Below (length ar)) (c .pred) ≡ true
-  call-known t = and-left (allows (Below (length ar)) (c .pred)) (eqb (length (c .args)) (getD ar (c .pred) 0) && all (allows r) (c .args)) t
+module _ (r : Range) (ar : List ℕ) (p : ℕ) (args : List ℕ) (t : fieldsFit r ar p args ≡ true) where
+  abbrev rest· : Bool
+  rest· = eqb (length args) (getD ar p 0) && all (allows r) args
 
-  pub call-size : callFits r ar c ≡ true → length (c .args) ≡ getD ar (c .pred) 0
-  call-size t =
-      eqb-true (length (c .args)) (getD ar (c .pred) 0)
-      (and-left (eqb (length (c .args)) (getD ar (c .pred) 0)) (all (allows r) (c .args))
-      (and-right (allows (Below (length ar)) (c .pred)) (eqb (length (c .args)) (getD ar (c .pred) 0) && all (allows r) (c .args)) t))
+  pub fields-known : allows (Below (length ar)) p ≡ true
+  fields-known = and-left (allows (Below (length ar)) p) rest· t
 
-  call-range : callFits r ar c ≡ true → all (allows r) (c .args) ≡ true
-  call-range t =
-      and-right (eqb (length (c .args)) (getD ar (c .pred) 0)) (all (allows r) (c .args))
-      (and-right (allows (Below (length ar)) (c .pred)) (eqb (length (c .args)) (getD ar (c .pred) 0) && all (allows r) (c .args)) t)
+  pub fields-size : length args ≡ getD ar p 0
+  fields-size = eqb-true (length args) (getD ar p 0) (and-left (eqb (length args) (getD ar p 0)) (all (allows r) args) (and-right (allows (Below (length ar)) p) rest· t))
 
-  pub call-got : (s : List ℕ) → callFits r ar c ≡ true → call r ar (encCall c ++ s) ≡ got c s
-  unfolding call
-  call-got s t = rw (byte-got (Below (length ar)) (c .pred) (c .args ++ s) (call-known t), ← call-size t, bytes-got r (c .args) [] s (call-range t))
+  pub fields-range : all (allows r) args ≡ true
+  fields-range = and-right (eqb (length args) (getD ar p 0)) (all (allows r) args) (and-right (allows (Below (length ar)) p) rest· t)
 
-call-inv : (r : Range) (ar s : List ℕ) (c : Call) (t : List ℕ) → call r ar s ≡ got c t → (s ≡ encCall c ++ t) × (callFits r ar c ≡ true)
-unfolding call
-call-inv r ar s c t e =
+  fields-got : (s : List ℕ) → fields r ar (p ∷ (args ++ s)) ≡ got (record { pred = p; args = args }) s
+  unfolding fields
+  fields-got s = rw (byte-got (Below (length ar)) p (args ++ s) fields-known, ← fields-size, bytes-got r args [] s fields-range)
+
+fields-inv : (r : Range) (ar s : List ℕ) (h : Head) (t : List ℕ) → fields r ar s ≡ got h t → (s ≡ encHead h ++ t) × (fieldsFit r ar (h .pred) (h .args) ≡ true)
+unfolding fields
+fields-inv r ar s h t e =
     let w = then-inv (byte (Below (length ar)) s) (λ p u. andThen (bytes r (getD ar p 0) [] u) (λ args v. got (record { pred = p; args = args }) v)) e in
     let b = byte-inv (Below (length ar)) s (w .2) in
     let v = then-inv (bytes r (getD ar (w .0) 0) [] (w .1)) (λ args u. got (record { pred = w .0; args = args }) u) (w .3) in
     let n = bytes-inv r (getD ar (w .0) 0) (w .1) (v .2) in
-    carry (λ (x : Call) (q : List ℕ). (s ≡ encCall x ++ q) × (callFits r ar x ≡ true)) (v .3) (
+    carry (λ (x : Head) (q : List ℕ). (s ≡ encHead x ++ q) × (fieldsFit r ar (x .pred) (x .args) ≡ true)) (v .3) (
       b .0 ∙ ap (λ (l : List ℕ). w .0 ∷ l) (n .1),
       and-intro (b .1) (and-intro (eq-eqb _ _ (n .0)) (n .2)),
     )
@@ -88,23 +88,59 @@ predicate-inv acc s a r t e =
 -- ---- a subgoal
 
 abbrev pub SubgoalFits : List ℕ → List Call → Call → Type 0
-SubgoalFits ar acc c = callFits Argument ar c ≡ true
+SubgoalFits ar acc c = callFits ar c ≡ true
 
 subgoal-got : (ar : List ℕ) (acc : List Call) (c : Call) (r : List ℕ) → SubgoalFits ar acc c → subgoal ar acc (encSubgoal c ++ r) ≡ got c r
 unfolding subgoal
-subgoal-got ar acc c r h = call-got Argument ar c r h
+subgoal-got ar acc c r = go (c .negated)
+  where
+    go : (n : Bool) → fieldsFit (argumentIn n) ar (c .pred) (c .args) ≡ true
+        → subgoal ar acc (encSubgoal (record { negated = n; pred = c .pred; args = c .args }) ++ r) ≡ got (record { negated = n; pred = c .pred; args = c .args }) r
+    go true h = then-got _ (fields-got (argumentIn true) ar (c .pred) (c .args) h r)
+    go false h = then-got _ (fields-got (argumentIn false) ar (c .pred) (c .args) h r)
 
-subgoal-from : (ar : List ℕ) (acc : List Call) (s : List ℕ) (c : Call) (r : List ℕ) → s ≡ spelling Sg ++ drop 2 s → subgoal ar acc s ≡ got c r → (s ≡ encSubgoal c ++ r) × SubgoalFits ar acc c
+-- the fields of the one kind or the other, behind its mark
+subgoal-inv : (n : Bool) (ar : List ℕ) (acc : List Call) (s : List ℕ) (c : Call) (r : List ℕ) → s ≡ spelling (cond n Ng Sg) ++ drop 2 s → subgoal ar acc s ≡ got c r
+    → (s ≡ encSubgoal c ++ r) × SubgoalFits ar acc c
 unfolding subgoal
-subgoal-from ar acc s c r t e =
-    let b = call-inv Argument ar (drop 2 s) c r e in
-    (t ∙ ap (λ (l : List ℕ). spelling Sg ++ l) (b .0), b .1)
+subgoal-inv n ar acc s c r t e =
+    let w = then-inv (fields (argumentIn n) ar (drop 2 s)) (λ h u. got (subgoalOf n h) u) (sym (kind n) ∙ e) in
+    let b = fields-inv (argumentIn n) ar (drop 2 s) (w .0) (w .1) (w .2) in
+    carry (λ (x : Call) (q : List ℕ). (s ≡ encSubgoal x ++ q) × SubgoalFits ar acc x) (w .3) (
+      t ∙ ap (λ (l : List ℕ). spelling (cond n Ng Sg) ++ l) (b .0) ∙ spelt n (w .0) (w .1),
+      b .1,
+    )
+  where
+    led : (m : Bool) → s ≡ spelling (cond m Ng Sg) ++ drop 2 s → leads (spelling Ng) s ≡ m
+    led true d = ap (leads (spelling Ng)) d
+    led false d = ap (leads (spelling Ng)) d
+
+    kind : (m : Bool) → subgoal ar acc s ≡ andThen (fields (argumentIn n) ar (drop 2 s)) (λ h u. got (subgoalOf n h) u)
+    kind m = ap (λ (k : Bool). andThen (fields (argumentIn k) ar (drop 2 s)) (λ h u. got (subgoalOf k h) u)) (led n t)
+
+    spelt : (m : Bool) (h : Head) (u : List ℕ) → spelling (cond m Ng Sg) ++ (encHead h ++ u) ≡ encSubgoal (subgoalOf m h) ++ u
+    spelt true h u = refl
+    spelt false h u = refl
+
+subgoal-from : (ar : List ℕ) (acc : List Call) (s : List ℕ) (c : Call) (r : List ℕ) → Signed (markAt s) → s ≡ spelling (markAt s) ++ drop 2 s → subgoal ar acc s ≡ got c r
+    → (s ≡ encSubgoal c ++ r) × SubgoalFits ar acc c
+subgoal-from ar acc s c r k t e =
+    let at : (m : Bool) → markAt s ≡ cond m Ng Sg → s ≡ spelling (cond m Ng Sg) ++ drop 2 s = λ m d. t ∙ ap (λ (j : Mark). spelling j ++ drop 2 s) d in
+    ⊎-elim (λ d. subgoal-inv false ar acc s c r (at false d) e) (λ d. subgoal-inv true ar acc s c r (at true d) e) k
 
 pub body-inv : (ar : List ℕ) (acc : List Call) (s : List ℕ) (c : Call) (r : List ℕ) → turn Body (markAt s) ≡ Mine → subgoal ar acc s ≡ got c r → (s ≡ encSubgoal c ++ r) × SubgoalFits ar acc c
-body-inv ar acc s c r t e = subgoal-from ar acc s c r (sole-starts Body s sole-body t) e
+body-inv ar acc s c r t e = subgoal-from ar acc s c r (signed-body (markAt s) t) (own-starts Body s t) e
 
 pub query-inv : (ar : List ℕ) (acc : List Call) (s : List ℕ) (c : Call) (r : List ℕ) → turn Query (markAt s) ≡ Mine → subgoal ar acc s ≡ got c r → (s ≡ encSubgoal c ++ r) × SubgoalFits ar acc c
-query-inv ar acc s c r t e = subgoal-from ar acc s c r (sole-starts Query s sole-query t) e
+query-inv ar acc s c r t e = subgoal-from ar acc s c r (signed-query (markAt s) t) (own-starts Query s t) e
+
+-- the mark of either kind is in its turn
+own-subgoal : (p : Phase) → turn p Sg ≡ Mine → turn p Ng ≡ Mine → (c : Call) (r : List ℕ) → turn p (markAt (encSubgoal c ++ r)) ≡ Mine
+own-subgoal p s n c r = go (c .negated)
+  where
+    go : (m : Bool) → turn p (markAt (cond m (spelling Ng ++ (c .pred ∷ c .args)) (spelling Sg ++ (c .pred ∷ c .args)) ++ r)) ≡ Mine
+    go true = own-leads p (c .pred ∷ (c .args ++ r)) Ng n
+    go false = own-leads p (c .pred ∷ (c .args ++ r)) Sg s
 
 -- ---- a mode
 
@@ -112,17 +148,17 @@ abbrev pub ModeFits : List ℕ → List Mode → Mode → Type 0
 ModeFits ar acc m = (modeFits ar m ≡ true) × (leb (low acc) (m .pred) ≡ true)
 
 module _ (ar : List ℕ) (m : Mode) (t : modeFits ar m ≡ true) where
-  fields : (allows (AtMost maxMasks) (length (m .masks)) && all (allows (Below (2 ^ getD ar (m .pred) 0))) (m .masks)) ≡ true
-  fields = and-right (allows (Below (length ar)) (m .pred)) (allows (AtMost maxMasks) (length (m .masks)) && all (allows (Below (2 ^ getD ar (m .pred) 0))) (m .masks)) t
+  mode-fields : (allows (AtMost maxMasks) (length (m .masks)) && all (allows (Below (2 ^ getD ar (m .pred) 0))) (m .masks)) ≡ true
+  mode-fields = and-right (allows (Below (length ar)) (m .pred)) (allows (AtMost maxMasks) (length (m .masks)) && all (allows (Below (2 ^ getD ar (m .pred) 0))) (m .masks)) t
 
   pub mode-known : allows (Below (length ar)) (m .pred) ≡ true
   mode-known = and-left (allows (Below (length ar)) (m .pred)) (allows (AtMost maxMasks) (length (m .masks)) && all (allows (Below (2 ^ getD ar (m .pred) 0))) (m .masks)) t
 
   pub mode-few : allows (AtMost maxMasks) (length (m .masks)) ≡ true
-  mode-few = and-left (allows (AtMost maxMasks) (length (m .masks))) (all (allows (Below (2 ^ getD ar (m .pred) 0))) (m .masks)) fields
+  mode-few = and-left (allows (AtMost maxMasks) (length (m .masks))) (all (allows (Below (2 ^ getD ar (m .pred) 0))) (m .masks)) mode-fields
 
   pub mode-range : all (allows (Below (2 ^ getD ar (m .pred) 0))) (m .masks) ≡ true
-  mode-range = and-right (allows (AtMost maxMasks) (length (m .masks))) (all (allows (Below (2 ^ getD ar (m .pred) 0))) (m .masks)) fields
+  mode-range = and-right (allows (AtMost maxMasks) (length (m .masks))) (all (allows (Below (2 ^ getD ar (m .pred) 0))) (m .masks)) mode-fields
 
 masks-got : (ar : List ℕ) (m : Mode) (r : List ℕ) → modeFits ar m ≡ true → masks (2 ^ getD ar (m .pred) 0) (length (m .masks) ∷ (m .masks ++ r)) ≡ got (m .masks) r
 unfolding masks
@@ -170,29 +206,29 @@ ClauseFits ar acc c = clauseFits ar c ≡ true
 
 module _ (ar : List ℕ) (c : Clause) (t : clauseFits ar c ≡ true) where
   abbrev goals : Bool
-  goals = leb (length (c .body)) maxSubgoals && all (callFits Argument ar) (c .body)
+  goals = leb (length (c .body)) maxSubgoals && all (callFits ar) (c .body)
 
   rest : goals ≡ true
-  rest = and-right (callFits NoWildcard ar (c .head)) goals t
+  rest = and-right (headFits ar (c .head)) goals t
 
-  pub clause-head : callFits NoWildcard ar (c .head) ≡ true
-  clause-head = and-left (callFits NoWildcard ar (c .head)) goals t
+  pub clause-head : headFits ar (c .head) ≡ true
+  clause-head = and-left (headFits ar (c .head)) goals t
 
   pub clause-few : length (c .body) ≤ maxSubgoals
-  clause-few = leb-true _ _ (and-left (leb (length (c .body)) maxSubgoals) (all (callFits Argument ar) (c .body)) rest)
+  clause-few = leb-true _ _ (and-left (leb (length (c .body)) maxSubgoals) (all (callFits ar) (c .body)) rest)
 
-  pub clause-goals : all (callFits Argument ar) (c .body) ≡ true
-  clause-goals = and-right (leb (length (c .body)) maxSubgoals) (all (callFits Argument ar) (c .body)) rest
+  pub clause-goals : all (callFits ar) (c .body) ≡ true
+  clause-goals = and-right (leb (length (c .body)) maxSubgoals) (all (callFits ar) (c .body)) rest
 
 clause-got : (ar : List ℕ) (acc : List Clause) (c : Clause) (r : List ℕ) → ClauseFits ar acc c → turn Body (markAt r) ≡ Over → clause ar acc (encClause c ++ r) ≡ got c r
 unfolding clause
 clause-got ar acc c r h o =
-    let rest· = run encSubgoal (c .body) ++ r in
-    let bytes· : call NoWildcard ar ((encCall (c .head) ++ run encSubgoal (c .body)) ++ r) ≡ got (c .head) rest· =
-    ap (call NoWildcard ar) (append-assoc (encCall (c .head)) (run encSubgoal (c .body)) r) ∙ call-got NoWildcard ar (c .head) rest· (clause-head ar c h) in
+    let after = run encSubgoal (c .body) ++ r in
+    let bytes· : fields NoWildcard ar ((encHead (c .head) ++ run encSubgoal (c .body)) ++ r) ≡ got (c .head) after =
+    ap (fields NoWildcard ar) (append-assoc (encHead (c .head)) (run encSubgoal (c .body)) r) ∙ fields-got NoWildcard ar (c .head .pred) (c .head .args) (clause-head ar c h) after in
     then-got _ bytes·
-    ∙ then-got _ (many-got Body (subgoal ar) (SubgoalFits ar) encSubgoal (λ s q. own-leads Body (encCall s ++ q) Sg refl) (λ b s q k f. subgoal-got ar b s q k) maxSubgoals [] (c .body) r
-    (clause-few ar c h) (all-each (callFits Argument ar) [] (c .body) (clause-goals ar c h)) o)
+    ∙ then-got _ (many-got Body (subgoal ar) (SubgoalFits ar) encSubgoal (own-subgoal Body refl refl) (λ b s q k f. subgoal-got ar b s q k) maxSubgoals [] (c .body) r
+    (clause-few ar c h) (all-each (callFits ar) [] (c .body) (clause-goals ar c h)) o)
 
 clause-reads : (ar : List ℕ) (acc : List Clause) (c : Clause) (r : List ℕ) → ClauseFits ar acc c → Follows Clauses r → clause ar acc (encClause c ++ r) ≡ got c r
 clause-reads ar acc c r h f = clause-got ar acc c r h (⊎-elim (clause-ends (markAt r)) (clauses-end (markAt r)) f)
@@ -200,16 +236,16 @@ clause-reads ar acc c r h f = clause-got ar acc c r h (⊎-elim (clause-ends (ma
 pub clause-inv : (ar : List ℕ) (acc : List Clause) (s : List ℕ) (c : Clause) (r : List ℕ) → turn Clauses (markAt s) ≡ Mine → clause ar acc s ≡ got c r → (s ≡ encClause c ++ r) × ClauseFits ar acc c
 unfolding clause
 clause-inv ar acc s c r t e =
-    let made : Call → List Call → List ℕ → Got Clause = λ h body u. got (record { head = h; body = body }) u in
-    let w = then-inv (call NoWildcard ar (drop 2 s)) (λ h q. andThen (many Body (subgoal ar) maxSubgoals [] q) (made h)) e in
+    let made : Head → List Call → List ℕ → Got Clause = λ h body u. got (record { head = h; body = body }) u in
+    let w = then-inv (fields NoWildcard ar (drop 2 s)) (λ h q. andThen (many Body (subgoal ar) maxSubgoals [] q) (made h)) e in
     let h = w .0 in
     let v = then-inv (many Body (subgoal ar) maxSubgoals [] (w .1)) (made h) (w .3) in
-    let b = call-inv NoWildcard ar (drop 2 s) h (w .1) (w .2) in
+    let b = fields-inv NoWildcard ar (drop 2 s) h (w .1) (w .2) in
     let n = many-inv Body (subgoal ar) (SubgoalFits ar) encSubgoal (body-inv ar) maxSubgoals (w .1) (v .0) (v .1) (v .2) in
-    let bytes· : drop 2 s ≡ (encCall h ++ run encSubgoal (v .0)) ++ v .1 = b .0 ∙ (ap (λ (l : List ℕ). encCall h ++ l) (n .from) ∙ sym (append-assoc (encCall h) (run encSubgoal (v .0)) (v .1))) in
+    let bytes· : drop 2 s ≡ (encHead h ++ run encSubgoal (v .0)) ++ v .1 = b .0 ∙ (ap (λ (l : List ℕ). encHead h ++ l) (n .from) ∙ sym (append-assoc (encHead h) (run encSubgoal (v .0)) (v .1))) in
     carry (λ (x : Clause) (l : List ℕ). (s ≡ encClause x ++ l) × ClauseFits ar acc x) (v .3) (
       sole-starts Clauses s sole-clauses t ∙ ap (λ (l : List ℕ). spelling Cl ++ l) bytes·,
-      and-intro (b .1) (and-intro (le-leb _ _ (n .few)) (each-all (callFits Argument ar) [] (v .0) (n .good))),
+      and-intro (b .1) (and-intro (le-leb _ _ (n .few)) (each-all (callFits ar) [] (v .0) (n .good))),
     )
 
 -- ---- MO records rise
@@ -285,10 +321,10 @@ read-got b w =
     (run encMode ms ++ (run encClause cs ++ asks q)) few (all-each (allows (AtMost maxArity)) [] ar (w .aritiesFit)) (over-predicates q ms cs))
     ∙ then-got _ (many-got Modes (mode ar) (ModeFits ar) encMode (λ m r. own-leads Modes (m .pred ∷ length (m .masks) ∷ (m .masks ++ r)) Mo refl) (λ acc m r k f. mode-got ar acc m r k)
     (suc maxPredicates) [] ms (run encClause cs ++ asks q) fewer (modes-each ar [] ms (w .modesFit) (w .modesRise)) (over-modes q cs))
-    ∙ then-got _ (many-got Clauses (clause ar) (ClauseFits ar) encClause (λ c r. own-leads Clauses ((encCall (c .head) ++ run encSubgoal (c .body)) ++ r) Cl refl) (clause-reads ar)
+    ∙ then-got _ (many-got Clauses (clause ar) (ClauseFits ar) encClause (λ c r. own-leads Clauses ((encHead (c .head) ++ run encSubgoal (c .body)) ++ r) Cl refl) (clause-reads ar)
     maxClauses [] cs (asks q) (leb-true _ _ (w .fewClauses)) (all-each (clauseFits ar) [] cs (w .clausesFit)) (over-clauses q))
-    ∙ then-got _ (rw append-nil at (many-got Query (subgoal ar) (SubgoalFits ar) encSubgoal (λ c r. own-leads Query (encCall c ++ r) Sg refl) (λ acc c r k f. subgoal-got ar acc c r k)
-    maxSubgoals [] q [] (leb-true _ _ (w .fewAsked)) (all-each (callFits Argument ar) [] q (w .queryFits)) over-query))
+    ∙ then-got _ (rw append-nil at (many-got Query (subgoal ar) (SubgoalFits ar) encSubgoal (own-subgoal Query refl refl) (λ acc c r k f. subgoal-got ar acc c r k)
+    maxSubgoals [] q [] (leb-true _ _ (w .fewAsked)) (all-each (callFits ar) [] q (w .queryFits)) over-query))
 
 pub read-inv : (s : List ℕ) (b : Book) (r : List ℕ) → readBook s ≡ got b r → (encode b ≡ s) × WellFormed b
 unfolding readBook rules query encode lowFrom
@@ -324,7 +360,7 @@ read-inv s b r e =
         fewClauses = le-leb _ _ (c .few);
         clausesFit = each-all (clauseFits ar) [] cs (c .good);
         fewAsked = le-leb _ _ (u .few);
-        queryFits = each-all (callFits Argument ar) [] q (u .good);
+        queryFits = each-all (callFits ar) [] q (u .good);
       },
     )
 

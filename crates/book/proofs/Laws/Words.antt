@@ -14,8 +14,7 @@ use Rattle.masks.specs.Limits.{maxArity}
 use Rattle.masks.specs.Lists.{values}
 use Rattle.masks.proofs.Laws.Logic.{and-intro, and-left, and-right}
 use Rattle.masks.proofs.Laws.Lists.{length-values, getD-values}
-use Rattle.book.specs.Book.{Call}
-use Rattle.book.specs.Held.{countIn, byteOf, callIn}
+use Rattle.book.specs.Held.{byteOf}
 
 -- by Horner's rule
 unfoldable pub wordOf : List ℕ → ℕ

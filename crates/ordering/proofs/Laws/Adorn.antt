@@ -1,7 +1,8 @@
 -- Binding only adds: a variable that is bound stays bound, which is bound first or how often does not matter, and where more is bound a pattern has
--- more bits. So a subgoal that is ready stays ready, since a constraint that admits a pattern admits every greater one. Assumes nothing.
-use mathlib.Core.Path.{_≡_, refl, ap, _∙_}
-use mathlib.Core.Bool.{Bool, true, false, cond}
+-- more bits. So a subgoal that is ready stays ready, since a constraint that admits a pattern admits every greater one; of a negated one all arguments are
+-- bound, and stay so. What a negated subgoal binds is nothing, whichever comes before it. Assumes nothing.
+use mathlib.Core.Path.{_≡_, refl, ap, ap₂, _∙_}
+use mathlib.Core.Bool.{Bool, true, false, not, cond, _&&_, _||_}
 use mathlib.Core.Logic.{⊎-elim}
 use mathlib.Core.List.{List, [], _∷_, map}
 use Prim.Native.Nat.{ℕ, zero, suc, _+_, _*_, _/_, _%_, _≤_, _<_}
@@ -13,10 +14,12 @@ use lib.Seq.{set-set, set-comm}
 use borrow.Author.Tests.{eqb-true, eq-eqb}
 use Rattle.masks.specs.Mask.{within}
 use Rattle.masks.specs.Constraint.{admits}
+use Rattle.masks.specs.Lists.{all}
 use Rattle.book.specs.Book.{Call}
 use Rattle.book.specs.Table.{Table}
-use Rattle.ordering.specs.Adorn.{variables, Bound, nothing, literal, isBound, bit, patternOf, bindVar, bindAll, bindHead, headBound, ready, after}
-use Rattle.masks.proofs.Laws.Logic.{clash}
+use Rattle.ordering.specs.Adorn.{variables, Bound, nothing, literal, isBound, bit, patternOf, bindVar, bindAll, bindHead, headBound, known, ready, after}
+use Rattle.masks.proofs.Laws.Logic.{clash, and-intro, and-left, and-right, or-left, or-right, or-case}
+use Rattle.masks.proofs.Laws.Lists as lists
 use Rattle.masks.proofs.Laws.Mask.{within-and, and-within, halved, doubled}
 use Rattle.masks.proofs.Laws.Constraint.{admits-up}
 use Rattle.ordering.proofs.Laws.Orders.{same?}
@@ -208,34 +211,82 @@ More T T′ = (p a : ℕ) → admits (getD T p []) a ≡ true → admits (getD T
 pub more-refl : (T : Table) → More T T
 more-refl T p a h = h
 
+-- its two parts: the pattern fits, and W9's rule
+module _ (T : Table) (b : Bound) (s : Call) where
+  abbrev fits : Bool
+  fits = admits (getD T (s .pred) []) (patternOf b (s .args))
+
+  pub ready-fits : ready T b s ≡ true → admits (getD T (s .pred) []) (patternOf b (s .args)) ≡ true
+  unfolding ready
+  ready-fits t = and-left fits (known b s) t
+
+  pub ready-known : ready T b s ≡ true → known b s ≡ true
+  unfolding ready
+  ready-known t = and-right fits (known b s) t
+
+  pub fits-ready : admits (getD T (s .pred) []) (patternOf b (s .args)) ≡ true → known b s ≡ true → ready T b s ≡ true
+  unfolding ready
+  fits-ready t u = and-intro t u
+
+known-mono : (b b′ : Bound) (s : Call) → Le b b′ → known b s ≡ true → known b′ s ≡ true
+unfolding known
+known-mono b b′ s h t =
+    or-case (not (s .negated)) (all (isBound b) (s .args)) t (or-left (not (s .negated)) (all (isBound b′) (s .args)))
+    (λ e. or-right (not (s .negated)) (lists.all-mono (isBound b) (isBound b′) (λ v. bound-mono b b′ v h) (s .args) e))
+
 pub ready-mono : (T T′ : Table) (b b′ : Bound) (s : Call) → More T T′ → Le b b′ → ready T b s ≡ true → ready T′ b′ s ≡ true
-unfolding ready
 ready-mono T T′ b b′ s m h t =
-    m (s .pred) (patternOf b′ (s .args))
-    (admits-up (getD T (s .pred) []) (patternOf b (s .args)) (patternOf b′ (s .args)) (pattern-mono b b′ (s .args) h) t)
+    fits-ready T′ b′ s
+    (m (s .pred) (patternOf b′ (s .args))
+    (admits-up (getD T (s .pred) []) (patternOf b (s .args)) (patternOf b′ (s .args)) (pattern-mono b b′ (s .args) h) (ready-fits T b s t)))
+    (known-mono b b′ s h (ready-known T b s t))
 
 -- it depends on the constraint of the predicate called
 pub ready-same : (T U : Table) (b : Bound) (s : Call) → getD T (s .pred) [] ≡ getD U (s .pred) [] → ready T b s ≡ ready U b s
 unfolding ready
-ready-same T U b s e = ap (λ (c : List ℕ). admits c (patternOf b (s .args))) e
+ready-same T U b s e = ap (λ (c : List ℕ). admits c (patternOf b (s .args)) && known b s) e
 
--- what a subgoal binds, for whoever computes it; what it needs is `ready-held` in `Held`
-pub after-args : (b : Bound) (s : Call) → after b s ≡ bindAll b (s .args)
+-- what a subgoal of each kind binds, for whoever computes it; what it needs is `ready-held` in `Held`
+pub after-positive : (b : Bound) (s : Call) → s .negated ≡ false → after b s ≡ bindAll b (s .args)
 unfolding after
-after-args b s = refl
+after-positive b s e = rw e
+
+pub after-negated : (b : Bound) (s : Call) → s .negated ≡ true → after b s ≡ b
+unfolding after
+after-negated b s e = rw e
 
 pub after-grows : (b : Bound) (s : Call) → Le b (after b s)
 unfolding after
-after-grows b s = all-grows b (s .args)
+after-grows b s = go (s .negated)
+  where
+    go : (n : Bool) → Le b (cond n b (bindAll b (s .args)))
+    go true = le-refl b
+    go false = all-grows b (s .args)
 
 pub after-mono : (b b′ : Bound) (s : Call) → Le b b′ → Le (after b s) (after b′ s)
 unfolding after
-after-mono b b′ s h = all-mono b b′ (s .args) h
+after-mono b b′ s h = go (s .negated)
+  where
+    go : (n : Bool) → Le (cond n b (bindAll b (s .args))) (cond n b′ (bindAll b′ (s .args)))
+    go true = h
+    go false = all-mono b b′ (s .args) h
 
 pub after-swap : (b : Bound) (s t : Call) → after (after b s) t ≡ after (after b t) s
 unfolding after
-after-swap b s t = all-swap b (s .args) (t .args)
+after-swap b s t = go (s .negated) (t .negated)
+  where
+    one : Bool → Bound → List ℕ → Bound
+    one n c vs = cond n c (bindAll c vs)
+
+    go : (n m : Bool) → one m (one n b (s .args)) (t .args) ≡ one n (one m b (t .args)) (s .args)
+    go true m = refl
+    go false true = refl
+    go false false = all-swap b (s .args) (t .args)
 
 pub after-twice : (b : Bound) (s : Call) → after (after b s) s ≡ after b s
 unfolding after
-after-twice b s = all-twice b (s .args)
+after-twice b s = go (s .negated)
+  where
+    go : (n : Bool) → cond n (cond n b (bindAll b (s .args))) (bindAll (cond n b (bindAll b (s .args))) (s .args)) ≡ cond n b (bindAll b (s .args))
+    go true = refl
+    go false = all-twice b (s .args)

@@ -1,4 +1,4 @@
--- The calls of a body in an order. An order is good exactly where each subgoal is ready in its turn, and then its calls fit. Assumes nothing.
+-- The calls of a body in an order. An order is good exactly where its calls fit and W9's rule holds of each negated subgoal in its turn. Assumes nothing.
 use mathlib.Core.Path.{_≡_, refl, ap}
 use mathlib.Core.Bool.{true, _&&_, false≢true}
 use mathlib.Core.Logic.{inl, inr}
@@ -10,13 +10,14 @@ use Rattle.masks.specs.Lists.{any}
 use Rattle.masks.specs.Constraint.{admits}
 use Rattle.book.specs.Book.{Call}
 use Rattle.book.specs.Table.{Table, entry}
-use Rattle.ordering.specs.Adorn.{Bound, patternOf, ready}
+use Rattle.ordering.specs.Adorn.{Bound, patternOf, known, ready}
 use Rattle.ordering.specs.Orders.{In}
 use Rattle.ordering.specs.Turns as turns
-use Rattle.ordering.specs.Good.{at, readyAt, afterAt, goodFrom, ran}
+use Rattle.ordering.specs.Good.{at, readyAt, afterAt, goodFrom, knownFrom, ran}
 use Rattle.ordering.specs.Asks.{Asked, asks, called}
 use Rattle.masks.proofs.Laws.Logic.{and-intro, and-left, and-right, or-left, or-right, or-case}
 use Rattle.ordering.proofs.Laws.Greedy.{good-parts, good-cons}
+use Rattle.ordering.proofs.Laws.Adorn.{ready-fits, ready-known, fits-ready}
 
 -- ---- each call
 
@@ -63,12 +64,12 @@ EachTurn P body b (p ∷ σ) = P b (at body p) × EachTurn P body (afterAt body 
 module _ (T : Table) (body : List Call) where
   -- the calls of a good order fit
   pub asks-fit : (b : Bound) (σ : List ℕ) → goodFrom T body b σ ≡ true → (q a : ℕ) → called q a (asks body b σ) ≡ true → admits (entry T q) a ≡ true
-  unfolding asks ready
+  unfolding asks
   asks-fit b [] g q a e = absurd (false≢true e)
   asks-fit b (p ∷ σ) g q a e =
       let h = good-parts (readyAt T body) (afterAt body) b p σ g in
       called-case (λ r c. admits (entry T r) c ≡ true) (record { pred = at body p .pred; pattern = patternOf b (at body p .args) }) (asks body (afterAt body b p) σ) q a e
-      (h .0)
+      (ready-fits T b (at body p) (h .0))
       (λ t. asks-fit (afterAt body b p) σ (h .1) q a t)
 
   -- an order whose subgoals are ready, each in its turn, is good
@@ -77,16 +78,25 @@ module _ (T : Table) (body : List Call) where
   fit-asks b [] h = refl
   fit-asks b (p ∷ σ) h = good-cons (readyAt T body) (afterAt body) b p σ (h .0) (fit-asks (afterAt body b p) σ (h .1))
 
-  -- those whose calls fit are
-  pub ready-asks : (b : Bound) (σ : List ℕ) → ((q a : ℕ) → called q a (asks body b σ) ≡ true → admits (entry T q) a ≡ true)
+  -- those whose calls fit are, where W9's rule holds
+  pub ready-asks : (b : Bound) (σ : List ℕ) → ((q a : ℕ) → called q a (asks body b σ) ≡ true → admits (entry T q) a ≡ true) → knownFrom body b σ ≡ true
       → EachTurn (λ c s. ready T c s ≡ true) body b σ
-  unfolding asks ready
-  ready-asks b [] h = tt
-  ready-asks b (p ∷ σ) h =
-      let x : Asked = record { pred = at body p .pred; pattern = patternOf b (at body p .args) } in (
-        h (x .pred) (x .pattern) (called-first x (asks body (afterAt body b p) σ)),
-        ready-asks (afterAt body b p) σ (λ q a t. h q a (or-right (eqb (x .pred) q && eqb (x .pattern) a) t)),
+  unfolding asks
+  ready-asks b [] h k = tt
+  ready-asks b (p ∷ σ) h k =
+      let x : Asked = record { pred = at body p .pred; pattern = patternOf b (at body p .args) } in
+      let u = good-parts (λ c q. known c (at body q)) (afterAt body) b p σ k in (
+        fits-ready T b (at body p) (h (x .pred) (x .pattern) (called-first x (asks body (afterAt body b p) σ))) (u .0),
+        ready-asks (afterAt body b p) σ (λ q a t. h q a (or-right (eqb (x .pred) q && eqb (x .pattern) a) t)) (u .1),
       )
+
+  -- it holds of a good order
+  pub asks-known : (b : Bound) (σ : List ℕ) → goodFrom T body b σ ≡ true → knownFrom body b σ ≡ true
+  unfolding turns.goodFrom
+  asks-known b [] g = refl
+  asks-known b (p ∷ σ) g =
+      let h = good-parts (readyAt T body) (afterAt body) b p σ g in
+      good-cons (λ c q. known c (at body q)) (afterAt body) b p σ (ready-known T b (at body p) (h .0)) (asks-known (afterAt body b p) σ (h .1))
 
 -- ---- one place more
 

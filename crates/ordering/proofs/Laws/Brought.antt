@@ -1,7 +1,7 @@
--- What a clause gives back. An argument is bound when the subgoals have run exactly where it was bound from the start or is a variable of one of them; so
+-- What a clause gives back. An argument is bound when the subgoals have run exactly where it was bound from the start or is a variable that one of them binds; so
 -- W3's rule holds of a clause exactly where every argument of its head is bound when it has run: no cell comes back empty. Assumes nothing.
 use mathlib.Core.Path.{_≡_, refl, sym, ap, ap₂, _∙_}
-use mathlib.Core.Bool.{Bool, true, false, cond, _&&_, _||_, or-assoc, or-false, and-false}
+use mathlib.Core.Bool.{Bool, true, false, not, cond, _&&_, _||_, or-assoc, or-false, and-false}
 use mathlib.Core.List.{List, [], _∷_, map}
 use Prim.Native.Nat.{ℕ, zero, suc, _/_, _%_}
 use native.Mathlib.Omega.{arith}
@@ -13,7 +13,7 @@ use Rattle.masks.specs.Lists.{any, all, has, below}
 use Rattle.masks.specs.Mask.{within}
 use Rattle.masks.specs.Constraint.{admits}
 use Rattle.book.specs.Book.{Call, noCall, Clause}
-use Rattle.ordering.specs.Adorn.{variables, Bound, nothing, literal, isBound, patternOf, bindVar, bindAll, bindHead, headBound, hasVariable, ready, after}
+use Rattle.ordering.specs.Adorn.{variables, Bound, nothing, literal, isBound, patternOf, bindVar, bindAll, bindHead, headBound, binds, known, ready, after}
 use Rattle.ordering.specs.Orders.{Rearranges, find, without, each, ordersOf, count, orders}
 use Rattle.ordering.specs.Turns as turns
 use Rattle.ordering.specs.Good.{at, afterAt, ran, brought, filled, goodClause}
@@ -26,7 +26,7 @@ use Rattle.ordering.proofs.Laws.Adorn.{Le, bound-mono, after-swap}
 -- ---- document 02's words, by computing
 
 unfoldable pub computing : Unit {0}
-unfolding within admits nothing isBound patternOf bindVar bindAll bindHead headBound ready after find without each ordersOf count orders turns.goodFrom turns.firstGood at hasVariable brought goodClause
+unfolding within admits nothing isBound patternOf bindVar bindAll bindHead headBound ready after find without each ordersOf count orders turns.goodFrom turns.firstGood at binds known brought goodClause
 computing = tt
 
 -- "The fact p(X) with no body gets mask 1."; p(X,X), where "a variable at two head positions is bound if either is", masks 1 2; a literal asks for nothing
@@ -47,7 +47,7 @@ fact-literal = refl
 
 -- "The clause seen(H,T) :- head(H) doesn't: T stays empty unless the caller brought it."; seen(H,T) :- head(H), head(T) does, and head(_) binds nothing
 abbrev seen : List ℕ → List ℕ → Clause
-seen args heads = record { head = record { pred = 1; args = args }; body = map (λ v. record { pred = 0; args = v ∷ [] }) heads }
+seen args heads = record { head = record { pred = 1; args = args }; body = map (λ v. record { negated = false; pred = 0; args = v ∷ [] }) heads }
 
 pub seen-brought : below (goodClause ((0 ∷ []) ∷ []) (seen (0 ∷ 1 ∷ []) (0 ∷ []))) 4 ≡ 2 ∷ 3 ∷ []
 unfolding computing
@@ -116,20 +116,28 @@ all-at b (u ∷ l) v n =
 
 after-length : (b : Bound) (s : Call) → length (after b s) ≡ length b
 unfolding after
-after-length b s = all-length b (s .args)
+after-length b s = go (s .negated)
+  where
+    go : (m : Bool) → length (cond m b (bindAll b (s .args))) ≡ length b
+    go true = refl
+    go false = all-length b (s .args)
 
-after-at : (b : Bound) (s : Call) (v : ℕ) → length b ≡ variables → isBound (after b s) v ≡ (isBound b v || hasVariable s v)
-unfolding after hasVariable
-after-at b s v n = all-at b (s .args) v n
+after-at : (b : Bound) (s : Call) (v : ℕ) → length b ≡ variables → isBound (after b s) v ≡ (isBound b v || binds s v)
+unfolding after binds
+after-at b s v n = go (s .negated)
+  where
+    go : (m : Bool) → isBound (cond m b (bindAll b (s .args))) v ≡ (isBound b v || (not m && (ltb v variables && has (s .args) v)))
+    go true = sym (or-false (isBound b v))
+    go false = all-at b (s .args) v n
 
 ran-at : (body : List Call) (b : Bound) (σ : List ℕ) (v : ℕ) → length b ≡ variables
-    → isBound (ran body b σ) v ≡ (isBound b v || any (λ p. hasVariable (at body p) v) σ)
+    → isBound (ran body b σ) v ≡ (isBound b v || any (λ p. binds (at body p) v) σ)
 unfolding turns.allAfter
 ran-at body b [] v n = sym (or-false (isBound b v))
 ran-at body b (p ∷ σ) v n =
-    let rest = any (λ q. hasVariable (at body q) v) σ in
+    let rest = any (λ q. binds (at body q) v) σ in
     ran-at body (afterAt body b p) σ v (after-length b (at body p) ∙ n)
-    ∙ ap (λ (c : Bool). c || rest) (after-at b (at body p) v n) ∙ or-assoc (isBound b v) (hasVariable (at body p) v) rest
+    ∙ ap (λ (c : Bool). c || rest) (after-at b (at body p) v n) ∙ or-assoc (isBound b v) (binds (at body p) v) rest
 
 any-from : (f : ℕ → Bool) (i n : ℕ) → any f (count (suc i) n) ≡ any (λ p. f (suc p)) (count i n)
 unfolding count
@@ -147,14 +155,14 @@ bound-after body b σ τ r s =
     all-same (afterAt body) (λ c p q. after-swap c (at body p) (at body q)) b (count 0 (length body)) σ τ
     (right-takes (length body) σ r) (right-takes (length body) τ s)
 
--- an argument is bound then exactly where it was or is a variable of one of them
+-- an argument is bound then exactly where it was or is a variable that one of them binds
 stands-ran : (body : List Call) (b : Bound) (σ : List ℕ) (v : ℕ) → length b ≡ variables → Rearranges (length body) σ
-    → (isBound b v || any (λ s. hasVariable s v) body) ≡ isBound (ran body b σ) v
+    → (isBound b v || any (λ s. binds s v) body) ≡ isBound (ran body b σ) v
 stands-ran body b σ v n r =
     sym
     (ap (λ (c : Bound). isBound c v) (bound-after body b σ (count 0 (length body)) r (standing (length body)))
     ∙ ran-at body b (count 0 (length body)) v n
-    ∙ ap (λ (c : Bool). isBound b v || c) (any-place (λ s. hasVariable s v) body))
+    ∙ ap (λ (c : Bool). isBound b v || c) (any-place (λ s. binds s v) body))
 
 -- ---- W3's rule
 
@@ -164,7 +172,7 @@ pub brought-ran : (c : Clause) (b : Bound) (σ : List ℕ) → length b ≡ vari
 unfolding brought
 brought-ran c b σ n r = go (c .head .args)
   where
-    go : (l : List ℕ) → all (λ v. isBound b v || any (λ s. hasVariable s v) (c .body)) l ≡ all (isBound (ran (c .body) b σ)) l
+    go : (l : List ℕ) → all (λ v. isBound b v || any (λ s. binds s v) (c .body)) l ≡ all (isBound (ran (c .body) b σ)) l
     go [] = refl
     go (v ∷ l) = ap₂ (λ (x y : Bool). x && y) (stands-ran (c .body) b σ v n r) (go l)
 
@@ -189,4 +197,4 @@ brought-mono c b b′ h t =
     (c .head .args) t
   where
     stands : ℕ → Bool
-    stands v = any (λ s. hasVariable s v) (c .body)
+    stands v = any (λ s. binds s v) (c .body)

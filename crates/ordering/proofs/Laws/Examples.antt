@@ -1,9 +1,11 @@
 -- Document 01's bench examples K4 and K10, by computing. Assumes nothing.
 use mathlib.Core.Path.{_≡_, refl}
-use mathlib.Core.List.{[], _∷_}
+use mathlib.Core.Bool.{false}
+use mathlib.Core.List.{List, [], _∷_}
 use mathlib.Core.Option.{some}
+use Prim.Native.Nat.{ℕ}
 use Rattle.masks.specs.Lists.{below}
-use Rattle.book.specs.Book.{Clause}
+use Rattle.book.specs.Book.{Call, Clause}
 use Rattle.book.specs.Table.{Table}
 use Rattle.ordering.specs.Adorn.{headBound}
 use Rattle.ordering.specs.Good.{firstGood, goodClause}
@@ -16,9 +18,13 @@ compute : Unit {0}
 unfolding computing greedyOf rule.greedy
 compute = tt
 
+-- a subgoal that is not negated
+abbrev goal : ℕ → List ℕ → Call
+goal p args = record { negated = false; pred = p; args = args }
+
 -- "r(X,X) :- f(X), f {1}: masks 1 2"
 abbrev k10 : Clause
-k10 = record { head = record { pred = 1; args = 0 ∷ 0 ∷ [] }; body = record { pred = 0; args = 0 ∷ [] } ∷ [] }
+k10 = record { head = record { pred = 1; args = 0 ∷ 0 ∷ [] }; body = goal 0 (0 ∷ []) ∷ [] }
 
 pub k10-good : below (goodClause ((1 ∷ []) ∷ []) k10) 4 ≡ 1 ∷ 2 ∷ 3 ∷ []
 unfolding compute
@@ -28,8 +34,8 @@ k10-good = refl
 abbrev k4 : Clause
 k4 = record {
   head = record { pred = 5; args = 1 ∷ 2 ∷ [] };
-  body = record { pred = 0; args = 0 ∷ [] } ∷ record { pred = 1; args = 0 ∷ 1 ∷ 2 ∷ [] } ∷ record { pred = 2; args = 2 ∷ [] }
-      ∷ record { pred = 3; args = 0 ∷ [] } ∷ record { pred = 4; args = 0 ∷ 3 ∷ [] } ∷ [];
+  body = goal 0 (0 ∷ []) ∷ goal 1 (0 ∷ 1 ∷ 2 ∷ []) ∷ goal 2 (2 ∷ [])
+      ∷ goal 3 (0 ∷ []) ∷ goal 4 (0 ∷ 3 ∷ []) ∷ [];
 }
 
 abbrev t4 : Table

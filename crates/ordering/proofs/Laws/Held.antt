@@ -1,13 +1,14 @@
 -- A table that goes on past the predicates that subgoals call, or that admits the same patterns; and the places of an order. Assumes nothing.
 use mathlib.Core.Path.{_≡_, refl, sym, ap, _∙_, subst}
-use mathlib.Core.Bool.{Bool, true, false, not, cond}
+use mathlib.Core.Bool.{Bool, true, false, not, cond, _&&_, _||_}
 use mathlib.Core.List.{List, [], _∷_}
 use mathlib.Core.Option.{none, some}
-use Prim.Native.Nat.{ℕ, zero, suc, _+_, _*_, _<_, _≤_, min}
+use Prim.Native.Nat.{ℕ, zero, suc, _+_, _*_, _^_, _<_, _≤_, min}
+use native.Mathlib.Nat.{pow-suc}
 use native.Mathlib.Omega.{arith}
-use lib.Dec.{leb, ltb}
+use lib.Dec.{eqb, leb, ltb}
 use lib.ListN.{length, getD, take, length-take}
-use borrow.Author.Tests.{ltb-true, leb-true, le-leb, not-true, not-false}
+use borrow.Author.Tests.{eqb-true, eqb-false, eq-eqb, ne-eqb, ltb-true, leb-true, le-leb, not-true, not-false}
 use Rattle.masks.specs.Limits.{maxArity}
 use Rattle.masks.specs.Lists.{any, all, values}
 use Rattle.masks.specs.Constraint.{admits}
@@ -17,11 +18,11 @@ use Rattle.book.specs.Book.{Call, noCall}
 use Rattle.book.specs.Table.{Table, entry, entryIn, tableIn}
 use Rattle.book.specs.Sets.{callable}
 use Rattle.book.specs.Held.{callIn, clauseSize, clauseAt}
-use Rattle.ordering.specs.Adorn.{Bound, patternOf, ready, after}
+use Rattle.ordering.specs.Adorn.{Bound, isBound, bit, patternOf, known, ready, after}
 use Rattle.ordering.specs.Good.{at, readyAt, afterAt, firstGood}
 use Rattle.ordering.specs.Held.{placesOf, orNone}
 use Rattle.ordering.specs.declared.Order.{Order}
-use Rattle.masks.proofs.Laws.Logic.{and-intro, and-left, and-right}
+use Rattle.masks.proofs.Laws.Logic.{byBool, and-intro, and-left, and-right}
 use Rattle.masks.proofs.Laws.Lists.{all-append, all-at}
 use Rattle.book.proofs.Laws.Table.{tableIn-at}
 use Rattle.book.proofs.Laws.Sets.{callsBelow, callable-low}
@@ -30,11 +31,41 @@ use Rattle.ordering.proofs.Laws.Good.{first-kept}
 use Rattle.ordering.proofs.Laws.Greedy as turns
 use Rattle.ordering.proofs.Laws.Steps.{first-at, pattern-small}
 
--- what a subgoal needs, for whoever computes it: that its pattern fits the constraint held at its predicate
+-- what a subgoal needs, for whoever computes it: that its pattern fits the constraint held at its predicate, and W9's rule
 pub ready-held : (table : List ℕ) (n : ℕ) (b : Bound) (s : Call) → s .pred < n
-    → ready (tableIn table n) b s ≡ admits (entryIn table (s .pred)) (patternOf b (s .args))
+    → ready (tableIn table n) b s ≡ (admits (entryIn table (s .pred)) (patternOf b (s .args)) && known b s)
 unfolding ready
-ready-held table n b s h = ap (λ (c : List ℕ). admits c (patternOf b (s .args))) (tableIn-at table n (s .pred) h)
+ready-held table n b s h = ap (λ (c : List ℕ). admits c (patternOf b (s .args)) && known b s) (tableIn-at table n (s .pred) h)
+
+-- the rule by kind
+pub known-positive : (b : Bound) (s : Call) → s .negated ≡ false → known b s ≡ true
+unfolding known
+known-positive b s e = rw e
+
+pub known-negated : (b : Bound) (s : Call) → s .negated ≡ true → known b s ≡ all (isBound b) (s .args)
+unfolding known
+known-negated b s e = rw e
+
+-- every argument is bound where it is the greatest of so many positions
+known-full : (b : Bound) (l : List ℕ) → eqb (patternOf b l + 1) (2 ^ length l) ≡ all (isBound b) l
+unfolding patternOf
+known-full b [] = refl
+known-full b (v ∷ l) =
+    let r = known-full b l in
+    let h = pattern-small b (length l) l (omega arith) in
+    rw (pow-suc 2 (length l)) (go (isBound b v) r h)
+  where
+    go : (c : Bool) → eqb (patternOf b l + 1) (2 ^ length l) ≡ all (isBound b) l → patternOf b l < 2 ^ length l
+        → eqb (patternOf b l * 2 + bit c + 1) (2 ^ length l * 2) ≡ (c && all (isBound b) l)
+    go true r h =
+        byBool (eqb (patternOf b l + 1) (2 ^ length l))
+        (λ t. let e = eqb-true (patternOf b l + 1) (2 ^ length l) t in eq-eqb (patternOf b l * 2 + bit true + 1) (2 ^ length l * 2) (omega arith) ∙ sym t ∙ r)
+        (λ t. let e = eqb-false (patternOf b l + 1) (2 ^ length l) t in ne-eqb (patternOf b l * 2 + bit true + 1) (2 ^ length l * 2) (λ d. e (omega arith)) ∙ sym t ∙ r)
+    go false r h = ne-eqb (patternOf b l * 2 + bit false + 1) (2 ^ length l * 2) (λ d. omega arith)
+
+pub known-pattern : (b : Bound) (s : Call) → known b s ≡ (not (s .negated) || eqb (patternOf b (s .args) + 1) (2 ^ length (s .args)))
+unfolding known
+known-pattern b s = ap (λ (c : Bool). not (s .negated) || c) (sym (known-full b (s .args)))
 
 -- ---- subgoals that call predicates below n: a table that goes on past n is as good as one that does not
 
@@ -64,7 +95,7 @@ few c = leb (length (c .args)) maxArity
 pub first-same : (T U : Table) (body : List Call) → ((p : ℕ) → p < maxPredicates → EachLane (λ a. admits (entry T p) a ≡ admits (entry U p) a))
     → callable body ≡ true → all (λ c. leb (length (c .args)) maxArity) body ≡ true → (b : Bound) → firstGood T body b ≡ firstGood U body b
 unfolding ready at
-first-same T U body agree known short b =
+first-same T U body agree called short b =
     turns.first-same (readyAt T body) (afterAt body) (readyAt U body) (afterAt body) (λ (u v : Bound). u ≡ v) (length body)
     (λ u v p l e. ap (λ (w : Bound). ready T w (at body p)) e ∙ one v p l)
     (λ u v p e. ap (λ (w : Bound). after w (at body p)) e) b b refl
@@ -72,8 +103,9 @@ first-same T U body agree known short b =
     one : (v : Bound) (p : ℕ) → p < length body → ready T v (at body p) ≡ ready U v (at body p)
     one v p l =
         let s = getD body p noCall in
-        agree (s .pred) (callable-low body p known l) (patternOf v (s .args))
-        (pattern-small v maxArity (s .args) (leb-true (length (s .args)) maxArity (all-at few noCall body p l short)))
+        ap (λ (c : Bool). c && known v s)
+        (agree (s .pred) (callable-low body p called l) (patternOf v (s .args))
+        (pattern-small v maxArity (s .args) (leb-true (length (s .args)) maxArity (all-at few noCall body p l short))))
 
 -- those of a clause have six at most
 pub body-few : (rules : List ℕ) (k : ℕ) → all (λ c. leb (length (c .args)) maxArity) (clauseAt rules k .body) ≡ true

@@ -1,7 +1,7 @@
 -- How the code finds an order: a subgoal as it is read, the scan for the first place of a word that is ready, and the run of the greedy rule with a word
 -- of the places that are left. Assumes nothing.
 use mathlib.Core.Path.{_≡_, refl, sym, ap, ap₂, _∙_, subst}
-use mathlib.Core.Bool.{Bool, true, false, cond, _&&_, and-false}
+use mathlib.Core.Bool.{Bool, true, false, not, cond, _&&_, _||_, and-false}
 use mathlib.Core.Logic.{⊎-elim}
 use mathlib.Core.List.{List, [], _∷_, _++_, append-assoc, append-nil}
 use mathlib.Core.Option.{Option, none, some, Option·map}
@@ -10,6 +10,7 @@ use native.Mathlib.Nat.{sub-zero, pow-suc}
 use native.Mathlib.Numerals.{add-one}
 use native.Mathlib.Omega.{arith}
 use lib.Bits.{bitXor, xor-lt}
+use lib.Dec.{eqb}
 use lib.ListN.{length, getD, set, take, length-set}
 use lib.Pow.{pow-pos, pow-lt}
 use lib.Seq.{take-suc-set}
@@ -24,9 +25,9 @@ use Rattle.book.specs.Table.{tableIn, Full}
 use Rattle.book.specs.Sets.{callable}
 use Rattle.book.specs.declared.range.Range.the-variants.{Argument}
 use Rattle.ordering.specs.Orders.{In, find, without, count}
-use Rattle.ordering.specs.Adorn.{Bound, patternOf, bindAll, ready, after}
+use Rattle.ordering.specs.Adorn.{Bound, patternOf, ready, after}
 use Rattle.ordering.specs.Good.{at, readyAt, afterAt}
-use Rattle.ordering.specs.Held.{foundOr, picked, PatternAt}
+use Rattle.ordering.specs.Held.{foundOr, picked, canRun, PatternAt}
 use Rattle.masks.proofs.Laws.Logic.{byRange, clash, and-left, and-right}
 use Rattle.masks.proofs.Laws.Set.{bitAt-power}
 use Rattle.masks.proofs.Laws.Members.{bitAt-xor}
@@ -34,9 +35,8 @@ use Rattle.masks.proofs.Laws.Patterns.{member-below}
 use Rattle.book.proofs.Laws.Sets.{callable-low, callable-args}
 use Rattle.ordering.proofs.Laws.Orders.{find-some, find-none, find-least, without-in, without-keeps, without-gone, Ascends, ascends-distinct, ascends-without, count-in, in-count, count-ascends}
 use Rattle.ordering.proofs.Laws.Greedy.{greedyOf, greedy}
-use Rattle.ordering.proofs.Laws.Adorn.{after-args}
 use Rattle.ordering.proofs.Laws.Steps.{pattern-small}
-use Rattle.ordering.proofs.Laws.Held.{ready-held}
+use Rattle.ordering.proofs.Laws.Held.{ready-held, known-pattern}
 
 -- ---- a subgoal as it is read
 
@@ -47,24 +47,25 @@ module _ (body : List Call) (p : ℕ) {s : Call} (e : s ≡ getD body p noCall) 
   pub args-read : callable body ≡ true → p < length body → all (allows Argument) (s .args) ≡ true
   args-read t h = rw e (callable-args body p t h)
 
-  -- with its pattern, which fits where it is a member of the predicate's set
+  -- with its pattern, which fits where it is a member of the predicate's set; of a negated one it must be the greatest
   pub ready-read : (table : List ℕ) (b : Bound) {q a : ℕ} → callable body ≡ true → Full table → length (s .args) ≤ maxArity → p < length body → q ≡ s .pred
-      → a ≡ patternOf b (s .args) → readyAt (tableIn table maxPredicates) body b p ≡ bitAt (getD table q 0) a
+      → a ≡ patternOf b (s .args) → readyAt (tableIn table maxPredicates) body b p ≡ canRun (getD table q 0) s a
   unfolding at
-  ready-read table b t full few h r i =
+  ready-read table b {q} {a} t full few h r i =
       let l = pred-read t h in
       sym (ap (ready (tableIn table maxPredicates) b) e)
       ∙ ready-held table maxPredicates b s l
-      ∙ sym (full (s .pred) l (patternOf b (s .args)) (pattern-small b maxArity (s .args) few))
-      ∙ ap₂ (λ (j x : ℕ). bitAt (getD table j 0) x) (sym r) (sym i)
+      ∙ ap₂ (λ (c d : Bool). c && d)
+      (sym (full (s .pred) l (patternOf b (s .args)) (pattern-small b maxArity (s .args) few)) ∙ ap₂ (λ (j x : ℕ). bitAt (getD table j 0) x) (sym r) (sym i))
+      (known-pattern b s ∙ ap (λ (x : ℕ). not (s .negated) || eqb (x + 1) (2 ^ length (s .args))) (sym i))
 
   pub pattern-read : (b : Bound) {a : ℕ} → a ≡ patternOf b (s .args) → PatternAt body b p a
   unfolding at
   pattern-read b r h = r ∙ ap (λ (c : Call). patternOf b (c .args)) e
 
-  pub after-read : (b : Bound) {b′ : Bound} → b′ ≡ bindAll b (s .args) → b′ ≡ afterAt body b p
+  pub after-read : (b : Bound) {b′ : Bound} → b′ ≡ after b s → b′ ≡ afterAt body b p
   unfolding at
-  after-read b q = q ∙ sym (after-args b s) ∙ ap (after b) e
+  after-read b q = q ∙ ap (after b) e
 
 -- ---- the scan
 

@@ -1,6 +1,6 @@
 -- `ordering::first_ready` meets its contract. The loop goes over the places that are left; its invariant: what the scan comes to is the first of those from
--- here on. A pattern fits where it is a member of the predicate's set, and is answered with its place. Assumes nothing.
-use mathlib.Core.Path.{_≡_, _∙_}
+-- here on. A subgoal is ready where it can run with its pattern, which is answered with its place. Assumes nothing.
+use mathlib.Core.Path.{_≡_, sym, _∙_}
 use mathlib.Core.Bool.{Bool, true, false}
 use mathlib.Core.List.{List}
 use Prim.Native.Nat.{ℕ, suc, _<_, _≤_}
@@ -18,9 +18,8 @@ use Rattle.book.specs.Held.{callIn, clauseAt}
 use Rattle.book.specs.Table.{tableIn}
 use Rattle.book.proofs.Laws.Held.{args-count, clauseAt-few}
 use Rattle.ordering.specs.Good.{readyAt}
-use Rattle.ordering.specs.Held.{boundOf}
+use Rattle.ordering.specs.Held.{boundOf, canRun}
 use Rattle.ordering.proofs.Laws.Steps.{pattern-small}
-use Rattle.ordering.proofs.Laws.Bound.{shift-true, shift-false}
 use Rattle.ordering.proofs.Laws.Run.{pred-read, args-read, ready-read, pattern-read, Scan, scan-start, scan-skip, scan-waits, scan-here, scan-end}
 use Rattle.ordering.proofs.first_ready.Statement.{statement}
 use Rattle.ordering.proofs.first_ready.Tie as tie
@@ -108,50 +107,45 @@ module _ (c : tie.After-predicate Inv-loop μ-loop) where
       let l = pattern-small (boundOf (k .args .bound)) maxArity (callIn (c .before .before .subgoal-at .result) .args) few in
       omega arith
 
-  passes-here : passes (c .before .before .before .before .before) (p (c .before .before .before)) ≡ bitAt (getD (c .before .before .before .before .before .args .table .now) (c .predicate .result) 0) (c .before .pattern .result)
+  passes-here : passes (c .before .before .before .before .before) (p (c .before .before .before))
+      ≡ canRun (getD (c .before .before .before .before .before .args .table .now) (c .predicate .result) 0) (callIn (c .before .before .subgoal-at .result)) (c .before .pattern .result)
   passes-here =
       let k = c .before .before .before .before .before in
       ready-read (body k) (p (c .before .before .before)) (c .before .before .subgoal-at .ensures) (k .args .table .now) (boundOf (k .args .bound)) (k .pre .1) (k .pre .2) few
       (inside (c .before .before .before)) (c .predicate .ensures) (c .before .pattern .ensures)
 
-cast-if1 : tie.Need-cast-if1 Inv-loop μ-loop
-cast-if1 c = let l = pred-low c in omega arith
+cast-can-run : tie.Need-cast-can-run Inv-loop μ-loop
+cast-can-run c = let l = pred-low c in omega arith
 
-mul-if1 : tie.Need-mul-if1 Inv-loop μ-loop
-mul-if1 c = let l = pred-low c in omega arith
+mul-can-run : tie.Need-mul-can-run Inv-loop μ-loop
+mul-can-run c = let l = pred-low c in omega arith
 
-element-copy-out-if1 : tie.Need-element-copy-out-if1 Inv-loop μ-loop
-element-copy-out-if1 c = let l = pred-low c in search needs
+element-copy-out-can-run : tie.Need-element-copy-out-can-run Inv-loop μ-loop
+element-copy-out-can-run c = let l = pred-low c in search needs
 
-cast-if1-2 : tie.Need-cast-if1-2 Inv-loop μ-loop
-cast-if1-2 c = search needs
-
-shr-if1 : tie.Need-shr-if1 Inv-loop μ-loop
-shr-if1 c = let l = pattern-low (c .before) in omega arith
+can-run-requires : tie.Need-can-run-requires Inv-loop μ-loop
+can-run-requires c κs = pattern-low (c .before)
 
 returns : tie.Need-returns Inv-loop μ-loop
 returns c =
-    let d = c .before .before in
+    let d = c .before .before .before in
     let t = d .before .before .before in
     let k = t .before .before in
     let i = inside t in
-    let n = clauseAt-few (k .args .rules .now) (k .args .k) in
-    let w = getD (k .args .table .now) (d .predicate .result) 0 in (
-      scan-here (left t) (passes k) (p t) (omega arith) (member t) (passes-here d ∙ shift-true w (d .before .pattern .result) (c .if1 .taken)) (here t),
+    let n = clauseAt-few (k .args .rules .now) (k .args .k) in (
+      scan-here (left t) (passes k) (p t) (omega arith) (member t) (passes-here d ∙ sym (c .before .can-run .ensures) ∙ c .if1 .taken) (here t),
       pattern-read (body k) (p t) (d .before .before .subgoal-at .ensures) (boundOf (k .args .bound)) (d .before .pattern .ensures),
     )
 
 loop-less : tie.Need-loop-less Inv-loop μ-loop
-loop-less c = let t = c .before .before .before .before .before in others-less (rest t) (t .loop-test .taken)
+loop-less c = let t = c .before .before .before .before .before .before in others-less (rest t) (t .loop-test .taken)
 
 loop-again : tie.Need-loop-again Inv-loop μ-loop
 loop-again c =
-    let d = c .before .before in
+    let d = c .before .before .before in
     let t = d .before .before .before in
-    let k = t .before .before in
-    let w = getD (k .args .table .now) (d .predicate .result) 0 in
     over-next (Here t) 32 (left t) (rest t) (skip t) (t .before .loop .inv) (t .loop-test .taken) (Here t)
-    (scan-waits (left t) (passes k) (p t) (passes-here d ∙ shift-false w (d .before .pattern .result) (c .if1 .left)) (here t))
+    (scan-waits (left t) (passes (t .before .before)) (p t) (passes-here d ∙ sym (c .before .can-run .ensures) ∙ c .if1 .left) (here t))
 
 returns-2 : tie.Need-returns-2 Inv-loop μ-loop
 returns-2 c =
@@ -174,11 +168,10 @@ first-ready-spec =
     subgoal-at-requires
     pattern-requires
     predicate-requires
-    cast-if1
-    mul-if1
-    element-copy-out-if1
-    cast-if1-2
-    shr-if1
+    cast-can-run
+    mul-can-run
+    element-copy-out-can-run
+    can-run-requires
     returns
     loop-less
     loop-again

@@ -1,40 +1,56 @@
 -- The loop over subgoals, in a clause or in the query: their words stand one after the other in the rules, whichever of the two runs they are in; and
 -- what the words of a clause say once they are stored. Assumes nothing.
 use mathlib.Core.Path.{_≡_, refl, sym, ap, ap₂, _∙_}
-use mathlib.Core.Bool.{true, false}
+use mathlib.Core.Bool.{Bool, true, false}
+use mathlib.Core.Logic.{⊎-elim}
 use mathlib.Core.List.{List, [], _∷_, _++_, map, map-append}
 use Prim.Native.Nat.{ℕ, zero, suc, _+_, _*_, min, _≤_, _<_}
 use native.Mathlib.Omega.{arith}
 use lib.ListN.{length, getD, drop, set, length-set, length-map, List·getD-map}
 use lib.Seq.{sets, length-sets, getD-set-same, getD-set-other, ext-getD}
 use Rattle.masks.specs.Lists.{values}
-use Rattle.masks.proofs.Laws.Logic.{byRange}
+use Rattle.masks.proofs.Laws.Logic.{byRange, clash, false-of, or-left, or-right, or-case}
 use Rattle.masks.proofs.Laws.Lists.{length-values, values-cong, getD-values}
 use Rattle.book.specs.Limits.{maxClauses, maxSubgoals}
-use Rattle.book.specs.Book.{Call}
-use Rattle.book.specs.Format.{spelling, leads, many, subgoal}
-use Rattle.book.specs.Held.{callIn, clauseSize, rulesSize, clauseAt, StoredClause}
+use Rattle.book.specs.Book.{Head, Call}
+use Rattle.book.specs.Format.{spelling, leads, turn, markAt, many, subgoal}
+use Rattle.book.specs.Held.{headIn, callIn, clauseSize, rulesSize, clauseAt, StoredClause}
 use Rattle.book.specs.declared.fault.Fault.{Fault}
 use Rattle.book.specs.declared.fault.Fault.the-variants.{TooMany}
-use Rattle.book.specs.declared.mark.Mark.the-variants.{Sg}
+use Rattle.book.specs.declared.mark.Mark.{Mark}
+use Rattle.book.specs.declared.mark.Mark.the-variants.{Sg, Ng}
 use Rattle.book.specs.declared.mark.Phase.{Phase}
 use Rattle.book.specs.declared.mark.Phase.the-variants.{Body, Query}
-use Rattle.book.proofs.Laws.Marks.{sole-body, sole-query}
+use Rattle.book.specs.declared.mark.Turn.the-variants.{Mine}
+use Rattle.book.proofs.Laws.Marks.{signed-body, signed-query, unled}
 use Rattle.records.specs.declared.field.Found.{Found}
 use Rattle.records.specs.declared.field.Found.the-variants.{Next, Bad}
-use Rattle.records.specs.Found.{means, Reads, stops}
+use Rattle.records.specs.Found.{means, Reads, stops, leadsSubgoal}
 use Rattle.records.proofs.Laws.Reads.{bad-next}
 use Rattle.records.proofs.Laws.Stores.{sets-last}
 use Rattle.reading.specs.Stored.{Bodied, onward, ReadsBody}
-use Rattle.reading.proofs.Laws.Runs.{Going, mine-at, not-mine-at, mark-there, stops-reads, going-start, going-full, going-bad, going-next, going-stops}
+use Rattle.reading.proofs.Laws.Runs.{Going, mine-at, mark-there, stops-reads, going-start, going-full, going-bad, going-next, going-stops}
 
 -- ---- the two runs of subgoals
 
 pub in-body : Bodied Body
-in-body = record { own = refl; sole = sole-body }
+in-body = record { positive = refl; negated = refl; sole = signed-body }
 
 pub in-query : Bodied Query
-in-query = record { own = refl; sole = sole-query }
+in-query = record { positive = refl; negated = refl; sole = signed-query }
+
+-- a mark of either kind leads the bytes at a place, or none does
+module _ (p : Phase) (b : Bodied p) (s : List ℕ) (at : ℕ) where
+  subgoal-at : leadsSubgoal (drop at s) ≡ true → turn p (markAt (drop at s)) ≡ Mine
+  subgoal-at t =
+      or-case (leads (spelling Sg) (drop at s)) (leads (spelling Ng) (drop at s)) t (mine-at p Sg s at (b .positive)) (mine-at p Ng s at (b .negated))
+
+  no-subgoal-at : leadsSubgoal (drop at s) ≡ false → turn p (markAt (drop at s)) ≡ Mine → ⊥
+  no-subgoal-at t =
+      let led : Mark → Bool = λ (j : Mark). leads (spelling j) (drop at s) in
+      unled p (drop at s)
+      (λ m e.
+      ⊎-elim (λ d. ap led d ∙ false-of (λ h. clash (or-left (led Sg) (led Ng) h) t)) (λ d. ap led d ∙ false-of (λ h. clash (or-right (led Sg) h) t)) (b .sole m e))
 
 -- ---- the loop
 
@@ -78,17 +94,17 @@ module _ (ar s : List ℕ) (from k : ℕ) (before : List ℕ) where
         same (Next a m) d p = bad-next d refl
         same (Bad u a) d p = refl
 
-    module _ (t : leads (spelling Sg) (drop at s) ≡ true) where
+    module _ (t : leadsSubgoal (drop at s) ≡ true) where
       pub bodying-there : at + 2 ≤ length s
-      bodying-there = mark-there Body s at (mine-at Body Sg s at refl t)
+      bodying-there = mark-there Body s at (subgoal-at Body in-body s at t)
 
       pub bodying-full : maxSubgoals ≤ n → ReadsBody ar s from k (Bad TooMany at) before now
-      bodying-full h = faulty refl (λ p b. going-full p (subgoal ar) s maxSubgoals from (l .going p b) (mine-at p Sg s at (b .own) t) h)
+      bodying-full h = faulty refl (λ p b. going-full p (subgoal ar) s maxSubgoals from (l .going p b) (subgoal-at p b s at t) h)
 
       module _ (h : n < maxSubgoals) (w : ℕ) {g : Found} (r : Reads s g (λ j. callIn w) (subgoal ar [] (drop at s))) where
         pub bodying-bad : {v : Fault} {q : ℕ} → g ≡ Bad v q → ReadsBody ar s from k g before now
         unfolding subgoal
-        bodying-bad e = faulty e (λ p b. going-bad p (subgoal ar) s maxSubgoals from (l .going p b) (mine-at p Sg s at (b .own) t) h r e)
+        bodying-bad e = faulty e (λ p b. going-bad p (subgoal ar) s maxSubgoals from (l .going p b) (subgoal-at p b s at t) h r e)
 
         pub bodying-next : {next m : ℕ} → g ≡ Next next m → {after : List ℕ} → after ≡ set now (k * clauseSize + 2 + n) w
             → Bodying ar s from next (n + 1) (k * clauseSize) before after
@@ -98,7 +114,7 @@ module _ (ar s : List ℕ) (from k : ℕ) (before : List ℕ) where
               words = l .words ++ (w ∷ []);
               going =
                   λ p b.
-                  going-next p (subgoal ar) s maxSubgoals from (l .going p b) (mine-at p Sg s at (b .own) t) h r e
+                  going-next p (subgoal ar) s maxSubgoals from (l .going p b) (subgoal-at p b s at t) h r e
                   (map-append callIn (l .words) (w ∷ []));
               stored =
                   d
@@ -106,14 +122,14 @@ module _ (ar s : List ℕ) (from k : ℕ) (before : List ℕ) where
                   ∙ sets-last before (k * clauseSize + 2) n (l .words) w count;
             }
 
-    pub bodying-end : leads (spelling Sg) (drop at s) ≡ false → (m : ℕ) {after : List ℕ} → after ≡ set now (k * clauseSize) n
+    pub bodying-end : leadsSubgoal (drop at s) ≡ false → (m : ℕ) {after : List ℕ} → after ≡ set now (k * clauseSize) n
         → ReadsBody ar s from k (Next at m) before after
     bodying-end t m d =
         record {
           words = l .words;
           few = let c = count in let u = bodying-few in omega arith;
           inside = bodying-inside;
-          reads = λ p b. going-stops p (subgoal ar) s maxSubgoals from (l .going p b) (not-mine-at p Sg s at (b .sole) t);
+          reads = λ p b. going-stops p (subgoal ar) s maxSubgoals from (l .going p b) (no-subgoal-at p b s at t);
           stored =
               λ a j e.
               d ∙ ap₂ (λ (x : List ℕ) (y : ℕ). set x (k * clauseSize) y) (l .stored) (sym count);
@@ -163,8 +179,8 @@ same-words : (rules after : List ℕ) (k : ℕ)
     → ((p : ℕ) → k * clauseSize ≤ p → p < k * clauseSize + clauseSize → getD after p 0 ≡ getD rules p 0) → clauseAt after k ≡ clauseAt rules k
 unfolding clauseAt
 same-words rules after k same =
-    ap₂ (λ (h : Call) (b : List Call). record { head = h; body = b })
-    (ap callIn (same (k * clauseSize + 1) (omega arith) (omega arith)))
+    ap₂ (λ (h : Head) (b : List Call). record { head = h; body = b })
+    (ap headIn (same (k * clauseSize + 1) (omega arith) (omega arith)))
     (ap (λ (n : ℕ). values (callAt after k) (min n maxSubgoals)) (same (k * clauseSize) (omega arith) (omega arith))
     ∙ values-cong (callAt after k) (callAt rules k) (min (getD rules (k * clauseSize) 0) maxSubgoals)
     (λ j h. ap callIn (same (k * clauseSize + 2 + j) (omega arith) (omega arith))))
@@ -176,7 +192,7 @@ pub body-stored : (before : List ℕ) (k : ℕ) (words : List ℕ) {after : List
 unfolding clauseAt
 body-stored before k words {after} e low few is =
     record {
-      is = ap₂ (λ (h : Call) (b : List Call). record { head = h; body = b }) (ap callIn (kept (at + 1) (λ i. omega arith) (λ q. omega arith))) body;
+      is = ap₂ (λ (h : Head) (b : List Call). record { head = h; body = b }) (ap headIn (kept (at + 1) (λ i. omega arith) (λ q. omega arith))) body;
       others = λ i ne. same-words before after i (λ p l r. kept p (λ j. ne· i p ne l r j) (λ q. ne (omega arith)));
     }
   where
@@ -216,14 +232,14 @@ body-stored before k words {after} e low few is =
 -- and the head before them
 pub clause-stored : (before : List ℕ) (k w : ℕ) (words : List ℕ) {one after : List ℕ} → length before ≡ rulesSize → k < maxClauses → length words ≤ maxSubgoals
     → one ≡ set before (k * clauseSize + 1) w → after ≡ set (sets one (k * clauseSize + 2) words) (k * clauseSize) (length words)
-    → StoredClause before after k (record { head = callIn w; body = map callIn words })
+    → StoredClause before after k (record { head = headIn w; body = map callIn words })
 unfolding clauseAt
 clause-stored before k w words {one} {after} e low few first is =
     let size : length one ≡ rulesSize = ap length first ∙ simp length-set e in
     let b = body-stored one k words size (omega arith) few is in
     let head : getD one (k * clauseSize + 1) 0 ≡ w = ap (λ (l : List ℕ). getD l (k * clauseSize + 1) 0) first ∙ getD-set-same before (k * clauseSize + 1) w 0 (omega arith) in
     record {
-      is = b .is ∙ ap (λ (x : ℕ). record { head = callIn x; body = map callIn words }) head;
+      is = b .is ∙ ap (λ (x : ℕ). record { head = headIn x; body = map callIn words }) head;
       others =
           λ i ne.
           b .others i ne

@@ -8,8 +8,8 @@ use native.Mathlib.Omega.{arith}
 use lib.ListN.{length, drop, set}
 use Rattle.book.specs.Limits.{maxClauses}
 use Rattle.book.specs.Book.{Call, Clause, noClause}
-use Rattle.book.specs.Format.{spelling, leads, markAt, turn, call, clause, query}
-use Rattle.book.specs.Held.{callIn, clauseSize, rulesSize, clausesOf}
+use Rattle.book.specs.Format.{spelling, leads, markAt, turn, fields, clause, query}
+use Rattle.book.specs.Held.{headIn, callIn, clauseSize, rulesSize, clausesOf}
 use Rattle.book.specs.declared.fault.Fault.{Fault}
 use Rattle.book.specs.declared.fault.Fault.the-variants.{TooMany}
 use Rattle.book.specs.declared.mark.Mark.the-variants.{Cl}
@@ -28,9 +28,9 @@ use Rattle.reading.proofs.Laws.Bodies.{in-body, in-query, body-bad, bod
 
 -- ---- a clause
 
-module _ (ar s : List ℕ) (at k word : ℕ) {h : Found} (w : Reads s h (λ n. callIn word) (call NoWildcard ar (drop (at + 2) s))) (before : List ℕ) where
+module _ (ar s : List ℕ) (at k word : ℕ) {h : Found} (w : Reads s h (λ n. headIn word) (fields NoWildcard ar (drop (at + 2) s))) (before : List ℕ) where
   -- its head, behind the mark
-  head : Reads s h (λ n. callIn word) (call NoWildcard ar (drop 2 (drop at s)))
+  head : Reads s h (λ n. headIn word) (fields NoWildcard ar (drop 2 (drop at s)))
   head = rw after-mark w
 
   -- the head has a fault
@@ -55,8 +55,8 @@ module _ (ar s : List ℕ) (at k word : ℕ) {h : Found} (w : Reads s h (λ n. c
     unfolding clause
     clause-ended low first {end} {m} d v =
         record {
-          clause = record { head = callIn word; body = map callIn (b .words) };
-          reads = then-next _ head e (reads-map (λ (l : List Call). record { head = callIn word; body = l }) (body-next b Body in-body d v));
+          clause = record { head = headIn word; body = map callIn (b .words) };
+          reads = then-next _ head e (reads-map (λ (l : List Call). record { head = headIn word; body = l }) (body-next b Body in-body d v));
           stored = λ a j f room. clause-stored before k word (b .words) room low (b .few) first (b .stored end m d);
         }
 

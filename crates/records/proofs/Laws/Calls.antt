@@ -1,6 +1,6 @@
 -- A call read into a word from the low end on: each argument is a byte above those before it. Assumes nothing.
 use mathlib.Core.Path.{_≡_, refl, sym, ap, ap₂, _∙_, subst}
-use mathlib.Core.Bool.{true, _||_}
+use mathlib.Core.Bool.{Bool, true, _||_}
 use mathlib.Core.List.{List, [], _∷_, _++_}
 use Prim.Native.Nat.{ℕ, suc, _+_, _*_, _%_, _^_, min, _≤_, _<_}
 use native.Mathlib.Nat.{mul-assoc, mul-le-mul-right}
@@ -14,18 +14,19 @@ use Rattle.masks.specs.Limits.{maxArity}
 use Rattle.masks.specs.Lists.{values}
 use Rattle.masks.proofs.Laws.Logic.{byBool, and-intro, and-left, and-right}
 use Rattle.masks.proofs.Laws.Lists.{length-values, getD-values, take-values}
-use Rattle.book.specs.Book.{Call}
-use Rattle.book.specs.Format.{allows, byte, call}
-use Rattle.book.specs.Held.{countIn, byteOf, callIn}
+use Rattle.book.specs.Book.{Head}
+use Rattle.book.specs.Format.{allows, byte, fields}
+use Rattle.book.specs.Held.{countIn, negatedIn, byteOf, headIn}
 use Rattle.book.specs.declared.fault.Fault.{Fault}
 use Rattle.book.specs.declared.range.Range.{Range}
 use Rattle.book.specs.declared.range.Range.the-variants.{Below}
 use Rattle.book.proofs.Laws.Words.{wordOf, byteOf-wordOf}
 use Rattle.records.specs.declared.field.Found.{Found}
 use Rattle.records.specs.declared.field.Found.the-variants.{Next, Bad}
+use Rattle.records.specs.declared.field.FoundCall.{FoundCall}
 use Rattle.records.specs.Found.{Reads}
-use Rattle.records.specs.Stored.{argumentFrom, arguments}
-use Rattle.records.proofs.Laws.Reads.{argument-is, no-wildcard-is, then-bad, then-next, reads-map, Left, left-start, left-bad, left-next, left-end}
+use Rattle.records.specs.Stored.{argumentFrom, arguments, ReadsCall}
+use Rattle.records.proofs.Laws.Reads.{argument-is, no-wildcard-is, bad-next, then-bad, then-next, reads-map, Left, left-start, left-bad, left-next, left-end}
 
 -- ---- arguments
 
@@ -75,83 +76,87 @@ module _ (w shift x : ℕ) (h : shift ≤ 56) (l : w < 2 ^ shift) (b : x < 256) 
       omega arith
 
 -- the word of a call says the call
-callIn-word : (p n : ℕ) (args : List ℕ) → n ≤ maxArity → length args ≡ n → areBytes (p ∷ n ∷ args) ≡ true
-    → _≡_ {A = Call} (callIn (wordOf (p ∷ n ∷ args))) (record { pred = p; args = args })
-callIn-word p n args few size b =
-    let is = byteOf-wordOf (p ∷ n ∷ args) b in
-    let c : countIn n ≡ n = omega arith in
+headIn-word : (p k n : ℕ) (args : List ℕ) → countIn k ≡ n → n ≤ maxArity → length args ≡ n → areBytes (p ∷ k ∷ args) ≡ true
+    → _≡_ {A = Head} (headIn (wordOf (p ∷ k ∷ args))) (record { pred = p; args = args })
+headIn-word p k n args c few size b =
+    let is = byteOf-wordOf (p ∷ k ∷ args) b in
     let m : min n maxArity ≡ n = omega arith in
     ap₂ (λ (q : ℕ) (s : List ℕ). record { pred = q; args = s }) (is 0)
-    (ap (λ (k : ℕ). take (countIn k) (values at maxArity)) (is 1)
-    ∙ ap (λ (k : ℕ). take k (values at maxArity)) c
+    (ap (λ (j : ℕ). take (countIn j) (values at maxArity)) (is 1)
+    ∙ ap (λ (j : ℕ). take j (values at maxArity)) c
     ∙ take-values at n maxArity
     ∙ ap (values at) m
     ∙ ext-getD 0 (values at n) args (length-values at n ∙ sym size)
     (λ j d.
     let e : 2 + j ≡ suc (suc j) = omega arith in
-    getD-values at 0 n j (omega (arith, length-values at n)) ∙ ap (byteOf (wordOf (p ∷ n ∷ args))) e ∙ is (suc (suc j))))
+    getD-values at 0 n j (omega (arith, length-values at n)) ∙ ap (byteOf (wordOf (p ∷ k ∷ args))) e ∙ is (suc (suc j))))
   where
     at : ℕ → ℕ
-    at j = byteOf (wordOf (p ∷ n ∷ args)) (2 + j)
+    at j = byteOf (wordOf (p ∷ k ∷ args)) (2 + j)
 
 -- ---- the loop over the arguments
 
-pub record Calling (r : Range) (s : List ℕ) (p n from at i shift w : ℕ) : Type 0 where
+-- k is the byte with the number of arguments n
+pub record Calling (r : Range) (s : List ℕ) (p k n from at i shift w : ℕ) : Type 0 where
   pub args : List ℕ
   pub left : Left r s n from at i args
-  pub bytes : areBytes (p ∷ n ∷ args) ≡ true
-  pub word : w ≡ wordOf (p ∷ n ∷ args)
+  pub bytes : areBytes (p ∷ k ∷ args) ≡ true
+  pub word : w ≡ wordOf (p ∷ k ∷ args)
   pub place : shift ≡ 16 + 8 * i
 
-module _ (r : Range) (s : List ℕ) (p n from : ℕ) where
-  pub calling-start : from ≤ length s → p < 256 → n < 256 → Calling r s p n from from 0 16 (n * 256 + p)
+module _ (r : Range) (s : List ℕ) (p k n from : ℕ) where
+  pub calling-start : from ≤ length s → p < 256 → k < 256 → Calling r s p k n from from 0 16 (k * 256 + p)
   unfolding wordOf
   calling-start h bp bn =
       record {
         args = [];
         left = left-start r s n from h;
-        bytes = and-intro (lt-ltb p 256 bp) (and-intro (lt-ltb n 256 bn) refl);
+        bytes = and-intro (lt-ltb p 256 bp) (and-intro (lt-ltb k 256 bn) refl);
         word = omega arith;
         place = refl;
       }
 
-  module _ {at i shift w : ℕ} (c : Calling r s p n from at i shift w) where
-    size : 8 * length (p ∷ n ∷ c .args) ≡ shift
+  module _ {at i shift w : ℕ} (c : Calling r s p k n from at i shift w) where
+    size : 8 * length (p ∷ k ∷ c .args) ≡ shift
     size = let e = c .left .size in let f = c .place in omega arith
 
     pub calling-less : w < 2 ^ shift
-    calling-less = let l = wordOf-less (p ∷ n ∷ c .args) (c .bytes) in rw (c .word) (subst (λ (k : ℕ). wordOf (p ∷ n ∷ c .args) < 2 ^ k) size l)
+    calling-less = let l = wordOf-less (p ∷ k ∷ c .args) (c .bytes) in rw (c .word) (subst (λ (j : ℕ). wordOf (p ∷ k ∷ c .args) < 2 ^ j) size l)
 
     module _ (h : i < n) {g : Found} (w· : Reads s g (λ x. x) (byte r (drop at s))) where
-      pub calling-bad : {v : Fault} {q : ℕ} → g ≡ Bad v q → Reads s g (λ k. callIn w) (arguments r p n (drop from s))
+      pub calling-bad : {negated : Bool} {v : Fault} {q : ℕ} → g ≡ Bad v q → ReadsCall s (record { found = g; call = w }) negated (arguments r p n (drop from s))
       unfolding arguments
-      calling-bad e = then-bad _ (left-bad r s n from (c .left) h w· {f = λ k. []} e) e
+      calling-bad e = record { reads = then-bad _ (left-bad r s n from (c .left) h w· {f = λ j. []} e) e; sign = λ at m d. bad-next e d }
 
-      pub calling-next : {next x more : ℕ} → g ≡ Next next x → x < 256 → more ≡ w + x * 2 ^ shift → Calling r s p n from next (i + 1) (shift + 8) more
+      pub calling-next : {next x more : ℕ} → g ≡ Next next x → x < 256 → more ≡ w + x * 2 ^ shift → Calling r s p k n from next (i + 1) (shift + 8) more
       calling-next {next} {x} e b d =
           record {
             args = c .args ++ (x ∷ []);
             left = left-next r s n from (c .left) h w· e;
-            bytes = areBytes-last (p ∷ n ∷ c .args) x (c .bytes) b;
-            word = d ∙ ap₂ (λ (a k : ℕ). a + x * 2 ^ k) (c .word) (sym size) ∙ sym (wordOf-last (p ∷ n ∷ c .args) x);
+            bytes = areBytes-last (p ∷ k ∷ c .args) x (c .bytes) b;
+            word = d ∙ ap₂ (λ (a j : ℕ). a + x * 2 ^ j) (c .word) (sym size) ∙ sym (wordOf-last (p ∷ k ∷ c .args) x);
             place = let f = c .place in omega arith;
           }
 
-    pub calling-end : n ≤ maxArity → n ≤ i → Reads s (Next at 0) (λ k. callIn w) (arguments r p n (drop from s))
+    pub calling-end : {negated : Bool} → (countIn k ≡ n) × (negatedIn k ≡ negated) → n ≤ maxArity → n ≤ i
+        → ReadsCall s (record { found = Next at 0; call = w }) negated (arguments r p n (drop from s))
     unfolding arguments
-    calling-end few h =
+    calling-end counts few h =
         let e : length (c .args) ≡ n = (let t = c .left .turns in let z = c .left .size in omega arith) in
-        let is : callIn w ≡ record { pred = p; args = c .args } = ap callIn (c .word) ∙ callIn-word p n (c .args) few e (c .bytes) in
-        rw is (reads-map (λ (l : List ℕ). record { pred = p; args = l }) (left-end r s n from (c .left) 0 h))
+        let is : headIn w ≡ record { pred = p; args = c .args } = ap headIn (c .word) ∙ headIn-word p k n (c .args) (counts .0) few e (c .bytes) in
+        record {
+          reads = rw is (reads-map (λ (l : List ℕ). record { pred = p; args = l }) (left-end r s n from (c .left) 0 h));
+          sign = λ a m d. ap (λ (x : ℕ). negatedIn (byteOf x 1)) (c .word) ∙ ap negatedIn (byteOf-wordOf (p ∷ k ∷ c .args) (c .bytes) 1) ∙ counts .1;
+        }
 
 -- ---- a call
 
 module _ (range : Range) (ar s : List ℕ) (at : ℕ) {g : Found} (w : Reads s g (λ x. x) (byte (Below (length ar)) (drop at s))) where
-  pub call-none : {c : Call} {v : Fault} {p : ℕ} → g ≡ Bad v p → Reads s g (λ n. c) (call range ar (drop at s))
-  unfolding call
-  call-none e = then-bad _ w e
+  pub call-none : {negated : Bool} {word : ℕ} {v : Fault} {p : ℕ} → g ≡ Bad v p → ReadsCall s (record { found = g; call = word }) negated (fields range ar (drop at s))
+  unfolding fields
+  call-none e = record { reads = then-bad _ w e; sign = λ a m d. bad-next e d }
 
-  pub call-read : {next p : ℕ} {f : Found} {c : Call} → g ≡ Next next p → Reads s f (λ n. c) (arguments range p (getD ar p 0) (drop next s))
-      → Reads s f (λ n. c) (call range ar (drop at s))
-  unfolding call arguments
-  call-read e v = then-next _ w e v
+  pub call-read : {next p : ℕ} {c : FoundCall} {negated : Bool} → g ≡ Next next p → ReadsCall s c negated (arguments range p (getD ar p 0) (drop next s))
+      → ReadsCall s c negated (fields range ar (drop at s))
+  unfolding fields arguments
+  call-read e v = record { reads = then-next _ w e (v .reads); sign = v .sign }

@@ -11,16 +11,20 @@ use lib.Seq.{drop-cons, drop-drop}
 use borrow.Author.Tests.{leb-true, le-leb, ltb-true, eqb-true, eqb-false, eq-eqb}
 use Rattle.masks.specs.Limits.{maxArity}
 use Rattle.masks.proofs.Laws.Logic.{byBool, same, or-left, or-right, or-case}
-use Rattle.book.specs.Book.{Call}
-use Rattle.book.specs.Format.{allows, Got, got, andThen, byte, bytes, predicate, call, subgoal}
+use Rattle.book.specs.Book.{subgoalOf}
+use Rattle.book.specs.Format.{spelling, leads, allows, Got, got, andThen, byte, bytes, predicate, fields, argumentIn, subgoal}
+use Rattle.book.specs.Held.{headIn, callIn}
 use Rattle.book.specs.declared.fault.Fault.{Fault}
 use Rattle.book.specs.declared.fault.Fault.the-variants.{PastEnd, OutOfRange}
+use Rattle.book.specs.declared.mark.Mark.the-variants.{Ng}
 use Rattle.book.specs.declared.range.Range.{Range}
 use Rattle.book.specs.declared.range.Range.the-variants.{Below, AtMost, Argument, NoWildcard}
 use Rattle.book.proofs.Laws.Got.{byte-inv}
 use Rattle.records.specs.declared.field.Found.{Found}
 use Rattle.records.specs.declared.field.Found.the-variants.{Next, Bad}
+use Rattle.records.specs.declared.field.FoundCall.{FoundCall}
 use Rattle.records.specs.Found.{placeOf, means, Reads}
+use Rattle.records.specs.Stored.{ReadsCall}
 
 -- ---- arguments
 
@@ -88,6 +92,14 @@ reads-map {A} {B} {s} {r} {f} {g} m w = record { inside = w .inside; is = go r �
     go (Next at n) = refl
     go (Bad v at) = refl
 
+-- a value that is another where there is one
+pub reads-same : {A : Type 0} {s : List ℕ} {r : Found} {f h : ℕ → A} {g : Got A} → ((at n : ℕ) → r ≡ Next at n → h n ≡ f n) → Reads s r f g → Reads s r h g
+reads-same {A} {s} {r} {f} {h} e w = record { inside = w .inside; is = go r e ∙ w .is }
+  where
+    go : (q : Found) → ((at n : ℕ) → q ≡ Next at n → h n ≡ f n) → means s q h ≡ means s q f
+    go (Next at n) d = ap (λ (a : A). got a (drop at s)) (d at n refl)
+    go (Bad v at) d = refl
+
 -- the fields of a record stand after its mark
 pub after-mark : (s : List ℕ) (at : ℕ) → drop 2 (drop at s) ≡ drop (at + 2) s
 after-mark s at = drop-drop 2 at s
@@ -145,6 +157,9 @@ module _ (s : List ℕ) (at : ℕ) {r : Found} where
   unfolding predicate
   predicate-reads w = rw after-mark w
 
-  pub subgoal-reads : (ar : List ℕ) {f : ℕ → Call} → Reads s r f (call Argument ar (drop (at + 2) s)) → Reads s r f (subgoal ar [] (drop at s))
-  unfolding subgoal
-  subgoal-reads ar w = rw after-mark w
+-- a subgoal by its mark
+pub subgoal-reads : (s : List ℕ) (at : ℕ) (ar : List ℕ) (negated : Bool) {c : FoundCall} → leads (spelling Ng) (drop at s) ≡ negated
+    → ReadsCall s c negated (fields (argumentIn negated) ar (drop (at + 2) s)) → Reads s (c .found) (λ n. callIn (c .call)) (subgoal ar [] (drop at s))
+unfolding subgoal
+subgoal-reads s at ar negated {c} t w =
+    rw (t, after-mark) (reads-same (λ q n e. ap (λ (b : Bool). subgoalOf b (headIn (c .call))) (w .sign q n e)) (reads-map (subgoalOf negated) (w .reads)))

@@ -12,7 +12,7 @@ use Rattle.masks.specs.Set.{bitAt}
 use Rattle.masks.proofs.Laws.Lists.{joined-cong}
 use Rattle.book.specs.Limits.{maxPredicates}
 use Rattle.book.specs.Book.{Call, noCall, Clause}
-use Rattle.book.specs.Encode.{run, encPredicate, encMode, encSubgoal, encClause}
+use Rattle.book.specs.Encode.{SG, NG, run, encPredicate, encMode, encSubgoal, encClause}
 use Rattle.book.specs.Held.{modeSize, hasIn, masksIn, modeBytes, HaveMode, modeAt, modesOf, clauseAt, clausesOf}
 use Rattle.book.proofs.Laws.Encode.{run-append, run-joined}
 use Rattle.book.proofs.Laws.Held.{modesOf-joined}
@@ -31,6 +31,10 @@ predicates-length (x ∷ l) = let e = predicates-length l in omega arith
 
 pub clause-length : (c : Clause) → length (encClause c) ≡ 3 + length (c .head .args) + length (run encSubgoal (c .body))
 clause-length c = let e = length-append (c .head .args) (run encSubgoal (c .body)) in omega arith
+
+-- the bytes of a subgoal, once its kind is told
+pub subgoal-bytes : {n : Bool} (c : Call) → n ≡ c .negated → cond n (NG (c .pred ∷ c .args)) (SG (c .pred ∷ c .args)) ≡ encSubgoal c
+subgoal-bytes c e = ap (λ (b : Bool). cond b (NG (c .pred ∷ c .args)) (SG (c .pred ∷ c .args))) e
 
 -- ---- what is written record by record: the bytes of the first i records, and of record i
 

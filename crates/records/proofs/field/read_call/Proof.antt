@@ -7,8 +7,8 @@ use Rattle.records.proofs.Laws.Reads.{predicate-known, next-inside}
 use Rattle.records.proofs.field.read_call.Statement.{statement}
 use Rattle.records.proofs.field.read_call.Tie as tie
 
-cast-t9 : tie.Need-cast-t9
-cast-t9 c = let h = c .before .before .pre .1 .few in omega arith
+cast-t10 : tie.Need-cast-t10
+cast-t10 c = let h = c .before .before .pre .1 .few in omega arith
 
 read-byte-requires : tie.Need-read-byte-requires
 read-byte-requires c κs = search needs
@@ -54,7 +54,7 @@ pub read-call-spec : {M : Type 1} → statement M
 read-call-spec =
     tie.close
     (tie.spec
-    cast-t9
+    cast-t10
     read-byte-requires
     enum-told
     enum-known-g

@@ -10,7 +10,7 @@ read-call-requires : tie.Need-read-call-requires
 read-call-requires c κs = search needs
 
 returns : tie.Need-returns
-returns c = c .read-call .ensures
+returns c = c .read-call .ensures .reads
 
 pub read-head-spec : {M : Type 1} → statement M
 read-head-spec = tie.close (tie.spec add-read-call read-call-requires returns)

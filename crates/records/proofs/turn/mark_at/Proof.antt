@@ -64,22 +64,42 @@ returns-5 c =
     let if4 = c .before .before .before .if4 in
     rw (sym (is-mark .ensures) ∙ if1 .left, sym (is-mark2 .ensures) ∙ if2 .left, sym (is-mark3 .ensures) ∙ if3 .left, sym (is-mark4 .ensures) ∙ if4 .left, sym (c .before .is-mark5 .ensures) ∙ c .if5 .taken)
 
-unmarked-requires : tie.Need-unmarked-requires
-unmarked-requires c κs = search needs
+is-mark-requires-6 : tie.Need-is-mark-requires-6
+is-mark-requires-6 c κs = search needs
 
 returns-6 : tie.Need-returns-6
 unfolding markAt
 returns-6 c =
-    let is-mark = c .before .before .before .before .before .before .before .before .before .before .before .before .before .before .is-mark in
-    let if1 = c .before .before .before .before .before .before .before .before .before .before .before .before .before .if1 in
-    let is-mark2 = c .before .before .before .before .before .before .before .before .before .before .before .is-mark2 in
-    let if2 = c .before .before .before .before .before .before .before .before .before .before .if2 in
-    let is-mark3 = c .before .before .before .before .before .before .before .before .is-mark3 in
-    let if3 = c .before .before .before .before .before .before .before .if3 in
-    let is-mark4 = c .before .before .before .before .before .is-mark4 in
-    let if4 = c .before .before .before .before .if4 in
-    let is-mark5 = c .before .before .is-mark5 in
-    rw (sym (is-mark .ensures) ∙ if1 .left, sym (is-mark2 .ensures) ∙ if2 .left, sym (is-mark3 .ensures) ∙ if3 .left, sym (is-mark4 .ensures) ∙ if4 .left, sym (is-mark5 .ensures) ∙ c .before .if5 .left) (c .unmarked .ensures)
+    let is-mark = c .before .before .before .before .before .before .before .before .before .before .before .before .before .before .before .before .is-mark in
+    let if1 = c .before .before .before .before .before .before .before .before .before .before .before .before .before .before .before .if1 in
+    let is-mark2 = c .before .before .before .before .before .before .before .before .before .before .before .before .before .is-mark2 in
+    let if2 = c .before .before .before .before .before .before .before .before .before .before .before .before .if2 in
+    let is-mark3 = c .before .before .before .before .before .before .before .before .before .before .is-mark3 in
+    let if3 = c .before .before .before .before .before .before .before .before .before .if3 in
+    let is-mark4 = c .before .before .before .before .before .before .before .is-mark4 in
+    let if4 = c .before .before .before .before .before .before .if4 in
+    let is-mark5 = c .before .before .before .before .is-mark5 in
+    let if5 = c .before .before .before .if5 in
+    rw (sym (is-mark .ensures) ∙ if1 .left, sym (is-mark2 .ensures) ∙ if2 .left, sym (is-mark3 .ensures) ∙ if3 .left, sym (is-mark4 .ensures) ∙ if4 .left, sym (is-mark5 .ensures) ∙ if5 .left, sym (c .before .is-mark6 .ensures) ∙ c .if6 .taken)
+
+unmarked-requires : tie.Need-unmarked-requires
+unmarked-requires c κs = search needs
+
+returns-7 : tie.Need-returns-7
+unfolding markAt
+returns-7 c =
+    let is-mark = c .before .before .before .before .before .before .before .before .before .before .before .before .before .before .before .before .before .is-mark in
+    let if1 = c .before .before .before .before .before .before .before .before .before .before .before .before .before .before .before .before .if1 in
+    let is-mark2 = c .before .before .before .before .before .before .before .before .before .before .before .before .before .before .is-mark2 in
+    let if2 = c .before .before .before .before .before .before .before .before .before .before .before .before .before .if2 in
+    let is-mark3 = c .before .before .before .before .before .before .before .before .before .before .before .is-mark3 in
+    let if3 = c .before .before .before .before .before .before .before .before .before .before .if3 in
+    let is-mark4 = c .before .before .before .before .before .before .before .before .is-mark4 in
+    let if4 = c .before .before .before .before .before .before .before .if4 in
+    let is-mark5 = c .before .before .before .before .before .is-mark5 in
+    let if5 = c .before .before .before .before .if5 in
+    let is-mark6 = c .before .before .is-mark6 in
+    rw (sym (is-mark .ensures) ∙ if1 .left, sym (is-mark2 .ensures) ∙ if2 .left, sym (is-mark3 .ensures) ∙ if3 .left, sym (is-mark4 .ensures) ∙ if4 .left, sym (is-mark5 .ensures) ∙ if5 .left, sym (is-mark6 .ensures) ∙ c .before .if6 .left) (c .unmarked .ensures)
 
 pub mark-at-spec : {M : Type 1} → statement M
 mark-at-spec =
@@ -95,5 +115,7 @@ mark-at-spec =
     returns-4
     is-mark-requires-5
     returns-5
+    is-mark-requires-6
+    returns-6
     unmarked-requires
-    returns-6)
+    returns-7)

@@ -8,9 +8,10 @@ use Rattle.masks.specs.Limits.{maxArity}
 use Rattle.book.specs.Book.{Call}
 use Rattle.book.specs.Encode.{run, encSubgoal}
 use Rattle.book.specs.Held.{clauseAt}
+use Rattle.book.proofs.Laws.Bound.{subgoal-size}
 use Rattle.book.proofs.Laws.Held.{clauseAt-few}
 use Rattle.writing.proofs.Laws.Chunks.{Measuring, measuring-start, measuring-next, measuring-end}
-use Rattle.writing.proofs.Laws.Runs.{subgoalsTo, subgoalAt, subgoals-chunks}
+use Rattle.writing.proofs.Laws.Runs.{subgoalsTo, callAt, subgoalAt, subgoals-chunks}
 use Rattle.writing.proofs.length.body_length.Statement.{statement}
 use Rattle.writing.proofs.length.body_length.Tie as tie
 
@@ -52,6 +53,8 @@ loop-again : tie.Need-loop-again Inv-loop μ-loop
 loop-again c =
     let e = c .arguments .ensures .0 in
     let f = ap (λ (x : Call). length (x .args)) (c .before .subgoal-at .ensures) in
+    let s = c .before .before .before .before .before .args in
+    let g = subgoal-size (callAt (s .rules .now) (s .k) (c .before .before .before .loop .j)) in
     measuring-next (c .before .before .before .loop .inv) (omega arith) (omega arith) (omega arith)
 
 returns : tie.Need-returns Inv-loop μ-loop

@@ -6,7 +6,7 @@ use lib.ListN.{length}
 use borrow.Author.Needs.{needs}
 use Rattle.masks.specs.Limits.{maxArity}
 use Rattle.book.specs.Limits.{maxClauses, maxSubgoals}
-use Rattle.book.specs.Book.{Call}
+use Rattle.book.specs.Book.{Head}
 use Rattle.book.specs.Held.{clauseAt}
 use Rattle.writing.proofs.Laws.Chunks.{Measuring, measuring-start, measuring-next, measuring-end}
 use Rattle.writing.proofs.Laws.Runs.{clausesTo, clauseBytesAt, clauses-chunks, clause-length}
@@ -52,7 +52,7 @@ loop-less c = omega arith
 loop-again : tie.Need-loop-again Inv-loop μ-loop
 loop-again c =
     let l = clause-length (clauseAt (c .before .before .before .before .before .before .args .rules .now) (c .before .before .before .before .loop .k)) in
-    let e = ap (λ (x : Call). length (x .args)) (c .before .before .head-at .ensures) in
+    let e = ap (λ (x : Head). length (x .args)) (c .before .before .head-at .ensures) in
     let f = c .before .arguments .ensures .0 in
     let g = c .body-length .ensures .0 in
     measuring-next (c .before .before .before .before .loop .inv) (omega arith) (omega arith) (omega arith)
