@@ -2,6 +2,7 @@
 use book::clause::argument;
 use book::clause::arguments;
 use book::clause::head_at;
+use book::clause::negated;
 use book::clause::predicate;
 use book::clause::subgoal_at;
 use book::clause::subgoals_at;
@@ -22,7 +23,7 @@ ghost use Rattle.masks.specs.Lists.{all};
 ghost use Rattle.masks.specs.Set.{bitAt};
 ghost use Rattle.masks.specs.Patterns.{EachLane, Agrees};
 ghost use Rattle.book.specs.Limits.{maxPredicates, maxClauses};
-ghost use Rattle.book.specs.Held.{callIn, clauseAt};
+ghost use Rattle.book.specs.Held.{headIn, callIn, clauseAt};
 ghost use Rattle.book.specs.Table.{tableIn};
 ghost use Rattle.book.specs.Sets.{callable};
 ghost use Rattle.ordering.specs.Adorn.{isBound, patternOf, headBound, ready};
@@ -37,7 +38,7 @@ pub struct Pass {
 }
 
 // The head patterns under which clause k is good, bit a for pattern a: its subgoals have a good order, and every argument of its head is bound when they
-// have run. A variable of a subgoal is bound by then, so that asks for those in none.
+// have run. A variable that a subgoal binds is bound by then, so that asks for the others.
 pub fn good_lanes<'a>(
     rules: &'a [u64; RULES_SIZE],
     k: usize,
@@ -115,7 +116,7 @@ fn one_pass<'a>(
 
 // What is bound at the start: lane a is for head pattern a.
 fn head_lanes(head: u64) -> [u64; VARIABLES]
-    ensures { λ r. ⌜ EachLane (λ a. lane a r ≡ headBound (callIn head .args) a) ⌝ }
+    ensures { λ r. ⌜ EachLane (λ a. lane a r ≡ headBound (headIn head .args) a) ⌝ }
 {
     let n = arguments(head);
     let mut vars = [0u64; VARIABLES];
@@ -131,14 +132,18 @@ fn head_lanes(head: u64) -> [u64; VARIABLES]
     vars
 }
 
-// The lanes in which the call can be made.
+// The lanes in which the call can be made: its pattern fits and, where it is negated, every argument is bound.
 fn ready_lanes(s: u64, table: &[u64; MAX_PREDICATES], vars: &[u64; VARIABLES]) -> u64
     requires { ⌜ callIn s .pred < maxPredicates ⌝ }
     ensures { λ r. ⌜ EachLane (λ a. bitAt r a ≡ ready (tableIn (now (table .entry)) maxPredicates) (lane a (now (vars .entry))) (callIn s)) ⌝ }
 {
     let words = pattern_lanes(s, vars);
     let p = predicate(s) as usize;
-    fit_lanes(table[p], &words)
+    let fits = fit_lanes(table[p], &words);
+    if negated(s) {
+        return fits & filled_lanes(s, vars);
+    }
+    fits
 }
 
 // Word i: the lanes whose pattern has bit i.
@@ -169,24 +174,27 @@ fn arg_lanes(v: u8, vars: &[u64; VARIABLES]) -> u64
     0
 }
 
-// The lanes in which every argument of a head is bound.
-fn filled_lanes(head: u64, vars: &[u64; VARIABLES]) -> u64
-    ensures { λ r. ⌜ EachLane (λ a. bitAt r a ≡ all (isBound (lane a (now (vars .entry)))) (callIn head .args)) ⌝ }
+// The lanes in which every argument of a head or a call is bound.
+fn filled_lanes(call: u64, vars: &[u64; VARIABLES]) -> u64
+    ensures { λ r. ⌜ EachLane (λ a. bitAt r a ≡ all (isBound (lane a (now (vars .entry)))) (headIn call .args)) ⌝ }
 {
-    let n = arguments(head);
+    let n = arguments(call);
     let mut filled = ALL;
     let mut i: usize = 0;
     while i < n {
-        filled = filled & arg_lanes(argument(head, i), vars);
+        filled = filled & arg_lanes(argument(call, i), vars);
         i += 1;
     }
     filled
 }
 
-// The variables of the subgoal are bound in the lanes of r.
+// The variables of the subgoal are bound in the lanes of r; a negated one binds nothing.
 fn bind_lanes(s: u64, r: u64, vars: &mut [u64; VARIABLES])
     ensures { λ _. ⌜ Binds (callIn s) r (now (vars .entry)) (now (vars .exit)) ⌝ }
 {
+    if negated(s) {
+        return;
+    }
     let n = arguments(s);
     let mut i: usize = 0;
     while i < n {

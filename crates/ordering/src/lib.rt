@@ -23,7 +23,7 @@ ghost use Rattle.masks.specs.Set.{bitAt};
 ghost use Rattle.book.specs.Limits.{maxPredicates, maxClauses, maxSubgoals};
 ghost use Rattle.book.specs.Format.{allows};
 ghost use Rattle.book.specs.declared.range.Range.the-variants.{Argument};
-ghost use Rattle.book.specs.Held.{byteOf, callIn, clauseAt};
+ghost use Rattle.book.specs.Held.{byteOf, headIn, callIn, clauseAt};
 ghost use Rattle.book.specs.Table.{tableIn, Full};
 ghost use Rattle.book.specs.Sets.{callable};
 ghost use Rattle.ordering.specs.Adorn.{bit, patternOf, bindVar, headBound, after};
@@ -164,7 +164,7 @@ pub fn order_length(o: Order) -> usize
 
 // What is bound under a head pattern: "variables at bound head positions start as bound". Bit i of the pattern is that of position i.
 pub fn head_bound(head: u64, pattern: u8) -> u16
-    ensures { λ r. ⌜ boundOf r ≡ headBound (callIn head .args) pattern ⌝ }
+    ensures { λ r. ⌜ boundOf r ≡ headBound (headIn head .args) pattern ⌝ }
 {
     let n = arguments(head);
     let mut b: u16 = 0;

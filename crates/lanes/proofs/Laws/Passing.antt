@@ -15,7 +15,7 @@ use Rattle.masks.specs.Lists.{all}
 use Rattle.masks.specs.Set.{bitAt}
 use Rattle.masks.specs.Patterns.{EachLane}
 use Rattle.book.specs.Limits.{maxPredicates, maxSubgoals}
-use Rattle.book.specs.Book.{Call, noCall, Clause}
+use Rattle.book.specs.Book.{Head, Call, noCall, Clause}
 use Rattle.book.specs.Table.{Table}
 use Rattle.book.specs.Sets.{callable}
 use Rattle.ordering.specs.Orders.{count}
@@ -226,7 +226,7 @@ module _ (T : Table) (body : List Call) (start : List ℕ) where
 
 -- ---- a clause: its body from what its head binds, and its head when the body has run
 
-pub clause-good : (T : Table) (c : Clause) (head : Call) (start vars : List ℕ) (good filled : ℕ) → head ≡ c .head
+pub clause-good : (T : Table) (c : Clause) (head : Head) (start vars : List ℕ) (good filled : ℕ) → head ≡ c .head
     → EachLane (λ a. lane a start ≡ headBound (head .args) a) → EachLane (λ a. bitAt good a ≡ isSome (firstGood T (c .body) (lane a start)))
     → EachLane (λ a. bitAt good a ≡ true → RanIn a (c .body) start vars) → EachLane (λ a. bitAt filled a ≡ all (isBound (lane a vars)) (head .args))
     → EachLane (λ a. bitAt (bitAnd good filled) a ≡ goodClause T c a)
@@ -237,14 +237,14 @@ clause-good T c head start vars good filled e f g ran· h a l =
     (λ t.
     ap₂ (λ (x y : Bool). x && y) found
     (h a l
-    ∙ ap₂ (λ (b : Bound) (u : Call). all (isBound b) (u .args)) (ran· a l t ∙ ap (λ (b : Bound). ran (c .body) b (count 0 (length (c .body)))) from) e
+    ∙ ap₂ (λ (b : Bound) (u : Head). all (isBound b) (u .args)) (ran· a l t ∙ ap (λ (b : Bound). ran (c .body) b (count 0 (length (c .body)))) from) e
     ∙ sym (brought-ran c (headBound (c .head .args) a) (count 0 (length (c .body))) (head-length (c .head .args) a) (standing (length (c .body))))))
     (λ t.
     ap (λ (x : Bool). x && bitAt filled a) t
     ∙ sym (ap (λ (x : Bool). x && brought c (headBound (c .head .args) a)) (sym found ∙ t)))
   where
     from : lane a start ≡ headBound (c .head .args) a
-    from = f a l ∙ ap (λ (u : Call). headBound (u .args) a) e
+    from = f a l ∙ ap (λ (u : Head). headBound (u .args) a) e
 
     found : bitAt good a ≡ isSome (firstGood T (c .body) (headBound (c .head .args) a))
     found = g a l ∙ ap (λ (b : Bound). isSome (firstGood T (c .body) b)) from

@@ -1,7 +1,7 @@
 -- The loops over the arguments of a call: what the first of them come to in each lane. One invariant for each loop, with a law for its start, its next
 -- turn and its end. Assumes nothing.
 use mathlib.Core.Path.{_≡_, refl, sym, ap, ap₂, _∙_, subst}
-use mathlib.Core.Bool.{Bool, true, false, cond, _&&_}
+use mathlib.Core.Bool.{Bool, true, false, cond, _&&_, and-true}
 use mathlib.Core.List.{List, [], _∷_}
 use Prim.Native.Nat.{ℕ, zero, suc, _+_, _/_, _%_, _≤_, _<_}
 use native.Mathlib.Numerals.{add-one}
@@ -13,18 +13,22 @@ use lib.Seq.{take-all, getD-set-same, getD-set-other}
 use borrow.Author.Tests.{eqb-true, eqb-false, eq-eqb, ne-eqb, lt-ltb, le-ltb, leb-true, leb-false}
 use Rattle.masks.specs.Limits.{maxArity}
 use Rattle.masks.specs.Lists.{all}
+use Rattle.masks.specs.Constraint.{admits}
 use Rattle.masks.specs.Set.{bitAt}
 use Rattle.masks.specs.Patterns.{EachLane, Agrees}
+use Rattle.book.specs.Limits.{maxPredicates}
 use Rattle.book.specs.Book.{Call}
-use Rattle.ordering.specs.Adorn.{variables, literal, Bound, nothing, isBound, patternOf, bindVar, bindAll, bindHead, headBound, after}
+use Rattle.book.specs.Table.{entryIn, tableIn}
+use Rattle.ordering.specs.Adorn.{variables, literal, Bound, nothing, isBound, patternOf, bindVar, bindAll, bindHead, headBound, ready, after}
 use Rattle.lanes.specs.Lanes.{lane, Binds}
 use Rattle.masks.proofs.Laws.Logic.{byBool}
 use Rattle.masks.proofs.Laws.Lists.{all-suc}
 use Rattle.masks.proofs.Laws.Set.{bitAt-zero}
 use Rattle.masks.proofs.Laws.Members.{bitAt-and}
 use Rattle.masks.proofs.Laws.Patterns.{ones, bitAt-ones, column, bitAt-column}
-use Rattle.ordering.proofs.Laws.Adorn.{after-args}
+use Rattle.ordering.proofs.Laws.Adorn.{after-positive, after-negated}
 use Rattle.ordering.proofs.Laws.Steps.{var-set, var-skip}
+use Rattle.ordering.proofs.Laws.Held.{ready-held, known-positive, known-negated}
 use Rattle.lanes.proofs.Laws.Words.{lane-at, lane-or, lane-zeros, pattern-at, pattern-past}
 
 -- ---- an argument
@@ -110,26 +114,30 @@ bind-suc [] i h b = absurd (omega arith)
 bind-suc (u ∷ l) zero h b = refl
 bind-suc (u ∷ l) (suc i) h b = bind-suc l i (omega arith) (bindVar b u)
 
+unmoved : (c : Bool) {b d : Bound} → b ≡ d → b ≡ cond c d b
+unmoved true e = e
+unmoved false e = refl
+
+-- a negated one binds nothing
+pub binding-none : (s : Call) (r : ℕ) (before : List ℕ) → s .negated ≡ true → Binds s r before before
+binding-none s r before e = record { lanes = λ a h. unmoved (bitAt r a) (sym (after-negated (lane a before) s e)) }
+
 module _ (pred : ℕ) (args : List ℕ) where
-  -- the call with its first i arguments
+  -- a subgoal that is not negated, with its first i arguments
   abbrev pub upTo : ℕ → Call
-  upTo i = record { pred = pred; args = take i args }
+  upTo i = record { negated = false; pred = pred; args = take i args }
 
   after-none : (b : Bound) → after b (upTo 0) ≡ b
   unfolding bindAll
-  after-none b = after-args b (upTo 0)
+  after-none b = after-positive b (upTo 0) refl
 
   after-suc : (i : ℕ) → i < length args → (b : Bound) → after b (upTo (suc i)) ≡ bindVar (after b (upTo i)) (getD args i 0)
   after-suc i h b =
-      after-args b (upTo (suc i)) ∙ bind-suc args i h b ∙ ap (λ (c : Bound). bindVar c (getD args i 0)) (sym (after-args b (upTo i)))
+      after-positive b (upTo (suc i)) refl ∙ bind-suc args i h b ∙ ap (λ (c : Bound). bindVar c (getD args i 0)) (sym (after-positive b (upTo i) refl))
 
   module _ (r : ℕ) (before : List ℕ) where
     pub binding-start : Binds (upTo 0) r before before
-    binding-start = record { lanes = λ a h. go (bitAt r a) (lane a before) (sym (after-none (lane a before))) }
-      where
-        go : (c : Bool) (b : Bound) {d : Bound} → b ≡ d → b ≡ cond c d b
-        go true b e = e
-        go false b e = refl
+    binding-start = record { lanes = λ a h. unmoved (bitAt r a) (sym (after-none (lane a before))) }
 
     pub binding-next : (i : ℕ) {now then : List ℕ} → i < length args → BindsOne (getD args i 0) r now then → Binds (upTo i) r before now
         → Binds (upTo (i + 1)) r before then
@@ -147,8 +155,10 @@ module _ (pred : ℕ) (args : List ℕ) where
         inside true b d v = refl
         inside false b d v = refl
 
-    pub binding-end : (i : ℕ) {now : List ℕ} → i ≡ length args → Binds (upTo i) r before now → Binds (record { pred = pred; args = args }) r before now
-    binding-end i {now} e g = subst (λ (l : List ℕ). Binds (record { pred = pred; args = l }) r before now) (take-all i args (omega arith)) g
+    pub binding-end : (i : ℕ) {n : Bool} {now : List ℕ} → n ≡ false → i ≡ length args → Binds (upTo i) r before now
+        → Binds (record { negated = n; pred = pred; args = args }) r before now
+    binding-end i {now = now} k e g =
+        rw k (subst (λ (l : List ℕ). Binds (record { negated = false; pred = pred; args = l }) r before now) (take-all i args (omega arith)) g)
 
 -- ---- the variables of a head: those of the first i positions are bound in the lanes that have its bit
 
@@ -183,7 +193,7 @@ module _ (args : List ℕ) where
   pub headed-end : {i : ℕ} {vars : List ℕ} → i ≡ length args → Headed args i vars → EachLane (λ a. lane a vars ≡ headBound args a)
   headed-end {i} e g a h = g .lanes a h ∙ ap (λ (l : List ℕ). headBound l a) (take-all i args (omega arith))
 
--- ---- the arguments of a head: the word has the lanes in which the first i are bound
+-- ---- the arguments of a head or a call: the word has the lanes in which the first i are bound
 
 pub record Filling (vars args : List ℕ) (i word : ℕ) : Type 0 where
   pub lanes : EachLane (λ a. bitAt word a ≡ all (isBound (lane a vars)) (take i args))
@@ -202,3 +212,24 @@ module _ (vars args : List ℕ) where
 
   pub filling-end : (i : ℕ) {word : ℕ} → i ≡ length args → Filling vars args i word → EachLane (λ a. bitAt word a ≡ all (isBound (lane a vars)) args)
   filling-end i e g a h = g .lanes a h ∙ ap (all (isBound (lane a vars))) (take-all i args (omega arith))
+
+-- ---- the lanes in which a call is ready: those in which its pattern fits, and of a negated one those in which every argument is bound
+
+module _ (table vars : List ℕ) (s : Call) (low : s .pred < maxPredicates) where
+  -- in lane a the pattern fits
+  abbrev fitsIn : ℕ → Bool
+  fitsIn a = admits (entryIn table (s .pred)) (patternOf (lane a vars) (s .args))
+
+  abbrev readyIn : ℕ → Bool
+  readyIn a = ready (tableIn table maxPredicates) (lane a vars) s
+
+  pub lanes-positive : (fits : ℕ) → s .negated ≡ false → EachLane (λ a. bitAt fits a ≡ fitsIn a) → EachLane (λ a. bitAt fits a ≡ readyIn a)
+  lanes-positive fits e f a h =
+      let b = lane a vars in
+      f a h ∙ sym (ready-held table maxPredicates b s low ∙ ap (λ (k : Bool). fitsIn a && k) (known-positive b s e) ∙ and-true (fitsIn a))
+
+  pub lanes-negated : (fits filled : ℕ) → s .negated ≡ true → EachLane (λ a. bitAt fits a ≡ fitsIn a) → EachLane (λ a. bitAt filled a ≡ all (isBound (lane a vars)) (s .args))
+      → EachLane (λ a. bitAt (bitAnd fits filled) a ≡ readyIn a)
+  lanes-negated fits filled e f g a h =
+      let b = lane a vars in
+      bitAt-and fits filled a ∙ ap₂ (λ (x y : Bool). x && y) (f a h) (g a h ∙ sym (known-negated b s e)) ∙ sym (ready-held table maxPredicates b s low)

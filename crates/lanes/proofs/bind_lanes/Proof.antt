@@ -1,12 +1,12 @@
--- `lanes::bind_lanes` meets its contract. The loop's invariant: the contract for the first i arguments. Assumes nothing.
-use mathlib.Core.Path.{_≡_, ap, _∙_}
+-- `lanes::bind_lanes` meets its contract. A negated subgoal binds nothing. The loop's invariant: the contract for the first i arguments. Assumes nothing.
+use mathlib.Core.Path.{sym, _∙_}
 use mathlib.Core.Logic.{⊎-elim}
 use Prim.Native.Nat.{_-_, _≤_}
 use native.Mathlib.Omega.{arith}
 use borrow.Author.Needs.{needs}
 use Rattle.book.specs.Held.{callIn}
 use Rattle.lanes.specs.Lanes.{Binds}
-use Rattle.lanes.proofs.Laws.Steps.{BindsOne, one-var, one-other, upTo, binding-start, binding-next, binding-end}
+use Rattle.lanes.proofs.Laws.Steps.{BindsOne, one-var, one-other, upTo, binding-none, binding-start, binding-next, binding-end}
 use Rattle.lanes.proofs.bind_lanes.Statement.{statement}
 use Rattle.lanes.proofs.bind_lanes.Tie as tie
 
@@ -16,12 +16,20 @@ Inv-loop s r vars₀ n i₀ vars i = (i ≤ n) × Binds (upTo (callIn s .pred) (
 abbrev μ-loop : tie.MeasureT-loop
 μ-loop s r vars₀ n i₀ vars i = n - i
 
+negated-requires : tie.Need-negated-requires Inv-loop μ-loop
+negated-requires c κs = search needs
+
+returns : tie.Need-returns Inv-loop μ-loop
+returns c =
+    let s = c .before .before .args in
+    binding-none (callIn (s .s)) (s .r) (s .vars .now) (sym (c .before .negated .ensures) ∙ c .if1 .taken)
+
 arguments-requires : tie.Need-arguments-requires Inv-loop μ-loop
 arguments-requires c κs = search needs
 
 loop-holds : tie.Need-loop-holds Inv-loop μ-loop
 loop-holds c =
-    let args = c .before .args in
+    let args = c .before .before .before .args in
     (omega arith, binding-start (callIn (args .s) .pred) (callIn (args .s) .args) (args .r) (args .vars .now))
 
 argument-requires : tie.Need-argument-requires Inv-loop μ-loop
@@ -45,22 +53,23 @@ element-write-vars c = omega arith
 loop-again : tie.Need-loop-again Inv-loop μ-loop
 loop-again c =
     let l = c .before .before .before .loop in
-    let args = c .before .before .before .before .before .args in
+    let args = c .before .before .before .before .before .before .before .args in
     let n = c .before .before .before .before .arguments .ensures in
     let v = c .before .argument in
     let next = binding-next (callIn (args .s) .pred) (callIn (args .s) .args) (args .r) (args .vars .now) (l .i) (omega arith) in (
       omega arith,
       ⊎-elim
           (λ u. next (rw (← v .ensures) (one-var (v .result) (args .r) (l .vars) (omega arith) (u .2))) (l .inv .1))
-          (λ u. next (rw (← v .ensures) (one-other (v .result) (args .r) (l .vars) (omega arith) (u .1))) (l .inv .1)) (c .if1 .came),
+          (λ u. next (rw (← v .ensures) (one-other (v .result) (args .r) (l .vars) (omega arith) (u .1))) (l .inv .1)) (c .if2 .came),
     )
 
-returns : tie.Need-returns Inv-loop μ-loop
-returns c =
+returns-2 : tie.Need-returns-2 Inv-loop μ-loop
+returns-2 c =
     let l = c .before .loop in
-    let args = c .before .before .before .args in
+    let k = c .before .before .before in
+    let args = k .before .before .args in
     let n = c .before .before .arguments .ensures .0 in
-    binding-end (callIn (args .s) .pred) (callIn (args .s) .args) (args .r) (args .vars .now) (l .i) (omega arith) (l .inv .1)
+    binding-end (callIn (args .s) .pred) (callIn (args .s) .args) (args .r) (args .vars .now) (l .i) (sym (k .before .negated .ensures) ∙ k .if1 .left) (omega arith) (l .inv .1)
 
 pub bind-lanes-spec : {M : Type 1} → statement M
 bind-lanes-spec =
@@ -68,6 +77,8 @@ bind-lanes-spec =
     (tie.spec
     Inv-loop
     μ-loop
+    negated-requires
+    returns
     arguments-requires
     loop-holds
     argument-requires
@@ -79,4 +90,4 @@ bind-lanes-spec =
     (λ c. search needs)
     (λ c. search needs)
     loop-again
-    returns)
+    returns-2)

@@ -2,22 +2,22 @@
 use Prim.Native.Nat.{_-_, _≤_}
 use native.Mathlib.Omega.{arith}
 use borrow.Author.Needs.{needs}
-use Rattle.book.specs.Held.{callIn}
+use Rattle.book.specs.Held.{headIn}
 use Rattle.lanes.proofs.Laws.Steps.{Filling, filling-start, filling-next, filling-end}
 use Rattle.lanes.proofs.filled_lanes.Statement.{statement}
 use Rattle.lanes.proofs.filled_lanes.Tie as tie
 
 abbrev Inv-loop : tie.InvT-loop
-Inv-loop head vars n filled₀ i₀ filled i = (i ≤ n) × Filling vars (callIn head .args) i filled
+Inv-loop call vars n filled₀ i₀ filled i = (i ≤ n) × Filling vars (headIn call .args) i filled
 
 abbrev μ-loop : tie.MeasureT-loop
-μ-loop head vars n filled₀ i₀ filled i = n - i
+μ-loop call vars n filled₀ i₀ filled i = n - i
 
 arguments-requires : tie.Need-arguments-requires Inv-loop μ-loop
 arguments-requires c κs = search needs
 
 loop-holds : tie.Need-loop-holds Inv-loop μ-loop
-loop-holds c = (omega arith, filling-start (c .before .args .vars .now) (callIn (c .before .args .head) .args))
+loop-holds c = (omega arith, filling-start (c .before .args .vars .now) (headIn (c .before .args .call) .args))
 
 argument-requires : tie.Need-argument-requires Inv-loop μ-loop
 argument-requires c κs = let n = c .before .before .arguments .ensures .0 in omega arith
@@ -35,7 +35,7 @@ loop-again c =
     let n = c .before .before .before .before .arguments .ensures .0 in
     let v = c .before .argument in (
       omega arith,
-      filling-next (args .vars .now) (callIn (args .head) .args) (l .i) (c .arg-lanes .result) (omega arith) (rw (← v .ensures) (c .arg-lanes .ensures)) (l .inv .1),
+      filling-next (args .vars .now) (headIn (args .call) .args) (l .i) (c .arg-lanes .result) (omega arith) (rw (← v .ensures) (c .arg-lanes .ensures)) (l .inv .1),
     )
 
 returns : tie.Need-returns Inv-loop μ-loop
@@ -43,7 +43,7 @@ returns c =
     let l = c .before .loop in
     let args = c .before .before .before .args in
     let n = c .before .before .arguments .ensures .0 in
-    filling-end (args .vars .now) (callIn (args .head) .args) (l .i) (omega arith) (l .inv .1)
+    filling-end (args .vars .now) (headIn (args .call) .args) (l .i) (omega arith) (l .inv .1)
 
 pub filled-lanes-spec : {M : Type 1} → statement M
 filled-lanes-spec =

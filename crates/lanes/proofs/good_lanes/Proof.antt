@@ -2,7 +2,7 @@
 -- nothing.
 use borrow.Author.Needs.{needs}
 use Rattle.book.specs.Limits.{maxPredicates}
-use Rattle.book.specs.Held.{callIn, clauseAt}
+use Rattle.book.specs.Held.{headIn, clauseAt}
 use Rattle.book.specs.Table.{tableIn}
 use Rattle.lanes.proofs.Laws.Passing.{clause-good}
 use Rattle.lanes.proofs.good_lanes.Statement.{statement}
@@ -27,7 +27,7 @@ returns c =
     let vars = c .before .before .before .before .head-lanes in
     let good = c .before .before .body-lanes in
     let filled = c .filled-lanes in
-    clause-good (tableIn (args .table .now) maxPredicates) (clauseAt (args .rules .now) (args .k)) (callIn (head .result)) (vars .result) _ (good .result) (filled .result)
+    clause-good (tableIn (args .table .now) maxPredicates) (clauseAt (args .rules .now) (args .k)) (headIn (head .result)) (vars .result) _ (good .result) (filled .result)
     (head .ensures) (vars .ensures) (good .ensures .0) (good .ensures .1) (filled .ensures)
 
 pub good-lanes-spec : {M : Type 1} → statement M

@@ -5,14 +5,14 @@ use Prim.Native.Nat.{_-_, _≤_}
 use native.Mathlib.Omega.{arith}
 use lib.ListN.{length, length-set}
 use borrow.Author.Needs.{needs}
-use Rattle.book.specs.Held.{callIn}
+use Rattle.book.specs.Held.{headIn}
 use Rattle.masks.proofs.Laws.Patterns.{column}
 use Rattle.lanes.proofs.Laws.Steps.{one-var, one-other, Headed, headed-start, headed-next, headed-end}
 use Rattle.lanes.proofs.head_lanes.Statement.{statement}
 use Rattle.lanes.proofs.head_lanes.Tie as tie
 
 abbrev Inv-loop : tie.InvT-loop
-Inv-loop head n vars₀ i₀ vars i = (i ≤ n) × Headed (callIn head .args) i vars
+Inv-loop head n vars₀ i₀ vars i = (i ≤ n) × Headed (headIn head .args) i vars
 
 abbrev μ-loop : tie.MeasureT-loop
 μ-loop head n vars₀ i₀ vars i = n - i
@@ -21,7 +21,7 @@ arguments-requires : tie.Need-arguments-requires Inv-loop μ-loop
 arguments-requires c κs = search needs
 
 loop-holds : tie.Need-loop-holds Inv-loop μ-loop
-loop-holds c = (omega arith, headed-start (callIn (c .before .args .head) .args))
+loop-holds c = (omega arith, headed-start (headIn (c .before .args .head) .args))
 
 argument-requires : tie.Need-argument-requires Inv-loop μ-loop
 argument-requires c κs = let n = c .before .before .arguments .ensures .0 in omega arith
@@ -53,7 +53,7 @@ add-i c = omega arith
 loop-again : tie.Need-loop-again Inv-loop μ-loop
 loop-again c =
     let l = c .before .before .before .loop in
-    let args = callIn (c .before .before .before .before .before .args .head) .args in
+    let args = headIn (c .before .before .before .before .before .args .head) .args in
     let n = c .before .before .before .before .arguments .ensures in
     let v = c .before .argument in (
       omega arith,
@@ -69,7 +69,7 @@ returns : tie.Need-returns Inv-loop μ-loop
 returns c =
     let l = c .before .loop in
     let n = c .before .before .arguments .ensures .0 in
-    headed-end (callIn (c .before .before .before .args .head) .args) (omega arith) (l .inv .1)
+    headed-end (headIn (c .before .before .before .args .head) .args) (omega arith) (l .inv .1)
 
 pub head-lanes-spec : {M : Type 1} → statement M
 head-lanes-spec =

@@ -4,7 +4,7 @@ use mathlib.Core.Logic.{⊎-elim}
 use Prim.Native.Nat.{_-_}
 use native.Mathlib.Omega.{arith}
 use borrow.Author.Needs.{needs}
-use Rattle.book.specs.Held.{callIn}
+use Rattle.book.specs.Held.{headIn}
 use Rattle.ordering.specs.Held.{boundOf}
 use Rattle.ordering.proofs.Laws.Steps.{Heading, heading-start, heading-bound, heading-free, heading-end}
 use Rattle.ordering.proofs.Laws.Bound.{boundOf-zero}
@@ -12,7 +12,7 @@ use Rattle.ordering.proofs.head_bound.Statement.{statement}
 use Rattle.ordering.proofs.head_bound.Tie as tie
 
 abbrev Inv-loop : tie.InvT-loop
-Inv-loop head pattern n b₀ rest₀ i₀ b rest i = Heading rest₀ (callIn head .args) i rest (boundOf b)
+Inv-loop head pattern n b₀ rest₀ i₀ b rest i = Heading rest₀ (headIn head .args) i rest (boundOf b)
 
 abbrev μ-loop : tie.MeasureT-loop
 μ-loop head pattern n b₀ rest₀ i₀ b rest i = n - i
@@ -21,7 +21,7 @@ arguments-requires : tie.Need-arguments-requires Inv-loop μ-loop
 arguments-requires c κs = search needs
 
 loop-holds : tie.Need-loop-holds Inv-loop μ-loop
-loop-holds c = rw boundOf-zero (heading-start (c .before .args .pattern) (callIn (c .before .args .head) .args))
+loop-holds c = rw boundOf-zero (heading-start (c .before .args .pattern) (headIn (c .before .args .head) .args))
 
 argument-requires : tie.Need-argument-requires Inv-loop μ-loop
 argument-requires c κs = let n = c .before .before .before .arguments .ensures .0 in omega arith
