@@ -8,7 +8,7 @@ use Rattle.masks.specs.Constraint.{admits}
 use Rattle.book.specs.Book.{Clause, noClause, Book}
 use Rattle.ordering.specs.Adorn.{nothing, headBound}
 use Rattle.ordering.specs.Orders.{Rearranges}
-use Rattle.ordering.specs.Good.{brought}
+use Rattle.ordering.specs.Good.{knownFrom, brought}
 use Rattle.ordering.specs.Asks.{Asked, asks, called}
 use Rattle.tables.specs.Table.{declared}
 
@@ -46,12 +46,16 @@ pub data Reaches (B : Book) (χ : Choice) : ℕ → ℕ → Type 0 where
 
 -- ---- "A choice makes the book well-moded (definition 3.14) when every reached pattern of an outside predicate fits its constraint."; W6: "has every reached
 -- pattern fit its declaration, for defined predicates as well"; W3: "a well-moded choice needs this of every reached clause", that each head variable in
--- none of its subgoals is bound by the pattern reached
+-- none of its subgoals is bound by the pattern reached; W9: "a well-moded choice needs the first of every `NG` in the query and in every reached clause under a
+-- reached pattern", that every variable in it is bound already
 
 pub record WellModed (B : Book) (χ : Choice) : Type 0 where
   pub fits : (p a : ℕ) → Reaches B χ p a → admits (declared (B .modes) p) a ≡ true
   pub brings : (k a : ℕ) → k < length (B .clauses) → Reaches B χ (clause B k .head .pred) a
       → brought (clause B k) (headBound (clause B k .head .args) a) ≡ true
+  pub knowsQuery : knownFrom (B .query) nothing (χ .forQuery) ≡ true
+  pub knows : (k a : ℕ) → k < length (B .clauses) → Reaches B χ (clause B k .head .pred) a
+      → knownFrom (clause B k .body) (headBound (clause B k .head .args) a) (χ .forClause k a) ≡ true
 
 -- some choice does
 abbrev pub Orderable : Book → Type 0

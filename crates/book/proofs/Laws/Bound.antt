@@ -14,12 +14,12 @@ use Rattle.masks.specs.Lists.{all}
 use Rattle.masks.proofs.Laws.Logic.{and-left, and-right}
 use Rattle.book.specs.Limits.{longest, shortest, maxPredicates, maxClauses, maxSubgoals}
 use Rattle.book.specs.Book.{Call, Mode, Clause, Book}
-use Rattle.book.specs.Format.{spelling, allows, argumentIn, Judged, fault, book, judge}
+use Rattle.book.specs.Format.{spelling, allows, Judged, fault, book, judge}
 use Rattle.book.specs.Encode.{run, encPredicate, encMode, encSubgoal, encClause, encode, callFits, modeFits, clauseFits, WellFormed}
 use Rattle.book.specs.declared.fault.Fault.{Fault}
 use Rattle.book.specs.declared.mark.Mark.the-variants.{Sg, Ng}
-use Rattle.book.specs.declared.range.Range.the-variants.{AtMost, NoWildcard}
-use Rattle.book.proofs.Laws.Trip.{fields-size, mode-few, clause-head, clause-few, clause-goals, rising, judge-inv}
+use Rattle.book.specs.declared.range.Range.the-variants.{AtMost}
+use Rattle.book.proofs.Laws.Trip.{head-size, call-size, mode-few, clause-head, clause-few, clause-goals, rising, judge-inv}
 
 -- ---- the length of records
 
@@ -52,13 +52,13 @@ module _ (ar : List ℕ) (arity : (i : ℕ) → getD ar i 0 ≤ maxArity) where
   subgoal-length : (c : Call) → callFits ar c ≡ true → length (encSubgoal c) ≤ 9
   subgoal-length c t =
       let n = subgoal-size c in
-      let a = fields-size (argumentIn (c .negated)) ar (c .pred) (c .args) t in
+      let a = call-size ar c t in
       let b = arity (c .pred) in
       omega arith
 
   clause-length : (c : Clause) → clauseFits ar c ≡ true → length (encClause c) ≤ 81
   clause-length c t =
-      let a = fields-size NoWildcard ar (c .head .pred) (c .head .args) (clause-head ar c t) in
+      let a = head-size ar (c .head) (clause-head ar c t) in
       let b = arity (c .head .pred) in
       let d = run-length (callFits ar) encSubgoal 9 subgoal-length (c .body) (clause-goals ar c t) in
       let e = clause-few ar c t in

@@ -22,7 +22,7 @@ use Rattle.book.specs.declared.range.Range.the-variants.{Argument}
 use Rattle.masks.proofs.Laws.Logic.{byBool, same, and-intro, and-left, and-right, or-left, or-right, or-case}
 use Rattle.masks.proofs.Laws.Lists.{all-at, all-mono}
 use Rattle.masks.proofs.Laws.Set.{bitAt-zero, eqb-comm, bitAt-more}
-use Rattle.book.proofs.Laws.Trip.{fields-known, fields-range}
+use Rattle.book.proofs.Laws.Trip.{fields-range, call-known}
 
 -- ---- one member more, in a word and in a word of an array
 
@@ -123,7 +123,7 @@ fit-callable ar few =
     all-mono (callFits ar) (λ c. ltb (c .pred) maxPredicates && all (allows Argument) (c .args))
     (λ c t.
     let r = argumentIn (c .negated) in
-    let l = ltb-true (c .pred) (length ar) (fields-known r ar (c .pred) (c .args) t) in
+    let l = ltb-true (c .pred) (length ar) (call-known ar c t) in
     and-intro (lt-ltb (c .pred) maxPredicates (omega arith)) (all-mono (allows r) (allows Argument) (λ x. wider (c .negated) x) (c .args) (fields-range r ar (c .pred) (c .args) t)))
   where
     -- what an NG may have, an SG may
@@ -139,4 +139,4 @@ callsBelow n body = all (λ c. ltb (c .pred) n) body
 pub fit-below : (ar : List ℕ) (body : List Call) → all (callFits ar) body ≡ true → callsBelow (length ar) body ≡ true
 unfolding callsBelow allows
 fit-below ar =
-    all-mono (callFits ar) (λ s. ltb (s .pred) (length ar)) (λ s t. fields-known (argumentIn (s .negated)) ar (s .pred) (s .args) t)
+    all-mono (callFits ar) (λ s. ltb (s .pred) (length ar)) (call-known ar)

@@ -45,10 +45,10 @@ module _ (r : Range) (ar : List ℕ) (p : ℕ) (args : List ℕ) (t : fieldsFit 
   abbrev rest· : Bool
   rest· = eqb (length args) (getD ar p 0) && all (allows r) args
 
-  pub fields-known : allows (Below (length ar)) p ≡ true
+  fields-known : allows (Below (length ar)) p ≡ true
   fields-known = and-left (allows (Below (length ar)) p) rest· t
 
-  pub fields-size : length args ≡ getD ar p 0
+  fields-size : length args ≡ getD ar p 0
   fields-size = eqb-true (length args) (getD ar p 0) (and-left (eqb (length args) (getD ar p 0)) (all (allows r) args) (and-right (allows (Below (length ar)) p) rest· t))
 
   pub fields-range : all (allows r) args ≡ true
@@ -69,6 +69,21 @@ fields-inv r ar s h t e =
       b .0 ∙ ap (λ (l : List ℕ). w .0 ∷ l) (n .1),
       and-intro (b .1) (and-intro (eq-eqb _ _ (n .0)) (n .2)),
     )
+
+-- of each by itself
+module _ (ar : List ℕ) (h : Head) (t : headFits ar h ≡ true) where
+  pub head-known : allows (Below (length ar)) (h .pred) ≡ true
+  head-known = fields-known NoWildcard ar (h .pred) (h .args) t
+
+  pub head-size : length (h .args) ≡ getD ar (h .pred) 0
+  head-size = fields-size NoWildcard ar (h .pred) (h .args) t
+
+module _ (ar : List ℕ) (c : Call) (t : callFits ar c ≡ true) where
+  pub call-known : allows (Below (length ar)) (c .pred) ≡ true
+  call-known = fields-known (argumentIn (c .negated)) ar (c .pred) (c .args) t
+
+  pub call-size : length (c .args) ≡ getD ar (c .pred) 0
+  call-size = fields-size (argumentIn (c .negated)) ar (c .pred) (c .args) t
 
 -- ---- a predicate
 

@@ -14,7 +14,7 @@ use Rattle.book.specs.Encode.{WellFormed}
 use Rattle.book.specs.Table.{Table, entry}
 use Rattle.ordering.specs.Adorn.{Bound, nothing, headBound}
 use Rattle.ordering.specs.Orders.{Rearranges}
-use Rattle.ordering.specs.Good.{readyAt, afterAt, goodFrom, firstGood, isSome, brought}
+use Rattle.ordering.specs.Good.{readyAt, afterAt, goodFrom, knownFrom, firstGood, isSome, brought}
 use Rattle.tables.specs.Table.{start, defined, good, step, table, rounds, final}
 use Rattle.choices.specs.Choice.{clause, Choice, IsChoice, queryCalls, clauseCalls, Reaches, by-query, by-clause, WellModed}
 use Rattle.choices.specs.Plan.{orStanding, firstChoice, chosen}
@@ -22,7 +22,7 @@ use Rattle.masks.proofs.Laws.Logic.{byBool, clash}
 use Rattle.ordering.proofs.Laws.Orders.{standing}
 use Rattle.ordering.proofs.Laws.Greedy.{good-first}
 use Rattle.ordering.proofs.Laws.Good.{first-is-least, good-clause-parts, order-good-clause}
-use Rattle.ordering.proofs.Laws.Asks.{asks-fit, fit-asks, ready-asks}
+use Rattle.ordering.proofs.Laws.Asks.{asks-fit, fit-asks, ready-asks, asks-known}
 use Rattle.tables.proofs.Laws.Own.{good-at, at-good, defined-at}
 use Rattle.tables.proofs.Laws.Round.{good-gets, step-admits, step-outside}
 use Rattle.tables.proofs.Laws.Rounds.{start-declared, final-declared, final-closed}
@@ -87,10 +87,26 @@ module _ (B : Book) (w : WellFormed B) where
         → brought (clause B k) (headBound (clause B k .head .args) a) ≡ true
     reached-brought k a l r = final-clause k a l (reached-final r) .1
 
+    -- and W9's
+    reached-known : (k a : ℕ) → k < length (B .clauses) → Reaches B (chosen B) (clause B k .head .pred) a
+        → knownFrom (clause B k .body) (headBound (clause B k .head .args) a) (chosen B .forClause k a) ≡ true
+    unfolding firstChoice chosen
+    reached-known k a l r =
+        let c : Clause = clause B k in
+        asks-known (final B) (c .body) (headBound (c .head .args) a) (chosen B .forClause k a)
+        (first-fits (final B) (c .body) (headBound (c .head .args) a) (reached-good k a l r))
+
     -- SOUND: "A choice makes the book well-moded (definition 3.14) when every reached pattern of an outside predicate fits its constraint.", and of a defined
-    -- one its declaration, with W3's rule; the one chosen does
+    -- one its declaration, with W3's rule and W9's; the one chosen does
     pub sound : WellModed B (chosen B)
-    sound = record { fits = λ p a r. final-declared B w p a (reached-final r); brings = reached-brought }
+    unfolding firstChoice chosen
+    sound =
+        record {
+          fits = λ p a r. final-declared B w p a (reached-final r);
+          brings = reached-brought;
+          knowsQuery = asks-known (final B) (B .query) nothing (chosen B .forQuery) (first-fits (final B) (B .query) nothing found);
+          knows = reached-known;
+        }
 
   -- ---- any choice that makes the book well-moded
 
@@ -109,7 +125,7 @@ module _ (B : Book) (w : WellFormed B) where
         let here : Reaches B χ (c .head .pred) a = subst (λ (x : ℕ). Reaches B χ x a) (sym e) r in
         order-good-clause T c a (χ .forClause k a) (ok .clause· k a l)
         (fit-asks T (c .body) (headBound (c .head .args) a) (χ .forClause k a)
-        (ready-asks T (c .body) (headBound (c .head .args) a) (χ .forClause k a) (λ q b t. h q b (by-clause k l here t))))
+        (ready-asks T (c .body) (headBound (c .head .args) a) (χ .forClause k a) (λ q b t. h q b (by-clause k l here t)) (moded .knows k a l here)))
         (moded .brings k a l here))
 
     -- so what a well-moded choice reaches is admitted by every table
@@ -131,7 +147,7 @@ module _ (B : Book) (w : WellFormed B) where
     complete =
         good-first (readyAt (final B) (B .query)) (afterAt (B .query)) nothing (length (B .query)) (χ .forQuery) (ok .query·)
         (fit-asks (final B) (B .query) nothing (χ .forQuery)
-        (ready-asks (final B) (B .query) nothing (χ .forQuery) (λ q b t. reached-table (rounds B) q b (by-query t))))
+        (ready-asks (final B) (B .query) nothing (χ .forQuery) (λ q b t. reached-table (rounds B) q b (by-query t)) (moded .knowsQuery)))
 
 -- ---- reply 7
 

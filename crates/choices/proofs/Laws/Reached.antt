@@ -13,7 +13,6 @@ use Rattle.masks.specs.Limits.{allPatterns}
 use Rattle.masks.specs.Lists.{all, values, joined}
 use Rattle.book.specs.Book.{Call, Book}
 use Rattle.book.specs.Encode.{callFits, WellFormed}
-use Rattle.book.specs.declared.range.Range.the-variants.{Argument}
 use Rattle.ordering.specs.Adorn.{Bound, nothing, headBound}
 use Rattle.ordering.specs.Orders.{Rearranges}
 use Rattle.ordering.specs.Good.{at}
@@ -75,7 +74,7 @@ module _ (M : Marks) where
 
 -- ---- the calls of an order are of predicates of the book, under patterns of so many positions
 
-pub asks-inside : (ar : List ℕ) (body : List Call) → all (callFits Argument ar) body ≡ true → (b : Bound) (σ : List ℕ) → Rearranges (length body) σ
+pub asks-inside : (ar : List ℕ) (body : List Call) → all (callFits ar) body ≡ true → (b : Bound) (σ : List ℕ) → Rearranges (length body) σ
     → (q a : ℕ) → called q a (asks body b σ) ≡ true → (q < length ar) × (a < 2 ^ getD ar q 0)
 asks-inside ar body t b σ r =
     asks-each (λ q a. (q < length ar) × (a < 2 ^ getD ar q 0)) body b σ

@@ -7,7 +7,7 @@ use native.Mathlib.Omega.{arith}
 use borrow.Author.Needs.{needs}
 use borrow.Author.Tests.{not-true, not-false}
 use Rattle.masks.specs.Set.{bitAt}
-use Rattle.book.specs.Book.{Call}
+use Rattle.book.specs.Book.{Head}
 use Rattle.book.specs.Held.{clauseAt}
 use Rattle.closing.proofs.Laws.Keeping.{Keeping, keeping-start, keeping-low, keeping-drop, keeping-move, keeping-end}
 use Rattle.closing.proofs.keep_clauses.Statement.{statement}
@@ -33,7 +33,7 @@ predicate-requires c κs = search needs
 
 -- in a turn: p is the predicate of head k
 is : (c : tie.After-predicate Inv-loop μ-loop) → c .predicate .result ≡ clauseAt (c .before .before .before .before .loop .rules) (c .before .before .before .before .loop .k) .head .pred
-is c = c .predicate .ensures ∙ ap (λ (h : Call). h .pred) (c .before .head-at .ensures)
+is c = c .predicate .ensures ∙ ap (λ (h : Head). h .pred) (c .before .head-at .ensures)
 
 has-member-requires : tie.Need-has-member-requires Inv-loop μ-loop
 has-member-requires c κs = keeping-low (c .before .before .before .before .loop .inv) (omega arith) (is c) (c .before .before .before .before .before .pre .1)

@@ -7,8 +7,8 @@ use lib.Bits.{bitOr}
 use lib.Dec.{eqb}
 use lib.ListN.{length, getD, set}
 use Rattle.book.specs.Limits.{maxPredicates}
-use Rattle.book.specs.Book.{Call}
-use Rattle.book.specs.Held.{callIn, clauseAt}
+use Rattle.book.specs.Book.{Head}
+use Rattle.book.specs.Held.{headIn, clauseAt}
 use Rattle.book.specs.Table.{tableIn}
 use Rattle.ordering.specs.Adorn.{Bound, headBound}
 use Rattle.ordering.specs.Asks.{Asked, called}
@@ -47,8 +47,8 @@ marked-one words p a h = record {
 }
 
 -- the calls of a clause, by its head as it was read and what that binds
-pub found-clause : (rules table : List ℕ) (k a head : ℕ) {b : Bound} {o : Order} → callIn head ≡ clauseAt rules k .head → b ≡ headBound (callIn head .args) a
+pub found-clause : (rules table : List ℕ) (k a head : ℕ) {b : Bound} {o : Order} → headIn head ≡ clauseAt rules k .head → b ≡ headBound (headIn head .args) a
     → Found (tableIn table maxPredicates) (clauseAt rules k .body) b o
     → Found (tableIn table maxPredicates) (clauseAt rules k .body) (headBound (clauseAt rules k .head .args) a) o
 found-clause rules table k a head {o = o} e f =
-    subst (λ (c : Bound). Found (tableIn table maxPredicates) (clauseAt rules k .body) c o) (f ∙ ap (λ (c : Call). headBound (c .args) a) e)
+    subst (λ (c : Bound). Found (tableIn table maxPredicates) (clauseAt rules k .body) c o) (f ∙ ap (λ (c : Head). headBound (c .args) a) e)

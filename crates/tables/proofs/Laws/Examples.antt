@@ -1,6 +1,7 @@
 -- Small books, their rounds and constraints as rows of one table, and an image, computed from the definitions; the crates above go on with them. Document
 -- 01's examples K1 to K12, over bytes, are in the crate `demands`. Assumes nothing.
 use mathlib.Core.Path.{_≡_, refl}
+use mathlib.Core.Bool.{true, false}
 use mathlib.Core.List.{List, [], _∷_}
 use Prim.Native.Nat.{ℕ}
 use Rattle.masks.specs.Constraint.{drops, least, written, minimise}
@@ -18,13 +19,13 @@ compute = tt
 -- ---- books
 
 abbrev call : ℕ → List ℕ → Call
-call p args = record { pred = p; args = args }
+call p args = record { negated = false; pred = p; args = args }
 
 abbrev needs : ℕ → List ℕ → Mode
 needs p masks = record { pred = p; masks = masks }
 
 abbrev clause : Call → List Call → Clause
-clause head body = record { head = head; body = body }
+clause head body = record { head = record { pred = head .pred; args = head .args }; body = body }
 
 abbrev rules : List ℕ → List Mode → List Clause → List Call → Book
 rules arities modes clauses query = record { arities = arities; modes = modes; clauses = clauses; query = query }

@@ -19,8 +19,8 @@ use Rattle.book.specs.Format.{allows}
 use Rattle.book.specs.Limits.{maxPredicates}
 use Rattle.book.specs.Sets.{callable}
 use Rattle.book.specs.Encode.{callFits, modeFits, clauseFits, WellFormed}
-use Rattle.book.specs.declared.range.Range.the-variants.{Argument, NoWildcard}
-use Rattle.book.proofs.Laws.Trip.{call-known, call-size, mode-range, clause-head, clause-goals}
+use Rattle.book.proofs.Laws.Trip as trip
+use Rattle.book.proofs.Laws.Trip.{head-size, call-known, call-size, mode-range, clause-head, clause-goals}
 use Rattle.book.proofs.Laws.Bound.{arities-at}
 use Rattle.book.proofs.Laws.Sets.{callsBelow, fit-below, fit-callable}
 use Rattle.ordering.specs.Good.{at}
@@ -34,7 +34,7 @@ body-known ar c t = fit-below ar (c .body) (clause-goals ar c t)
 
 head-known : (ar : List ℕ) (c : Clause) → clauseFits ar c ≡ true → c .head .pred < length ar
 unfolding allows
-head-known ar c t = ltb-true (c .head .pred) (length ar) (call-known NoWildcard ar (c .head) (clause-head ar c t))
+head-known ar c t = ltb-true (c .head .pred) (length ar) (trip.head-known ar (c .head) (clause-head ar c t))
 
 defined-fits : (ar : List ℕ) (cs : List Clause) → all (clauseFits ar) cs ≡ true → (p : ℕ) → defined cs p ≡ true → p < length ar
 unfolding defined
@@ -57,23 +57,23 @@ own-arity ar (c ∷ cs) t p =
     go true e r =
         and-intro
         (eq-eqb (length (c .head .args)) (getD ar p 0)
-        (call-size NoWildcard ar (c .head) (clause-head ar c (and-left (clauseFits ar c) (all (clauseFits ar) cs) t))
+        (head-size ar (c .head) (clause-head ar c (and-left (clauseFits ar c) (all (clauseFits ar) cs) t))
         ∙ ap (λ (q : ℕ). getD ar q 0) (eqb-true (c .head .pred) p e))) r
     go false e r = r
 
 -- ---- a body or query
 
-module _ (ar : List ℕ) (body : List Call) (t : all (callFits Argument ar) body ≡ true) (p : ℕ) (h : p < length body) where
-  goal-fits : callFits Argument ar (at body p) ≡ true
+module _ (ar : List ℕ) (body : List Call) (t : all (callFits ar) body ≡ true) (p : ℕ) (h : p < length body) where
+  goal-fits : callFits ar (at body p) ≡ true
   unfolding at
-  goal-fits = all-at (callFits Argument ar) noCall body p h t
+  goal-fits = all-at (callFits ar) noCall body p h t
 
   pub goal-known : at body p .pred < length ar
   unfolding allows
-  goal-known = ltb-true (at body p .pred) (length ar) (call-known Argument ar (at body p) goal-fits)
+  goal-known = ltb-true (at body p .pred) (length ar) (call-known ar (at body p) goal-fits)
 
   pub goal-size : length (at body p .args) ≡ getD ar (at body p .pred) 0
-  goal-size = call-size Argument ar (at body p) goal-fits
+  goal-size = call-size ar (at body p) goal-fits
 
 -- ---- a book
 
@@ -116,7 +116,7 @@ module _ (B : Book) (w : WellFormed B) where
     pub clause-own : getD (B .clauses) i d .head .pred < length (B .arities)
     clause-own = head-known (B .arities) (getD (B .clauses) i d) clause-fits
 
-    pub goals-fit : all (callFits Argument (B .arities)) (getD (B .clauses) i d .body) ≡ true
+    pub goals-fit : all (callFits (B .arities)) (getD (B .clauses) i d .body) ≡ true
     goals-fit = clause-goals (B .arities) (getD (B .clauses) i d) clause-fits
 
     pub clause-calls : callsBelow (length (B .arities)) (getD (B .clauses) i d .body) ≡ true

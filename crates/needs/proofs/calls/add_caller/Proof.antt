@@ -5,7 +5,7 @@ use native.Mathlib.Omega.{arith}
 use lib.ListN.{getD}
 use borrow.Author.Needs.{needs}
 use Rattle.book.specs.Limits.{maxPredicates}
-use Rattle.book.specs.Book.{Call, noCall}
+use Rattle.book.specs.Book.{Head, Call, noCall}
 use Rattle.book.specs.Held.{clauseAt}
 use Rattle.book.proofs.Laws.Sets.{callable-low}
 use Rattle.needs.proofs.Laws.Calls.{Adding, adding-start, adding-next, adding-end}
@@ -44,7 +44,7 @@ cast-q c = search needs
 -- in a turn: p is the head's predicate and q that of subgoal j
 module _ (c : tie.After-predicate2 Inv-loop μ-loop) where
   head : c .before .before .before .before .before .predicate .result ≡ clauseAt (c .before .before .before .before .before .before .before .before .args .rules .now) (c .before .before .before .before .before .before .before .before .args .k) .head .pred
-  head = c .before .before .before .before .before .predicate .ensures ∙ ap (λ (h : Call). h .pred) (c .before .before .before .before .before .before .head-at .ensures)
+  head = c .before .before .before .before .before .predicate .ensures ∙ ap (λ (h : Head). h .pred) (c .before .before .before .before .before .before .head-at .ensures)
 
   is : c .predicate2 .result ≡ getD (clauseAt (c .before .before .before .before .before .before .before .before .args .rules .now) (c .before .before .before .before .before .before .before .before .args .k) .body) (c .before .before .before .loop .j) noCall .pred
   is = c .predicate2 .ensures ∙ ap (λ (h : Call). h .pred) (c .before .subgoal-at .ensures)

@@ -5,7 +5,7 @@ use Prim.Native.Nat.{ℕ, _-_, _<_}
 use native.Mathlib.Omega.{arith}
 use borrow.Author.Needs.{needs}
 use Rattle.book.specs.Limits.{maxPredicates}
-use Rattle.book.specs.Book.{Call}
+use Rattle.book.specs.Book.{Head}
 use Rattle.book.specs.Held.{clauseAt}
 use Rattle.book.proofs.Laws.Sets.{head-low, Owning, owning-start, owning-next, owning-end}
 use Rattle.needs.proofs.Laws.Calls.{Heading, heading-start, heading-next, heading-end}
@@ -40,7 +40,7 @@ cast-q c = search needs
 -- in a turn: p is the predicate of head k
 module _ (c : tie.After-predicate Inv-loop μ-loop) where
   is : c .predicate .result ≡ clauseAt (c .before .before .before .before .before .args .rules .now) (c .before .before .before .loop .k) .head .pred
-  is = c .predicate .ensures ∙ ap (λ (h : Call). h .pred) (c .before .head-at .ensures)
+  is = c .predicate .ensures ∙ ap (λ (h : Head). h .pred) (c .before .head-at .ensures)
 
   low : c .predicate .result < maxPredicates
   low = head-low (c .before .before .before .loop .k) (c .predicate .result) (c .before .before .before .before .before .pre .1) (omega arith) is
