@@ -73,12 +73,32 @@ static unsigned add_call(input *s, const char *mark, unsigned pred, unsigned ari
     return stand;
 }
 
-static unsigned add_body(input *s, unsigned most, const unsigned *arity, unsigned preds, unsigned variables)
+// A negated call. Most take their variables from those given, so that they can be placed, and a literal where there is none of them; wildcards are few, since
+// each is a fault.
+static void add_negated(input *s, unsigned pred, unsigned arity, unsigned variables, unsigned given)
 {
-    unsigned stand = 0;
+    add_mark(s, "NG");
+    add(s, pred);
+    for (unsigned i = 0; i < arity; i++) {
+        unsigned v = pick(variables);
+        if (pick(200) == 0)
+            v = 254;
+        else if (!(given >> v & 1) && pick(16) != 0)
+            v = 255;
+        add(s, v);
+    }
+}
+
+// The variables that its subgoals bind; `negated` of 16 are negated.
+static unsigned add_body(input *s, unsigned most, const unsigned *arity, unsigned preds, unsigned variables, unsigned negated)
+{
+    unsigned stand = 0, all = (1u << variables) - 1;
     for (unsigned n = pick(most + 1); n > 0; n--) {
         unsigned p = pick(preds);
-        stand |= add_call(s, "SG", p, arity[p], variables);
+        if (pick(16) < negated)
+            add_negated(s, p, arity[p], variables, pick(2) == 0 ? stand : pick(all + 1));
+        else
+            stand |= add_call(s, "SG", p, arity[p], variables);
     }
     return stand;
 }
@@ -92,14 +112,14 @@ static void fill_head(input *s, size_t at, unsigned arity, unsigned stand)
 }
 
 // A book. Most are small and keep the limits; `over` lets the counts go one above them, and `clash` lets `MO` records fall. In half of them most clauses
-// leave no cell empty, so that more can be ordered, and in half of them predicates that have `MO` may have clauses, too.
+// leave no cell empty, so that more can be ordered, in half of them predicates that have `MO` may have clauses, too, and half of them have negated subgoals.
 static void make_book(input *s, int over, int clash)
 {
     static const unsigned sizes[] = {1, 2, 3, 4, 6, 10, 20, 64};
     unsigned arity[65], has[65];
     unsigned preds = over && pick(3) == 0 ? 64 + pick(2) : 1 + pick(sizes[pick(8)]);
     unsigned most = 1 + pick(6), variables = 1 + pick(pick(4) == 0 ? 16 : 5);
-    unsigned filled = pick(2), both = pick(2), modes = pick(4), clauses = over && pick(3) == 0 ? 64 + pick(2) : pick(1 + 2 * preds > 64 ? 65 : 1 + 2 * preds);
+    unsigned filled = pick(2), both = pick(2), negated = pick(2) == 0 ? 0 : 1 + pick(8), modes = pick(4), clauses = over && pick(3) == 0 ? 64 + pick(2) : pick(1 + 2 * preds > 64 ? 65 : 1 + 2 * preds);
     s->length = 0;
     for (unsigned p = 0; p < preds; p++) {
         arity[p] = pick(most + 1);
@@ -123,15 +143,15 @@ static void make_book(input *s, int over, int clash)
             continue;
         size_t head = s->length + 3;
         add_call(s, "CL", p, arity[p], variables);
-        unsigned stand = add_body(s, over && pick(20) == 0 ? 9 : pick(2) == 0 ? 3 : 8, arity, preds, variables);
+        unsigned stand = add_body(s, over && pick(20) == 0 ? 9 : pick(2) == 0 ? 3 : 8, arity, preds, variables, negated);
         if (filled && pick(16) != 0)
             fill_head(s, head, arity[p], stand);
     }
     add_mark(s, "QU");
-    add_body(s, over ? 9 : pick(2) == 0 ? 2 : 8, arity, preds, variables);
+    add_body(s, over ? 9 : pick(2) == 0 ? 2 : 8, arity, preds, variables, negated);
 }
 
-static const char *const marks[] = {"PR", "MO", "CL", "SG", "QU", "CN"};
+static const char *const marks[] = {"PR", "MO", "CL", "SG", "NG", "QU", "CN"};
 
 // A change of a few bytes: replaced, dropped, doubled, cut off, added behind, or a mark put in.
 static void damage(input *s)
@@ -159,13 +179,13 @@ static void damage(input *s)
             s->length = at;
             break;
         case 4:
-            add_mark(s, marks[pick(6)]);
+            add_mark(s, marks[pick(7)]);
             for (unsigned n = pick(4); n > 0; n--)
                 add(s, pick(20));
             break;
         default:
             if (at + 2 <= s->length)
-                memcpy(s->bytes + at, marks[pick(6)], 2);
+                memcpy(s->bytes + at, marks[pick(7)], 2);
         }
     }
 }
@@ -176,7 +196,7 @@ static void make_noise(input *s)
     s->length = 0;
     for (unsigned n = pick(40); n > 0; n--) {
         if (pick(2) == 0)
-            add_mark(s, marks[pick(6)]);
+            add_mark(s, marks[pick(7)]);
         else
             add(s, pick(2) == 0 ? pick(256) : pick(8));
     }

@@ -12,7 +12,7 @@ typedef uint64_t u64;
 typedef uint32_t u32;
 typedef shodh_reply reply;
 typedef struct {
-    u8 pred, n;
+    u8 pred, n, negated;
     u8 args[6];
 } sub;
 typedef struct {
@@ -67,6 +67,8 @@ static reply read_book(const u8 *s, size_t len, book *b)
             k = 3;
         else if (c0 == 'S' && c1 == 'G')
             k = 4;
+        else if (c0 == 'N' && c1 == 'G')
+            k = 5;
         else
             return R(2, at);
         size_t p = at + 2;
@@ -160,12 +162,13 @@ static reply read_book(const u8 *s, size_t len, book *b)
             if (p >= len)
                 return R(1, len);
             u8 a = s[p++];
-            if (a > 15 && a < 254)
+            if (a > 15 && a < (k == 4 ? 254 : 255))
                 return R(4, p - 1);
             x->args[i] = a;
         }
         x->pred = pr;
         x->n = b->arity[pr];
+        x->negated = k == 5;
         nsub++;
         if (phase == 3)
             b->nq++;
@@ -207,7 +210,7 @@ static u64 upclose(const masks *c)
     }
     return s;
 }
-// the lanes in which a call can be made
+// the lanes in which a call can be made; a negated one asks for every argument
 static inline u64 lanes_ready(const sub *x, const masks *c, const u64 *var)
 {
     u64 arg[6];
@@ -220,6 +223,9 @@ static inline u64 lanes_ready(const sub *x, const masks *c, const u64 *var)
             w &= arg[__builtin_ctz(m)];
         r |= w;
     }
+    if (x->negated)
+        for (int i = 0; i < x->n; i++)
+            r &= arg[i];
     return r;
 }
 // the head patterns under which a clause has a good order, and no head variable is left unbound by it
@@ -240,7 +246,7 @@ static u64 clause_good(const clause *c, int arity, const masks *t)
             if (r) {
                 ch = 1;
                 placed[j] |= r;
-                for (int i = 0; i < x->n; i++)
+                for (int i = 0; i < x->n && !x->negated; i++)
                     if (x->args[i] < 16)
                         var[x->args[i]] |= r;
             }
@@ -325,12 +331,12 @@ static int order(const sub *body, int n, u32 bound, const u64 *adm, u8 *places, 
             for (int i = 0; i < x->n; i++)
                 if (x->args[i] == 255 || (x->args[i] < 16 && (bound >> x->args[i] & 1)))
                     pat |= 1 << i;
-            if (adm[x->pred] >> pat & 1) {
+            if ((adm[x->pred] >> pat & 1) && (!x->negated || pat + 1 == 1 << x->n)) {
                 ok = 1;
                 places[k] = j;
                 pats[k] = pat;
                 k++;
-                for (int i = 0; i < x->n; i++)
+                for (int i = 0; i < x->n && !x->negated; i++)
                     if (x->args[i] < 16)
                         bound |= 1u << x->args[i];
                 left &= ~(1u << j);

@@ -10,6 +10,7 @@ use Prim.Native.Nat.{ℕ, suc, _+_, _^_, _≤_, _<_}
 use lib.Bits.{bitOr}
 use lib.ListN.{length, getD, take, drop}
 use Rattle.masks.specs.Constraint.{admits, written, minimise, joint as jointOf}
+use Rattle.masks.specs.Lists.{has}
 use Rattle.masks.specs.Outcome.{Outcome, refused, done, Answers}
 use Rattle.masks.specs.Joining.{joining}
 use Rattle.masks.specs.declared.Way.the-variants.{Choice, Joint}
@@ -17,12 +18,12 @@ use Rattle.masks.specs.declared.reply.Reply.{Reply}
 use Rattle.book.specs.Limits.{longest, longestTable, longestPlan, shortest}
 use Rattle.book.specs.Book.{Call, Clause, Book}
 use Rattle.book.specs.Format.{number, Stands, fault, book, judge}
-use Rattle.book.specs.Encode.{PR, MO, CL, SG, QU, run, encode, WellFormed}
+use Rattle.book.specs.Encode.{PR, MO, CL, SG, NG, QU, run, encode, callFits, WellFormed}
 use Rattle.book.specs.Held.{bookIn}
 use Rattle.book.specs.Table.{Table, entry}
 use Rattle.book.specs.declared.fault.Fault.{Fault}
 use Rattle.reading.specs.Judged.{checked}
-use Rattle.ordering.specs.Adorn.{Bound, nothing, headBound}
+use Rattle.ordering.specs.Adorn.{variables, Bound, nothing, isBound, headBound, known}
 use Rattle.ordering.specs.Orders.{In, Rearranges, LexLt, Least, Sorted}
 use Rattle.ordering.specs.Good.{goodFrom, brought, filled}
 use Rattle.tables.specs.Table.{declared, defined, good, table, rounds, final}
@@ -96,7 +97,8 @@ pub record Demand1 : Type 0 where
 -- every call of a predicate with MO, has what it must have; a book is refused as unorderable exactly when no orders give that; the order chosen is the
 -- first of the good ones
 
--- σ is an order of a body, and with b bound at the start it "makes every subgoal's pattern fit the constraint of its predicate" in a table.
+-- σ is an order of a body, and with b bound at the start it "makes every subgoal's pattern fit the constraint of its predicate" in a table, and W9, of a negated
+-- one: "When it is placed, every variable in it must be bound already".
 abbrev pub GoodOrder : Table → List Call → Bound → List ℕ → Type 0
 GoodOrder T body b σ = Rearranges (length body) σ × (goodFrom T body b σ ≡ true)
 
@@ -142,8 +144,8 @@ pub record Demand2 (s : List ℕ) (B : Book) : Type 0 where
   pub planned : (planning s ≡ done 0 (image B)) ↔ Orderable B
   -- "The longest plan is 53,259 bytes."
   pub planRoom : length (image B) ≤ longestPlan
-  -- its orders are a choice that makes the book well-moded: every reached pattern of a predicate, outside or defined, fits what the book declares, and W3's
-  -- rule holds of every reached clause
+  -- its orders are a choice that makes the book well-moded: every reached pattern of a predicate, outside or defined, fits what the book declares, W3's rule
+  -- holds of every reached clause, and W9's of every negated subgoal of the query and of a reached clause, in its turn
   pub choice· : Orderable B → IsChoice B (chosen B)
   pub wellModed : Orderable B → WellModed B (chosen B)
   -- it has a record for exactly the clauses of reached predicates, under the patterns reached
@@ -161,6 +163,10 @@ pub record Demand2 (s : List ℕ) (B : Book) : Type 0 where
       → brought c (headBound (c .head .args) a) ≡ filled c (headBound (c .head .args) a) σ
   pub filled· : Orderable B → (r : Row) → In r (planRows B)
       → filled (clause B (r .clause·)) (headBound (clause B (r .clause·) .head .args) (r .pattern)) (r .places) ≡ true
+
+  -- W9, "Conditions that say "not"": its rule holds of a negated subgoal exactly where "every variable in it" is bound
+  pub negation : (b : Bound) (c : Call) → callFits (B .arities) c ≡ true → c .negated ≡ true
+      → (known b c ≡ true) ↔ ((v : ℕ) → v < variables → has (c .args) v ≡ true → isBound b v ≡ true)
 
 -- ---- Demand 3: any set of predicates replaced by what they need changes no need and no acceptance, and closing in parts gives the same bytes as closing at
 -- once
@@ -202,7 +208,7 @@ pub record Demand3 (s : List ℕ) (B : Book) : Type 0 where
   pub none· : (t : List ℕ) → Closes 0 s t → t ≡ s
   pub one : (set : ℕ) (t u : List ℕ) → Closes set s t → Closes set s u → t ≡ u
 
--- ---- Document 01's examples: "K1 to K12 are proved as one table under one statement.", W3's two, and books for W6. Where there are no numbers of predicates
+-- ---- Document 01's examples: "K1 to K12 are proved as one table under one statement.", W3's two, and books for W6 and W9. Where there are no numbers of predicates
 -- and no query, the predicates without clauses come first, and the query reaches the patterns that are named.
 
 pub data Example : Type 0 where
@@ -330,6 +336,34 @@ examples =
     ++ SG (1 ∷ 0 ∷ []) ++ QU ++ SG (2 ∷ 255 ∷ 255 ∷ []))
     1 (CN (0 ∷ 1 ∷ 1 ∷ []) ++ CN (1 ∷ 1 ∷ 0 ∷ []) ++ CN (2 ∷ 1 ∷ 3 ∷ []))
     (done 0 (QO (1 ∷ 0 ∷ []) ++ CO (0 ∷ 3 ∷ 2 ∷ 0 ∷ 1 ∷ [])))
+    -- W9: "Not reported dark": lit(H) :- not dark(H), head(H) and dark(H) :- report(H): lit runs its second call first, and dark is reached under pattern 1
+    ∷ ofBook (PR (1 ∷ []) ++ PR (1 ∷ []) ++ PR (1 ∷ []) ++ PR (1 ∷ []) ++ CL (2 ∷ 0 ∷ []) ++ SG (1 ∷ 0 ∷ []) ++ CL (3 ∷ 0 ∷ []) ++ NG (2 ∷ 0 ∷ [])
+    ++ SG (0 ∷ 0 ∷ []) ++ QU ++ SG (3 ∷ 0 ∷ []))
+    0 (CN (0 ∷ 1 ∷ 0 ∷ []) ++ CN (1 ∷ 1 ∷ 0 ∷ []) ++ CN (2 ∷ 1 ∷ 0 ∷ []) ++ CN (3 ∷ 1 ∷ 0 ∷ []))
+    (done 0 (QO (1 ∷ 0 ∷ []) ++ CO (0 ∷ 1 ∷ 1 ∷ 0 ∷ []) ++ CO (1 ∷ 0 ∷ 2 ∷ 1 ∷ 0 ∷ [])))
+    -- a negated subgoal without variables can go first: the query not p(255), p(X)
+    ∷ ofBook (PR (1 ∷ []) ++ QU ++ NG (0 ∷ 255 ∷ []) ++ SG (0 ∷ 0 ∷ []))
+    0 (CN (0 ∷ 1 ∷ 0 ∷ []))
+    (done 0 (QO (2 ∷ 0 ∷ 1 ∷ [])))
+    -- a variable that only negated subgoals have: in the query, not p(X), it is 7; and r(X) :- p(X), not p(Y) is ill
+    ∷ ofBook (PR (1 ∷ []) ++ QU ++ NG (0 ∷ 0 ∷ []))
+    0 (CN (0 ∷ 1 ∷ 0 ∷ []))
+    (refused 7 0)
+    ∷ ofBook (PR (1 ∷ []) ++ PR (1 ∷ []) ++ CL (1 ∷ 0 ∷ []) ++ SG (0 ∷ 0 ∷ []) ++ NG (0 ∷ 1 ∷ []) ++ QU ++ SG (0 ∷ 0 ∷ []))
+    1 (CN (0 ∷ 1 ∷ 0 ∷ []) ++ CN (1 ∷ 0 ∷ []))
+    (done 0 (QO (1 ∷ 0 ∷ [])))
+    -- a head variable that only a negated subgoal has: r(X) :- not p(X), masks 1
+    ∷ ofBook (PR (1 ∷ []) ++ PR (1 ∷ []) ++ CL (1 ∷ 0 ∷ []) ++ NG (0 ∷ 0 ∷ []) ++ QU ++ SG (1 ∷ 255 ∷ []))
+    1 (CN (0 ∷ 1 ∷ 0 ∷ []) ++ CN (1 ∷ 1 ∷ 1 ∷ []))
+    (done 0 (QO (1 ∷ 0 ∷ []) ++ CO (0 ∷ 1 ∷ 1 ∷ 0 ∷ [])))
+    -- a negated subgoal of an ill predicate is never ready: the query not m(255)
+    ∷ ofBook (PR (1 ∷ []) ++ MO (0 ∷ 0 ∷ []) ++ QU ++ NG (0 ∷ 255 ∷ []))
+    0 (CN (0 ∷ 0 ∷ []))
+    (refused 7 0)
+    -- recursion through one is not refused: p(X) :- q(X), not p(X)
+    ∷ ofBook (PR (1 ∷ []) ++ PR (1 ∷ []) ++ CL (1 ∷ 0 ∷ []) ++ SG (0 ∷ 0 ∷ []) ++ NG (1 ∷ 0 ∷ []) ++ QU ++ SG (1 ∷ 0 ∷ []))
+    0 (CN (0 ∷ 1 ∷ 0 ∷ []) ++ CN (1 ∷ 1 ∷ 0 ∷ []))
+    (done 0 (QO (1 ∷ 0 ∷ []) ++ CO (0 ∷ 0 ∷ 2 ∷ 0 ∷ 1 ∷ []) ++ CO (0 ∷ 1 ∷ 2 ∷ 0 ∷ 1 ∷ [])))
     ∷ []
 
 -- ---- All of it

@@ -18,7 +18,7 @@ ghost use Prim.Native.Nat.{_+_, _*_, _^_, _≤_, _<_};
 ghost use lib.Dec.{leb};
 ghost use lib.ListN.{length, drop, set};
 ghost use Rattle.masks.specs.Limits.{maxArity};
-ghost use Rattle.book.specs.Format.{allows, byte, bytes, predicate, fields, subgoal, masks, modeFields};
+ghost use Rattle.book.specs.Format.{allows, byte, bytes, predicate, fields, argumentIn, subgoal, masks, modeFields};
 ghost use Rattle.book.specs.Held.{countIn, negatedIn, headIn, callIn};
 ghost use Rattle.records.specs.Found.{Reads, Arities};
 ghost use Rattle.records.specs.Stored.{argumentFrom, arguments, ReadsCall, ReadsBytes, ReadsMasks, ReadsMode};
@@ -84,10 +84,15 @@ pub fn read_subgoal(s: &[u8], ar: &[u8], at: usize) -> FoundCall
     requires { ⌜ (at + 2 ≤ length (now s)) × Arities (now ar) ⌝ }
     ensures { λ r. ⌜ Reads (now (s .entry)) (r .found) (λ _. callIn (r .call)) (subgoal (now (ar .entry)) [] (drop at (now (s .entry)))) ⌝ }
 {
-    if is_mark(s, at, b"NG") {
-        return read_call(s, ar, at + 2, LITERAL, true);
-    }
-    read_call(s, ar, at + 2, WILDCARD, false)
+    let negated = is_mark(s, at, b"NG");
+    read_call(s, ar, at + 2, least_in(negated), negated)
+}
+
+// The least byte that is an argument of a subgoal and no variable.
+fn least_in(negated: bool) -> u8
+    ensures { λ r. ⌜ (argumentFrom r ≡ argumentIn negated) × (254 ≤ r) ⌝ }
+{
+    if negated { LITERAL } else { WILDCARD }
 }
 
 // "n, n masks", each one of so many patterns, stored as the mode of predicate p.

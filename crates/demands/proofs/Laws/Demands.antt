@@ -39,6 +39,7 @@ use Rattle.book.proofs.Laws.Longest.{longest-book, longest-well, longest-length
 use Rattle.book.proofs.Laws.Trip.{judge-encode, judge-inv}
 use Rattle.reading.proofs.Laws.Judged.{check-zero}
 use Rattle.ordering.proofs.Laws.Brought.{brought-ran, head-length}
+use Rattle.ordering.proofs.Laws.Held.{known-variables}
 use Rattle.ordering.proofs.Laws.Good.{good-clause-parts, good-clause-order, order-good-clause}
 use Rattle.tables.proofs.Laws.Own.{good-at, at-good}
 use Rattle.tables.proofs.Laws.Round.{gets-good, good-gets, step-admits, step-outside}
@@ -155,6 +156,7 @@ module _ (s : List ℕ) (B : Book) (valid : judge s ≡ book B) where
         clauseFirst = λ x. plan-first B well (ordered x);
         rule = λ c a σ. brought-ran c (headBound (c .head .args) a) σ (head-length (c .head .args) a);
         filled· = λ x. plan-filled B well (ordered x);
+        negation = known-variables (B .arities);
       }
 
 -- ---- demand 3

@@ -1,4 +1,4 @@
--- Document 01's examples K1 to K12, and those of W3 and W6, computed from the definitions. Assumes nothing.
+-- Document 01's examples K1 to K12, and those of W3, W6 and W9, computed from the definitions. Assumes nothing.
 use mathlib.Core.Path.{refl}
 use Rattle.masks.specs.Constraint.{inRange, joint}
 use Rattle.masks.specs.Joining.{listFault, fault, joining}
@@ -13,4 +13,4 @@ use Rattle.printing.proofs.Laws.Examples.{compute-sheet}
 pub bench : EachHolds examples
 unfolding reading.compute compute-plan compute-sheet inRange joint listFault fault joining onBook image sheet
 bench =
-    ((refl, refl, refl), (refl, ((refl, refl, refl), ((refl, refl, refl), ((refl, refl, refl), ((refl, refl, refl), (refl, (refl, ((refl, refl, refl), ((refl, refl, refl), ((refl, refl, refl), ((refl, refl, refl), ((refl, refl, refl), ((refl, refl, refl), ((refl, refl, refl), ((refl, refl, refl), ((refl, refl, refl), ((refl, refl, refl), ((refl, refl, refl), ((refl, refl, refl), ((refl, refl, refl), tt)))))))))))))))))))))
+    ((refl, refl, refl), (refl, ((refl, refl, refl), ((refl, refl, refl), ((refl, refl, refl), ((refl, refl, refl), (refl, (refl, ((refl, refl, refl), ((refl, refl, refl), ((refl, refl, refl), ((refl, refl, refl), ((refl, refl, refl), ((refl, refl, refl), ((refl, refl, refl), ((refl, refl, refl), ((refl, refl, refl), ((refl, refl, refl), ((refl, refl, refl), ((refl, refl, refl), ((refl, refl, refl), ((refl, refl, refl), ((refl, refl, refl), ((refl, refl, refl), ((refl, refl, refl), ((refl, refl, refl), ((refl, refl, refl), ((refl, refl, refl), tt))))))))))))))))))))))))))))

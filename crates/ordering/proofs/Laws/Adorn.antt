@@ -45,6 +45,28 @@ pub either-binds : map (λ a. isBound (headBound (0 ∷ 0 ∷ []) a) 0) (0 ∷ 1
 unfolding nothing isBound bindVar bindHead headBound
 either-binds = refl
 
+-- W9: "every variable in it must be bound already and its pattern must fit the predicate's constraint": of not p(X), where p asks for nothing and where p is
+-- ill; of not p(255), which "has no variable", and can go first
+abbrev absent : List ℕ → Call
+absent args = record { negated = true; pred = 0; args = args }
+
+pub not-free : map (λ b. ready ((0 ∷ []) ∷ []) b (absent (0 ∷ []))) (nothing ∷ bindVar nothing 0 ∷ []) ≡ false ∷ true ∷ []
+unfolding within admits nothing isBound patternOf bindVar known ready
+not-free = refl
+
+pub not-ill : ready ([] ∷ []) (bindVar nothing 0) (absent (0 ∷ [])) ≡ false
+unfolding within admits nothing isBound patternOf bindVar known ready
+not-ill = refl
+
+pub not-literal : ready ((0 ∷ []) ∷ []) nothing (absent (255 ∷ [])) ≡ true
+unfolding within admits nothing isBound patternOf known ready
+not-literal = refl
+
+-- W9: "It binds nothing"
+pub not-binds : after nothing (absent (0 ∷ [])) ≡ nothing
+unfolding nothing bindVar bindAll after
+not-binds = refl
+
 -- ---- what is bound: b′ has as many variables, and at least the bound ones of b
 
 abbrev pub Le : Bound → Bound → Type 0

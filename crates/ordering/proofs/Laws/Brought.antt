@@ -61,6 +61,26 @@ pub seen-wildcard : below (goodClause ((0 ∷ []) ∷ []) (seen (0 ∷ []) (254 
 unfolding computing
 seen-wildcard = refl
 
+-- W9: "a head variable found only in `NG` counts as absent": p(X) :- not head(X) does not bring X by itself. The clause is good where the caller does; and
+-- p(X) :- head(X), not head(Y) under no pattern, since nothing binds Y
+abbrev unlike : List Call → Clause
+unlike body = record { head = record { pred = 1; args = 0 ∷ [] }; body = body }
+
+abbrev headed : Bool → ℕ → Call
+headed n v = record { negated = n; pred = 0; args = v ∷ [] }
+
+pub only-negated : brought (unlike (headed true 0 ∷ [])) nothing ≡ false
+unfolding computing
+only-negated = refl
+
+pub negated-good : below (goodClause ((0 ∷ []) ∷ []) (unlike (headed true 0 ∷ []))) 2 ≡ 1 ∷ []
+unfolding computing
+negated-good = refl
+
+pub negated-alone : below (goodClause ((0 ∷ []) ∷ []) (unlike (headed false 0 ∷ headed true 1 ∷ []))) 2 ≡ []
+unfolding computing
+negated-alone = refl
+
 -- ---- what is bound when subgoals have run
 
 var-length : (b : Bound) (u : ℕ) → length (bindVar b u) ≡ length b
