@@ -131,7 +131,7 @@ fn read_args(s: &[u8], from: usize, pred: u8, n: u8, least: u8, negated: bool) -
     ensures { λ r. ⌜ ReadsCall (now (s .entry)) r negated (arguments (argumentFrom least) pred n (drop from (now (s .entry)))) ⌝ }
 {
     let count = signed(n, negated);
-    let mut call = count as u64 * 256 + pred as u64;
+    let mut call = count * 256 + pred as u64;
     let mut at = from;
     let mut shift: u32 = 16;
     let mut i: u8 = 0;
@@ -161,11 +161,12 @@ fn read_args(s: &[u8], from: usize, pred: u8, n: u8, least: u8, negated: bool) -
 }
 
 // The byte of a word that holds the number of a call's arguments, and whether it is negated.
-fn signed(n: u8, negated: bool) -> u8
+fn signed(n: u8, negated: bool) -> u64
     requires { ⌜ n ≤ maxArity ⌝ }
-    ensures { λ r. ⌜ (countIn r ≡ n) × (negatedIn r ≡ negated) ⌝ }
+    ensures { λ r. ⌜ (countIn r ≡ n) × (negatedIn r ≡ negated) × (r < 256) ⌝ }
 {
-    if negated { n + NEGATED } else { n }
+    let sign = if negated { NEGATED } else { 0 };
+    n as u64 + sign
 }
 
 // A word that has no bits from a place on, with a byte there.
