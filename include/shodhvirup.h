@@ -2,9 +2,10 @@
  *
  * A rule book is a string of bytes: Datalog clauses over predicates, some of which reach outside and can only be asked when certain of their
  * arguments are known. A book declares by MO what its predicates must be given: those outside and, where a rule writer wants it, those with clauses, too.
- * These functions read a book, work out what each predicate must be given, and put the calls of every clause in an order in which every call has what the
- * MO of its predicate asks for and no cell is left empty. The format of a book and the rules are in docs/01-scope.md, with the changes of docs/changes; what
- * is proved of these functions, in docs/PROMISES.md. The archive is libshodhvirup.a, for x86-64.
+ * A call can be negated, as in "not reported dark". These functions read a book, work out what each predicate must be given, and put the calls of every
+ * clause in an order in which every call has what the MO of its predicate asks for, a negated one all its variables, and no cell is left empty. The
+ * format of a book and the rules are in docs/01-scope.md, with the changes of docs/changes; what is proved of these functions, in docs/PROMISES.md. The
+ * archive is libshodhvirup.a, for x86-64.
  *
  * WHAT HOLDS OF EVERY FUNCTION
  *
@@ -23,12 +24,13 @@
  *   number                value                         given exactly when
  *   0  SHODH_DONE         bytes written                 done (the check writes nothing, so its value is 0)
  *   1  SHODH_PAST_END     the book's length             the book ends within a record
- *   2  SHODH_NO_MARK      offset of the byte at fault   two bytes where a record begins are none of the five marks: the first of them
+ *   2  SHODH_NO_MARK      offset of the byte at fault   two bytes where a record begins are none of the six marks: the first of them
  *   3  SHODH_OUT_OF_TURN  offset of the byte at fault   a mark is out of turn: its first byte; or the book ends without QU: its length
  *   4  SHODH_OUT_OF_RANGE offset of the byte at fault   a byte is out of its range: arity, predicate, n, mask, argument
- *   5  SHODH_TOO_MANY     offset of the byte at fault   a 65th PR, a 65th CL, a 9th SG: the first byte of its mark
+ *   5  SHODH_TOO_MANY     offset of the byte at fault   a 65th PR, a 65th CL, a 9th SG or NG of a body: the first byte of its mark
  *   6  SHODH_CLASH        offset of the byte at fault   MO not rising: its predicate
- *   7  SHODH_UNORDERABLE  0                             plan only: no orders give every call what its MO asks for and leave no cell empty
+ *   7  SHODH_UNORDERABLE  0                             plan only: no orders give every call what its MO asks for, a negated one all its
+ *                                                       variables, and leave no cell empty
  *   8  SHODH_NO_PREDICATE lowest such number            close only: the set names a predicate that the book lacks
  *   9  SHODH_NO_ROOM      bytes needed                  the room is too short
  *
@@ -54,7 +56,7 @@
 extern "C" {
 #endif
 
-#define SHODH_VERSION "4.0.0"
+#define SHODH_VERSION "5.0.0"
 
 /* Rooms that are always enough, in bytes. */
 #define SHODH_TABLE_SIZE 1536
@@ -89,13 +91,13 @@ shodh_reply shodh_check(const uint8_t *book, size_t length);
 /* What each predicate must be given: for each in turn `CN`, predicate, n, n masks. A mask has bit i-1 set where position i must be known; a call
  * needs all of some one mask. n = 0 is a predicate that no call can ask; the one mask 0 asks for nothing. A position must be known because the
  * predicate's own MO asks for it, for the sake of the calls that follow from the call, or because a clause would give it back empty: its variable is in
- * none of the clause's subgoals. A book whose query cannot be ordered has its table like any other.
+ * none of the clause's subgoals, or in negated ones alone. A book whose query cannot be ordered has its table like any other.
  * Room: SHODH_TABLE_SIZE. Replies: 0, with the rounds of the analysis; 1 to 6; 9. */
 shodh_reply shodh_analyse(const uint8_t *book, size_t length, uint8_t *out, size_t room);
 
 /* The orders to run the calls in: `QO`, n, n places, the query's subgoals counted from 0; then for each clause under each pattern that the query
- * leads to `CO`, clause, pattern, n, n places. In these orders every call has what the MO of its predicate asks for, and every argument of a clause's
- * head is known when the clause has run; each is the first of the good ones.
+ * leads to `CO`, clause, pattern, n, n places. In these orders every call has what the MO of its predicate asks for, a negated one all its variables, and
+ * every argument of a clause's head is known when the clause has run; each is the first of the good ones.
  * Room: SHODH_PLAN_SIZE. Replies: 0; 1 to 6; 7, exactly when there are no such orders; 9. */
 shodh_reply shodh_plan(const uint8_t *book, size_t length, uint8_t *out, size_t room);
 

@@ -29,13 +29,13 @@ static const char *wanted(uint32_t number, int at_end)
     case SHODH_PAST_END:
         return "the rest of the record";
     case SHODH_NO_MARK:
-        return "PR, MO, CL, SG or QU";
+        return "PR, MO, CL, SG, NG or QU";
     case SHODH_OUT_OF_TURN:
         return at_end ? "QU, the query" : "a record in its turn: all PR, all MO, the clauses, then one QU";
     case SHODH_OUT_OF_RANGE:
         return "an arity 0 to 6, a predicate below the number of PR, n 0 to 20, a mask below 2^arity, or an argument 0 to 15, 255, in SG 254";
     case SHODH_TOO_MANY:
-        return "another record: there are 64 PR, 64 CL or 8 SG before it";
+        return "another record: there are 64 PR, 64 CL or 8 SG and NG before it";
     case SHODH_CLASH:
         return "a predicate above that of the MO before";
     }
@@ -48,7 +48,7 @@ static void print_refusal(shodh_reply reply, size_t length)
     size_t at = (size_t)reply.value;
 
     if (reply.number == SHODH_UNORDERABLE)
-        printf("no orders give every call what the MO of its predicate asks for and leave no cell empty\n");
+        printf("no orders give every call what the MO of its predicate asks for, a negated one all its variables, and leave no cell empty\n");
     else if (at < length)
         printf("byte %zu is %u (hex %02x); wanted: %s\n", at, book[at], book[at], wanted(reply.number, 0));
     else if (length > SHODH_BOOK_SIZE)

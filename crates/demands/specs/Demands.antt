@@ -163,7 +163,6 @@ pub record Demand2 (s : List ℕ) (B : Book) : Type 0 where
       → brought c (headBound (c .head .args) a) ≡ filled c (headBound (c .head .args) a) σ
   pub filled· : Orderable B → (r : Row) → In r (planRows B)
       → filled (clause B (r .clause·)) (headBound (clause B (r .clause·) .head .args) (r .pattern)) (r .places) ≡ true
-
   -- W9, "Conditions that say "not"": its rule holds of a negated subgoal exactly where "every variable in it" is bound
   pub negation : (b : Bound) (c : Call) → callFits (B .arities) c ≡ true → c .negated ≡ true
       → (known b c ≡ true) ↔ ((v : ℕ) → v < variables → has (c .args) v ≡ true → isBound b v ≡ true)
