@@ -70,7 +70,7 @@ binds s v = not (s .negated) && (ltb v variables && has (s .args) v)
 unfoldable pub known : Bound → Call → Bool
 known b s = not (s .negated) || all (isBound b) (s .args)
 
--- its pattern fits the constraint of its predicate, and W9: "every variable .. and its pattern"
+-- its pattern fits the constraint of its predicate, and W9's rule holds
 unfoldable pub ready : Table → Bound → Call → Bool
 ready T b s = admits (entry T (s .pred)) (patternOf b (s .args)) && known b s
 

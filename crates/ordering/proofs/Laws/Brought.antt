@@ -16,7 +16,7 @@ use Rattle.book.specs.Book.{Call, noCall, Clause}
 use Rattle.ordering.specs.Adorn.{variables, Bound, nothing, literal, isBound, patternOf, bindVar, bindAll, bindHead, headBound, binds, known, ready, after}
 use Rattle.ordering.specs.Orders.{Rearranges, find, without, each, ordersOf, count, orders}
 use Rattle.ordering.specs.Turns as turns
-use Rattle.ordering.specs.Good.{at, afterAt, ran, brought, filled, goodClause}
+use Rattle.ordering.specs.Good.{at, afterAt, knownFrom, ran, brought, filled, goodClause}
 use Rattle.masks.proofs.Laws.Logic.{byBool, or-left, or-right, or-case}
 use Rattle.masks.proofs.Laws.Lists.{all-mono}
 use Rattle.ordering.proofs.Laws.Orders.{standing, right-takes}
@@ -80,6 +80,11 @@ negated-good = refl
 pub negated-alone : below (goodClause ((0 ∷ []) ∷ []) (unlike (headed false 0 ∷ headed true 1 ∷ []))) 2 ≡ []
 unfolding computing
 negated-alone = refl
+
+-- W9: "When it is placed, every variable in it must be bound already": not head(X), head(X) as they stand, and the other way round
+pub known-turn : map (knownFrom (headed true 0 ∷ headed false 0 ∷ []) nothing) ((0 ∷ 1 ∷ []) ∷ (1 ∷ 0 ∷ []) ∷ []) ≡ false ∷ true ∷ []
+unfolding computing
+known-turn = refl
 
 -- ---- what is bound when subgoals have run
 
