@@ -1,7 +1,7 @@
 -- Small books, their rounds and constraints as rows of one table, and an image, computed from the definitions; the crates above go on with them. Document
 -- 01's examples K1 to K12, over bytes, are in the crate `demands`. Assumes nothing.
 use mathlib.Core.Path.{_≡_, refl}
-use mathlib.Core.Bool.{true, false}
+use mathlib.Core.Bool.{false}
 use mathlib.Core.List.{List, [], _∷_}
 use Prim.Native.Nat.{ℕ}
 use Rattle.masks.specs.Constraint.{drops, least, written, minimise}
