@@ -119,7 +119,7 @@ subgoal-inv : (n : Bool) (ar : List ℕ) (acc : List Call) (s : List ℕ) (c : C
     → (s ≡ encSubgoal c ++ r) × SubgoalFits ar acc c
 unfolding subgoal
 subgoal-inv n ar acc s c r t e =
-    let w = then-inv (fields (argumentIn n) ar (drop 2 s)) (λ h u. got (subgoalOf n h) u) (sym (kind n) ∙ e) in
+    let w = then-inv (fields (argumentIn n) ar (drop 2 s)) (λ h u. got (subgoalOf n h) u) (sym kind ∙ e) in
     let b = fields-inv (argumentIn n) ar (drop 2 s) (w .0) (w .1) (w .2) in
     carry (λ (x : Call) (q : List ℕ). (s ≡ encSubgoal x ++ q) × SubgoalFits ar acc x) (w .3) (
       t ∙ ap (λ (l : List ℕ). spelling (cond n Ng Sg) ++ l) (b .0) ∙ spelt n (w .0) (w .1),
@@ -130,8 +130,8 @@ subgoal-inv n ar acc s c r t e =
     led true d = ap (leads (spelling Ng)) d
     led false d = ap (leads (spelling Ng)) d
 
-    kind : (m : Bool) → subgoal ar acc s ≡ andThen (fields (argumentIn n) ar (drop 2 s)) (λ h u. got (subgoalOf n h) u)
-    kind m = ap (λ (k : Bool). andThen (fields (argumentIn k) ar (drop 2 s)) (λ h u. got (subgoalOf k h) u)) (led n t)
+    kind : subgoal ar acc s ≡ andThen (fields (argumentIn n) ar (drop 2 s)) (λ h u. got (subgoalOf n h) u)
+    kind = ap (λ (k : Bool). andThen (fields (argumentIn k) ar (drop 2 s)) (λ h u. got (subgoalOf k h) u)) (led n t)
 
     spelt : (m : Bool) (h : Head) (u : List ℕ) → spelling (cond m Ng Sg) ++ (encHead h ++ u) ≡ encSubgoal (subgoalOf m h) ++ u
     spelt true h u = refl

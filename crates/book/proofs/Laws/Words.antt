@@ -1,19 +1,15 @@
 -- Bytes in a word, the lowest first: a word made of bytes from the last one down has these bytes again. Assumes nothing.
-use mathlib.Core.Path.{_≡_, sym, ap, ap₂, _∙_}
+use mathlib.Core.Path.{_≡_, sym, ap, _∙_}
 use mathlib.Core.Bool.{true}
 use mathlib.Core.List.{List, [], _∷_}
-use Prim.Native.Nat.{ℕ, zero, suc, _+_, _-_, _*_, _/_, _%_, _^_, _≤_, _<_}
+use Prim.Native.Nat.{ℕ, zero, suc, _+_, _*_, _/_, _%_, _^_, _<_}
 use native.Mathlib.Nat.{zero-div, div-one}
 use native.Mathlib.Omega.{arith}
 use lib.Dec.{ltb}
-use lib.ListN.{length, getD, take, drop, length-drop}
-use lib.Seq.{drop-length, drop-cons, ext-getD}
-use lib.Pow.{areBytes, pow-add, pow-mono, shr-shr, high, low}
-use borrow.Author.Tests.{ltb-true, lt-ltb}
-use Rattle.masks.specs.Limits.{maxArity}
-use Rattle.masks.specs.Lists.{values}
-use Rattle.masks.proofs.Laws.Logic.{and-intro, and-left, and-right}
-use Rattle.masks.proofs.Laws.Lists.{length-values, getD-values}
+use lib.ListN.{getD}
+use lib.Pow.{areBytes, shr-shr, high, low}
+use borrow.Author.Tests.{ltb-true}
+use Rattle.masks.proofs.Laws.Logic.{and-left, and-right}
 use Rattle.book.specs.Held.{byteOf}
 
 -- by Horner's rule

@@ -39,7 +39,7 @@ use Rattle.book.proofs.Laws.Longest.{longest-book, longest-well, longest-length
 use Rattle.book.proofs.Laws.Trip.{judge-encode, judge-inv}
 use Rattle.reading.proofs.Laws.Judged.{check-zero}
 use Rattle.ordering.proofs.Laws.Brought.{brought-ran, head-length}
-use Rattle.ordering.proofs.Laws.Held.{known-variables}
+use Rattle.ordering.proofs.Laws.Adorn.{known-variables}
 use Rattle.ordering.proofs.Laws.Good.{good-clause-parts, good-clause-order, order-good-clause}
 use Rattle.tables.proofs.Laws.Own.{good-at, at-good}
 use Rattle.tables.proofs.Laws.Round.{gets-good, good-gets, step-admits, step-outside}

@@ -26,9 +26,9 @@ use Rattle.masks.proofs.Laws.Lists.{all-suc}
 use Rattle.masks.proofs.Laws.Set.{bitAt-zero}
 use Rattle.masks.proofs.Laws.Members.{bitAt-and}
 use Rattle.masks.proofs.Laws.Patterns.{ones, bitAt-ones, column, bitAt-column}
-use Rattle.ordering.proofs.Laws.Adorn.{after-positive, after-negated}
+use Rattle.ordering.proofs.Laws.Adorn.{after-positive, after-negated, known-positive, known-negated}
 use Rattle.ordering.proofs.Laws.Steps.{var-set, var-skip}
-use Rattle.ordering.proofs.Laws.Held.{ready-held, known-positive, known-negated}
+use Rattle.ordering.proofs.Laws.Held.{ready-held}
 use Rattle.lanes.proofs.Laws.Words.{lane-at, lane-or, lane-zeros, pattern-at, pattern-past}
 
 -- ---- an argument

@@ -6,7 +6,7 @@ use native.Mathlib.Omega.{arith}
 use borrow.Author.Needs.{needs}
 use Rattle.book.specs.Held.{callIn}
 use Rattle.lanes.specs.Lanes.{Binds}
-use Rattle.lanes.proofs.Laws.Steps.{BindsOne, one-var, one-other, upTo, binding-none, binding-start, binding-next, binding-end}
+use Rattle.lanes.proofs.Laws.Steps.{one-var, one-other, upTo, binding-none, binding-start, binding-next, binding-end}
 use Rattle.lanes.proofs.bind_lanes.Statement.{statement}
 use Rattle.lanes.proofs.bind_lanes.Tie as tie
 

@@ -1,25 +1,29 @@
 -- Binding only adds: a variable that is bound stays bound, which is bound first or how often does not matter, and where more is bound a pattern has
 -- more bits. So a subgoal that is ready stays ready, since a constraint that admits a pattern admits every greater one; of a negated one all arguments are
 -- bound, and stay so. What a negated subgoal binds is nothing, whichever comes before it. Assumes nothing.
-use mathlib.Core.Path.{_≡_, refl, ap, ap₂, _∙_}
-use mathlib.Core.Bool.{Bool, true, false, not, cond, _&&_, _||_}
-use mathlib.Core.Logic.{⊎-elim}
+use mathlib.Core.Path.{_≡_, refl, sym, ap, _∙_}
+use mathlib.Core.Bool.{Bool, true, false, not, cond, _&&_}
+use mathlib.Core.Logic.{⊎-elim, _↔_}
 use mathlib.Core.List.{List, [], _∷_, map}
 use Prim.Native.Nat.{ℕ, zero, suc, _+_, _*_, _/_, _%_, _≤_, _<_}
 use native.Mathlib.Omega.{arith}
-use lib.Dec.{eqb, ltb}
+use lib.Dec.{eqb, leb, ltb}
 use lib.Bits.{bitAnd}
 use lib.ListN.{getD, set}
 use lib.Seq.{set-set, set-comm}
-use borrow.Author.Tests.{eqb-true, eq-eqb}
+use borrow.Author.Tests.{eqb-true, eq-eqb, leb-true}
 use Rattle.masks.specs.Mask.{within}
 use Rattle.masks.specs.Constraint.{admits}
-use Rattle.masks.specs.Lists.{all}
+use Rattle.masks.specs.Lists.{all, has}
 use Rattle.book.specs.Book.{Call}
+use Rattle.book.specs.Format.{allows, argumentIn}
+use Rattle.book.specs.Encode.{callFits}
 use Rattle.book.specs.Table.{Table}
+use Rattle.book.specs.declared.range.Range.the-variants.{NoWildcard}
 use Rattle.ordering.specs.Adorn.{variables, Bound, nothing, literal, isBound, bit, patternOf, bindVar, bindAll, bindHead, headBound, known, ready, after}
 use Rattle.masks.proofs.Laws.Logic.{clash, and-intro, and-left, and-right, or-left, or-right, or-case}
 use Rattle.masks.proofs.Laws.Lists as lists
+use Rattle.book.proofs.Laws.Trip.{fields-range}
 use Rattle.masks.proofs.Laws.Mask.{within-and, and-within, halved, doubled}
 use Rattle.masks.proofs.Laws.Constraint.{admits-up}
 use Rattle.ordering.proofs.Laws.Orders.{same?}
@@ -312,3 +316,43 @@ after-twice b s = go (s .negated)
     go : (n : Bool) → cond n (cond n b (bindAll b (s .args))) (bindAll (cond n b (bindAll b (s .args))) (s .args)) ≡ cond n b (bindAll b (s .args))
     go true = refl
     go false = all-twice b (s .args)
+
+-- ---- W9's rule
+
+-- by kind
+pub known-positive : (b : Bound) (s : Call) → s .negated ≡ false → known b s ≡ true
+unfolding known
+known-positive b s e = rw e
+
+pub known-negated : (b : Bound) (s : Call) → s .negated ≡ true → known b s ≡ all (isBound b) (s .args)
+unfolding known
+known-negated b s e = rw e
+
+-- by the variables: where every other argument is a literal, all are bound exactly where each variable among them is
+variables-bound : (b : Bound) (l : List ℕ) → all (isBound b) l ≡ true → (v : ℕ) → has l v ≡ true → isBound b v ≡ true
+variables-bound b [] t v h = clash h refl
+variables-bound b (x ∷ l) t v h =
+    or-case (eqb v x) (has l v) h
+    (λ e. ap (isBound b) (eqb-true v x e) ∙ and-left (isBound b x) (all (isBound b) l) t)
+    (λ e. variables-bound b l (and-right (isBound b x) (all (isBound b) l) t) v e)
+
+bound-variables : (b : Bound) (l : List ℕ) → all (allows NoWildcard) l ≡ true → ((v : ℕ) → v < variables → has l v ≡ true → isBound b v ≡ true)
+    → all (isBound b) l ≡ true
+unfolding allows isBound
+bound-variables b [] t f = refl
+bound-variables b (x ∷ l) t f =
+    and-intro (one (and-left (allows NoWildcard x) (all (allows NoWildcard) l) t))
+    (bound-variables b l (and-right (allows NoWildcard x) (all (allows NoWildcard) l) t) (λ v h e. f v h (or-right (eqb v x) e)))
+  where
+    one : allows NoWildcard x ≡ true → isBound b x ≡ true
+    one s =
+        or-case (leb x 15) (eqb x literal) s
+        (λ h. let m = leb-true x 15 h in f x (omega arith) (or-left (eqb x x) (has l x) (eq-eqb x x refl)))
+        (λ h. rw h)
+
+pub known-variables : (ar : List ℕ) (b : Bound) (s : Call) → callFits ar s ≡ true → s .negated ≡ true
+    → (known b s ≡ true) ↔ ((v : ℕ) → v < variables → has (s .args) v ≡ true → isBound b v ≡ true)
+known-variables ar b s t e = (
+  λ k v h. variables-bound b (s .args) (sym (known-negated b s e) ∙ k) v,
+  λ f. known-negated b s e ∙ bound-variables b (s .args) (rw e at (fields-range (argumentIn (s .negated)) ar (s .pred) (s .args) t)) f,
+)

@@ -1,34 +1,28 @@
 -- A table that goes on past the predicates that subgoals call, or that admits the same patterns; and the places of an order. Assumes nothing.
 use mathlib.Core.Path.{_≡_, refl, sym, ap, _∙_, subst}
-use mathlib.Core.Bool.{Bool, true, false, not, cond, _&&_, _||_}
+use mathlib.Core.Bool.{Bool, true, false, not, cond, _&&_}
 use mathlib.Core.List.{List, [], _∷_}
-use mathlib.Core.Logic.{_↔_}
 use mathlib.Core.Option.{none, some}
-use Prim.Native.Nat.{ℕ, zero, suc, _+_, _*_, _^_, _<_, _≤_, min}
-use native.Mathlib.Nat.{pow-suc}
+use Prim.Native.Nat.{ℕ, zero, suc, _+_, _*_, _<_, _≤_, min}
 use native.Mathlib.Omega.{arith}
-use lib.Dec.{eqb, leb, ltb}
+use lib.Dec.{leb, ltb}
 use lib.ListN.{length, getD, take, length-take}
-use borrow.Author.Tests.{eqb-true, eqb-false, eq-eqb, ne-eqb, ltb-true, leb-true, le-leb, not-true, not-false}
+use borrow.Author.Tests.{ltb-true, leb-true, le-leb, not-true, not-false}
 use Rattle.masks.specs.Limits.{maxArity}
-use Rattle.masks.specs.Lists.{any, all, has, values}
+use Rattle.masks.specs.Lists.{any, all, values}
 use Rattle.masks.specs.Constraint.{admits}
 use Rattle.masks.specs.Patterns.{EachLane}
 use Rattle.book.specs.Limits.{maxPredicates, maxSubgoals}
 use Rattle.book.specs.Book.{Call, noCall}
-use Rattle.book.specs.Format.{allows, argumentIn}
-use Rattle.book.specs.Encode.{callFits}
 use Rattle.book.specs.Table.{Table, entry, entryIn, tableIn}
 use Rattle.book.specs.Sets.{callable}
 use Rattle.book.specs.Held.{callIn, clauseSize, clauseAt}
-use Rattle.book.specs.declared.range.Range.the-variants.{NoWildcard}
-use Rattle.ordering.specs.Adorn.{variables, Bound, literal, isBound, bit, patternOf, known, ready, after}
+use Rattle.ordering.specs.Adorn.{Bound, patternOf, known, ready, after}
 use Rattle.ordering.specs.Good.{at, readyAt, afterAt, firstGood}
 use Rattle.ordering.specs.Held.{placesOf, orNone}
 use Rattle.ordering.specs.declared.Order.{Order}
-use Rattle.masks.proofs.Laws.Logic.{byBool, clash, and-intro, and-left, and-right, or-left, or-right, or-case}
+use Rattle.masks.proofs.Laws.Logic.{and-intro, and-left, and-right}
 use Rattle.masks.proofs.Laws.Lists.{all-append, all-at}
-use Rattle.book.proofs.Laws.Trip.{fields-range}
 use Rattle.book.proofs.Laws.Table.{tableIn-at}
 use Rattle.book.proofs.Laws.Sets.{callsBelow, callable-low}
 use Rattle.book.proofs.Laws.Held.{args-count}
@@ -41,65 +35,6 @@ pub ready-held : (table : List ℕ) (n : ℕ) (b : Bound) (s : Call) → s .pred
     → ready (tableIn table n) b s ≡ (admits (entryIn table (s .pred)) (patternOf b (s .args)) && known b s)
 unfolding ready
 ready-held table n b s h = ap (λ (c : List ℕ). admits c (patternOf b (s .args)) && known b s) (tableIn-at table n (s .pred) h)
-
--- the rule by kind
-pub known-positive : (b : Bound) (s : Call) → s .negated ≡ false → known b s ≡ true
-unfolding known
-known-positive b s e = rw e
-
-pub known-negated : (b : Bound) (s : Call) → s .negated ≡ true → known b s ≡ all (isBound b) (s .args)
-unfolding known
-known-negated b s e = rw e
-
--- by the variables: where every other argument is a literal, all are bound exactly where each variable among them is
-variables-bound : (b : Bound) (l : List ℕ) → all (isBound b) l ≡ true → (v : ℕ) → has l v ≡ true → isBound b v ≡ true
-variables-bound b [] t v h = clash h refl
-variables-bound b (x ∷ l) t v h =
-    or-case (eqb v x) (has l v) h
-    (λ e. ap (isBound b) (eqb-true v x e) ∙ and-left (isBound b x) (all (isBound b) l) t)
-    (λ e. variables-bound b l (and-right (isBound b x) (all (isBound b) l) t) v e)
-
-bound-variables : (b : Bound) (l : List ℕ) → all (allows NoWildcard) l ≡ true → ((v : ℕ) → v < variables → has l v ≡ true → isBound b v ≡ true)
-    → all (isBound b) l ≡ true
-unfolding allows isBound
-bound-variables b [] t f = refl
-bound-variables b (x ∷ l) t f =
-    and-intro (one (and-left (allows NoWildcard x) (all (allows NoWildcard) l) t))
-    (bound-variables b l (and-right (allows NoWildcard x) (all (allows NoWildcard) l) t) (λ v h e. f v h (or-right (eqb v x) e)))
-  where
-    one : allows NoWildcard x ≡ true → isBound b x ≡ true
-    one s =
-        or-case (leb x 15) (eqb x literal) s
-        (λ h. let m = leb-true x 15 h in f x (omega arith) (or-left (eqb x x) (has l x) (eq-eqb x x refl)))
-        (λ h. rw h)
-
-pub known-variables : (ar : List ℕ) (b : Bound) (s : Call) → callFits ar s ≡ true → s .negated ≡ true
-    → (known b s ≡ true) ↔ ((v : ℕ) → v < variables → has (s .args) v ≡ true → isBound b v ≡ true)
-known-variables ar b s t e = (
-  λ k v h. variables-bound b (s .args) (sym (known-negated b s e) ∙ k) v,
-  λ f. known-negated b s e ∙ bound-variables b (s .args) (rw e at (fields-range (argumentIn (s .negated)) ar (s .pred) (s .args) t)) f,
-)
-
--- by the pattern: every argument is bound where it is the greatest of so many positions
-known-full : (b : Bound) (l : List ℕ) → eqb (patternOf b l + 1) (2 ^ length l) ≡ all (isBound b) l
-unfolding patternOf
-known-full b [] = refl
-known-full b (v ∷ l) =
-    let r = known-full b l in
-    let h = pattern-small b (length l) l (omega arith) in
-    rw (pow-suc 2 (length l)) (go (isBound b v) r h)
-  where
-    go : (c : Bool) → eqb (patternOf b l + 1) (2 ^ length l) ≡ all (isBound b) l → patternOf b l < 2 ^ length l
-        → eqb (patternOf b l * 2 + bit c + 1) (2 ^ length l * 2) ≡ (c && all (isBound b) l)
-    go true r h =
-        byBool (eqb (patternOf b l + 1) (2 ^ length l))
-        (λ t. let e = eqb-true (patternOf b l + 1) (2 ^ length l) t in eq-eqb (patternOf b l * 2 + bit true + 1) (2 ^ length l * 2) (omega arith) ∙ sym t ∙ r)
-        (λ t. let e = eqb-false (patternOf b l + 1) (2 ^ length l) t in ne-eqb (patternOf b l * 2 + bit true + 1) (2 ^ length l * 2) (λ d. e (omega arith)) ∙ sym t ∙ r)
-    go false r h = ne-eqb (patternOf b l * 2 + bit false + 1) (2 ^ length l * 2) (λ d. omega arith)
-
-pub known-pattern : (b : Bound) (s : Call) → known b s ≡ (not (s .negated) || eqb (patternOf b (s .args) + 1) (2 ^ length (s .args)))
-unfolding known
-known-pattern b s = ap (λ (c : Bool). not (s .negated) || c) (sym (known-full b (s .args)))
 
 -- ---- subgoals that call predicates below n: a table that goes on past n is as good as one that does not
 

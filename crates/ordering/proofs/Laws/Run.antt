@@ -35,8 +35,8 @@ use Rattle.masks.proofs.Laws.Patterns.{member-below}
 use Rattle.book.proofs.Laws.Sets.{callable-low, callable-args}
 use Rattle.ordering.proofs.Laws.Orders.{find-some, find-none, find-least, without-in, without-keeps, without-gone, Ascends, ascends-distinct, ascends-without, count-in, in-count, count-ascends}
 use Rattle.ordering.proofs.Laws.Greedy.{greedyOf, greedy}
-use Rattle.ordering.proofs.Laws.Steps.{pattern-small}
-use Rattle.ordering.proofs.Laws.Held.{ready-held, known-pattern}
+use Rattle.ordering.proofs.Laws.Steps.{pattern-small, known-pattern}
+use Rattle.ordering.proofs.Laws.Held.{ready-held}
 
 -- ---- a subgoal as it is read
 

@@ -1,9 +1,9 @@
 -- The loop over the arguments of a head, one argument at a time: what is left of the list is its first argument and then the rest. And how large a
--- pattern is. Assumes nothing.
+-- pattern is, and when it is the greatest. Assumes nothing.
 use mathlib.Core.Path.{_≡_, refl, sym, ap, _∙_}
-use mathlib.Core.Bool.{Bool, true, false, cond}
+use mathlib.Core.Bool.{Bool, true, false, not, cond, _&&_, _||_}
 use mathlib.Core.List.{List, [], _∷_}
-use Prim.Native.Nat.{ℕ, zero, suc, _+_, _/_, _%_, _^_, _≤_, _<_}
+use Prim.Native.Nat.{ℕ, zero, suc, _+_, _*_, _/_, _%_, _^_, _≤_, _<_}
 use native.Mathlib.Nat.{pow-suc}
 use native.Mathlib.Numerals.{add-one}
 use native.Mathlib.Omega.{arith}
@@ -11,8 +11,11 @@ use lib.Dec.{eqb}
 use lib.ListN.{length, getD, set, take, drop, drop-of-length-le, length-take}
 use lib.Pow.{pow-pos}
 use lib.Seq.{drop-cons, getD-take}
-use borrow.Author.Tests.{lt-ltb, le-ltb, eq-eqb, ne-eqb}
-use Rattle.ordering.specs.Adorn.{variables, Bound, nothing, isBound, patternOf, bindVar, bindHead, headBound}
+use borrow.Author.Tests.{lt-ltb, le-ltb, eqb-true, eqb-false, eq-eqb, ne-eqb}
+use Rattle.masks.specs.Lists.{all}
+use Rattle.masks.proofs.Laws.Logic.{byBool}
+use Rattle.book.specs.Book.{Call}
+use Rattle.ordering.specs.Adorn.{variables, Bound, nothing, isBound, bit, patternOf, bindVar, bindHead, headBound, known}
 use Rattle.ordering.proofs.Laws.Adorn.{bit-small}
 
 -- ---- a variable
@@ -74,3 +77,24 @@ pattern-small b (suc k) (v ∷ l) h =
     let r = pattern-small b k l (omega arith) in
     let s = bit-small (isBound b v) in
     rw (pow-suc 2 k) (omega arith)
+
+-- every argument is bound where it is the greatest of so many positions
+known-full : (b : Bound) (l : List ℕ) → eqb (patternOf b l + 1) (2 ^ length l) ≡ all (isBound b) l
+unfolding patternOf
+known-full b [] = refl
+known-full b (v ∷ l) =
+    let r = known-full b l in
+    let h = pattern-small b (length l) l (omega arith) in
+    rw (pow-suc 2 (length l)) (go (isBound b v) r h)
+  where
+    go : (c : Bool) → eqb (patternOf b l + 1) (2 ^ length l) ≡ all (isBound b) l → patternOf b l < 2 ^ length l
+        → eqb (patternOf b l * 2 + bit c + 1) (2 ^ length l * 2) ≡ (c && all (isBound b) l)
+    go true r h =
+        byBool (eqb (patternOf b l + 1) (2 ^ length l))
+        (λ t. let e = eqb-true (patternOf b l + 1) (2 ^ length l) t in eq-eqb (patternOf b l * 2 + bit true + 1) (2 ^ length l * 2) (omega arith) ∙ sym t ∙ r)
+        (λ t. let e = eqb-false (patternOf b l + 1) (2 ^ length l) t in ne-eqb (patternOf b l * 2 + bit true + 1) (2 ^ length l * 2) (λ d. e (omega arith)) ∙ sym t ∙ r)
+    go false r h = ne-eqb (patternOf b l * 2 + bit false + 1) (2 ^ length l * 2) (λ d. omega arith)
+
+pub known-pattern : (b : Bound) (s : Call) → known b s ≡ (not (s .negated) || eqb (patternOf b (s .args) + 1) (2 ^ length (s .args)))
+unfolding known
+known-pattern b s = ap (λ (c : Bool). not (s .negated) || c) (sym (known-full b (s .args)))

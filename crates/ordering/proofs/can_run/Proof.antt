@@ -1,11 +1,10 @@
 -- `ordering::can_run` meets its contract. By the tests so far. Assumes nothing.
-use mathlib.Core.Path.{_≡_, sym, ap, ap₂, _∙_}
-use Prim.Native.Nat.{ℕ, _+_, _^_}
+use mathlib.Core.Path.{sym, ap, _∙_}
+use Prim.Native.Nat.{ℕ, _+_}
 use native.Mathlib.Omega.{arith}
 use lib.Dec.{eqb}
 use borrow.Author.Needs.{needs}
 use borrow.Author.Tests.{not-true, not-false}
-use Rattle.book.specs.Held.{callIn}
 use Rattle.ordering.proofs.Laws.Bound.{shift-true, shift-false, power-is}
 use Rattle.ordering.proofs.can_run.Statement.{statement}
 use Rattle.ordering.proofs.can_run.Tie as tie

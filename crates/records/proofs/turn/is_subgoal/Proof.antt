@@ -1,8 +1,6 @@
 -- `records::turn::is_subgoal` meets its contract. By the two tests. Assumes nothing.
-use mathlib.Core.Path.{sym, ap, _∙_}
-use mathlib.Core.Bool.{Bool, _||_}
+use mathlib.Core.Path.{sym, _∙_}
 use borrow.Author.Needs.{needs}
-use Rattle.book.specs.Format.{spelling, leads}
 use Rattle.records.proofs.turn.is_subgoal.Statement.{statement}
 use Rattle.records.proofs.turn.is_subgoal.Tie as tie
 
