@@ -27,7 +27,7 @@
  *   2  SHODH_NO_MARK      offset of the byte at fault   two bytes where a record begins are none of the six marks: the first of them
  *   3  SHODH_OUT_OF_TURN  offset of the byte at fault   a mark is out of turn: its first byte; or the book ends without QU: its length
  *   4  SHODH_OUT_OF_RANGE offset of the byte at fault   a byte is out of its range: arity, predicate, n, mask, argument
- *   5  SHODH_TOO_MANY     offset of the byte at fault   a 65th PR, a 65th CL, a 9th SG or NG of a body: the first byte of its mark
+ *   5  SHODH_TOO_MANY     offset of the byte at fault   a 65th PR, a 65th CL, a 9th of SG and NG in a body or query: the first byte of its mark
  *   6  SHODH_CLASH        offset of the byte at fault   MO not rising: its predicate
  *   7  SHODH_UNORDERABLE  0                             plan only: no orders give every call what its MO asks for, a negated one all its
  *                                                       variables, and leave no cell empty
