@@ -20,7 +20,7 @@ pub const WILDCARD: u8 = 254;
 pub const LITERAL: u8 = 255;
 
 // In the byte of a word that holds the number of a subgoal's arguments: the subgoal is negated.
-pub const NEGATED: u64 = 8;
+pub const NEGATED: u8 = 8;
 
 // What a predicate takes among the modes: whether it has `MO`, the number of its masks, and 20 masks.
 pub const MODE_SIZE: usize = 22;

@@ -18,7 +18,7 @@ ghost use Prim.Native.Nat.{_+_, _*_, _^_, _≤_, _<_};
 ghost use lib.Dec.{leb};
 ghost use lib.ListN.{length, drop, set};
 ghost use Rattle.masks.specs.Limits.{maxArity};
-ghost use Rattle.book.specs.Format.{allows, byte, bytes, predicate, fields, argumentIn, subgoal, masks, modeFields};
+ghost use Rattle.book.specs.Format.{allows, byte, bytes, predicate, fields, subgoal, masks, modeFields};
 ghost use Rattle.book.specs.Held.{countIn, negatedIn, headIn, callIn};
 ghost use Rattle.records.specs.Found.{Reads, Arities};
 ghost use Rattle.records.specs.Stored.{argumentFrom, arguments, ReadsCall, ReadsBytes, ReadsMasks, ReadsMode};
@@ -84,15 +84,10 @@ pub fn read_subgoal(s: &[u8], ar: &[u8], at: usize) -> FoundCall
     requires { ⌜ (at + 2 ≤ length (now s)) × Arities (now ar) ⌝ }
     ensures { λ r. ⌜ Reads (now (s .entry)) (r .found) (λ _. callIn (r .call)) (subgoal (now (ar .entry)) [] (drop at (now (s .entry)))) ⌝ }
 {
-    let negated = is_mark(s, at, b"NG");
-    read_call(s, ar, at + 2, least_in(negated), negated)
-}
-
-// The least byte that is an argument of a subgoal and no variable.
-fn least_in(negated: bool) -> u8
-    ensures { λ r. ⌜ (argumentFrom r ≡ argumentIn negated) × (254 ≤ r) ⌝ }
-{
-    if negated { LITERAL } else { WILDCARD }
+    if is_mark(s, at, b"NG") {
+        return read_call(s, ar, at + 2, LITERAL, true);
+    }
+    read_call(s, ar, at + 2, WILDCARD, false)
 }
 
 // "n, n masks", each one of so many patterns, stored as the mode of predicate p.
@@ -131,7 +126,7 @@ fn read_args(s: &[u8], from: usize, pred: u8, n: u8, least: u8, negated: bool) -
     ensures { λ r. ⌜ ReadsCall (now (s .entry)) r negated (arguments (argumentFrom least) pred n (drop from (now (s .entry)))) ⌝ }
 {
     let count = signed(n, negated);
-    let mut call = count * 256 + pred as u64;
+    let mut call = count as u64 * 256 + pred as u64;
     let mut at = from;
     let mut shift: u32 = 16;
     let mut i: u8 = 0;
@@ -161,12 +156,11 @@ fn read_args(s: &[u8], from: usize, pred: u8, n: u8, least: u8, negated: bool) -
 }
 
 // The byte of a word that holds the number of a call's arguments, and whether it is negated.
-fn signed(n: u8, negated: bool) -> u64
+fn signed(n: u8, negated: bool) -> u8
     requires { ⌜ n ≤ maxArity ⌝ }
-    ensures { λ r. ⌜ (countIn r ≡ n) × (negatedIn r ≡ negated) × (r < 256) ⌝ }
+    ensures { λ r. ⌜ (countIn r ≡ n) × (negatedIn r ≡ negated) ⌝ }
 {
-    let sign = if negated { NEGATED } else { 0 };
-    n as u64 + sign
+    if negated { n + NEGATED } else { n }
 }
 
 // A word that has no bits from a place on, with a byte there.

@@ -24,7 +24,7 @@ use Rattle.records.specs.declared.field.Found.{Found}
 use Rattle.records.specs.declared.field.Found.the-variants.{Next, Bad}
 use Rattle.records.specs.declared.field.FoundCall.{FoundCall}
 use Rattle.records.specs.Found.{placeOf, means, Reads}
-use Rattle.records.specs.Stored.{argumentFrom, ReadsCall}
+use Rattle.records.specs.Stored.{ReadsCall}
 
 -- ---- arguments
 
@@ -158,9 +158,8 @@ module _ (s : List ℕ) (at : ℕ) {r : Found} where
   predicate-reads w = rw after-mark w
 
 -- a subgoal by its mark
-pub subgoal-reads : (s : List ℕ) (at : ℕ) (ar : List ℕ) (least : ℕ) {negated : Bool} {c : FoundCall} → negated ≡ leads (spelling Ng) (drop at s)
-    → argumentFrom least ≡ argumentIn negated → ReadsCall s c negated (fields (argumentFrom least) ar (drop (at + 2) s))
-    → Reads s (c .found) (λ n. callIn (c .call)) (subgoal ar [] (drop at s))
+pub subgoal-reads : (s : List ℕ) (at : ℕ) (ar : List ℕ) (negated : Bool) {c : FoundCall} → leads (spelling Ng) (drop at s) ≡ negated
+    → ReadsCall s c negated (fields (argumentIn negated) ar (drop (at + 2) s)) → Reads s (c .found) (λ n. callIn (c .call)) (subgoal ar [] (drop at s))
 unfolding subgoal
-subgoal-reads s at ar least {negated} {c} t r w =
-    rw (← t, after-mark, ← r) (reads-same (λ q n e. ap (λ (b : Bool). subgoalOf b (headIn (c .call))) (w .sign q n e)) (reads-map (subgoalOf negated) (w .reads)))
+subgoal-reads s at ar negated {c} t w =
+    rw (t, after-mark) (reads-same (λ q n e. ap (λ (b : Bool). subgoalOf b (headIn (c .call))) (w .sign q n e)) (reads-map (subgoalOf negated) (w .reads)))

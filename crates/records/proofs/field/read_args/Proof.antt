@@ -19,6 +19,9 @@ abbrev μ-loop : tie.MeasureT-loop
 signed-requires : tie.Need-signed-requires Inv-loop μ-loop
 signed-requires c κs = c .before .pre .1
 
+cast-call : tie.Need-cast-call Inv-loop μ-loop
+cast-call c = search needs
+
 mul-call : tie.Need-mul-call Inv-loop μ-loop
 mul-call c = search needs
 
@@ -80,7 +83,7 @@ loop-again c =
 returns-3 : tie.Need-returns-3 Inv-loop μ-loop
 returns-3 c =
     let pre = c .before .before .before .before .pre in
-    calling-end _ _ _ _ _ _ (c .before .loop .inv) (let n = c .before .before .signed .ensures in (n .0, n .1)) (pre .1) (c .loop-test .left)
+    calling-end _ _ _ _ _ _ (c .before .loop .inv) (c .before .before .signed .ensures) (pre .1) (c .loop-test .left)
 
 pub read-args-spec : {M : Type 1} → statement M
 read-args-spec =
@@ -89,6 +92,7 @@ read-args-spec =
     Inv-loop
     μ-loop
     signed-requires
+    cast-call
     mul-call
     add-call
     loop-holds
