@@ -6,7 +6,7 @@
 
 #include "limit.h"
 
-#define ROOM 164393
+#define ROOM 164585
 #define OLD 238
 #define BOOK 8192
 #define MASKS 32
@@ -82,12 +82,17 @@ static size_t put(uint8_t *text, size_t at, const char *words)
     return at + n;
 }
 
-static size_t put_field(uint8_t *text, size_t at, uint64_t n)
+static size_t put_number(uint8_t *text, size_t at, const char *part, uint64_t n)
 {
     char digits[24];
 
-    sprintf(digits, " %llu", (unsigned long long)n);
+    sprintf(digits, "%s%llu", part, (unsigned long long)n);
     return put(text, at, digits);
+}
+
+static size_t put_field(uint8_t *text, size_t at, uint64_t n)
+{
+    return put_number(text, at, " ", n);
 }
 
 static size_t put_refusal(uint8_t *text, size_t at, shodh_reply r)
@@ -98,10 +103,10 @@ static size_t put_refusal(uint8_t *text, size_t at, shodh_reply r)
     return put(text, at, "\n");
 }
 
-// a line for each record of an image: the letter, the `lead` bytes after the mark, and those that are listed, or `none`
-static size_t put_records(uint8_t *text, size_t at, const char *letter, size_t lead, const char *none, const uint8_t *image, size_t length)
+// a line for each record of an image: the letter, the `lead` bytes after the mark, those that are listed, or `none`, and the `trail` bytes behind them
+static size_t put_records(uint8_t *text, size_t at, const char *letter, size_t lead, const char *none, size_t trail, const uint8_t *image, size_t length)
 {
-    for (size_t i = 0; i < length; i += 3 + lead + image[i + 2 + lead]) {
+    for (size_t i = 0; i < length; i += 3 + lead + image[i + 2 + lead] + trail) {
         size_t n = image[i + 2 + lead];
         at = put(text, at, letter);
         for (size_t k = 0; k < lead; k++)
@@ -109,6 +114,8 @@ static size_t put_records(uint8_t *text, size_t at, const char *letter, size_t l
         for (size_t k = 0; k < n; k++)
             at = put_field(text, at, image[i + 3 + lead + k]);
         at = put(text, at, n == 0 ? none : "");
+        for (size_t k = 0; k < trail; k++)
+            at = put_number(text, at, " /", image[i + 3 + lead + n + k]);
         at = put(text, at, "\n");
     }
     return at;
@@ -125,15 +132,15 @@ static size_t put_sheet(uint8_t *text, const uint8_t *book, size_t length)
 
     if (t.number != 0)
         return put_refusal(text, 0, t);
-    at = put_records(text, 0, "C", 1, " none", table, t.value);
+    at = put_records(text, 0, "C", 1, " none", 1, table, t.value);
     at = put(text, at, "R");
     at = put_field(text, at, t.rounds);
     at = put(text, at, "\n");
     if (p.number != 0)
         return put_refusal(text, at, p);
     query = 3 + (size_t)plan[2];
-    at = put_records(text, at, "Q", 0, "", plan, query);
-    return put_records(text, at, "O", 2, "", plan + query, p.value - query);
+    at = put_records(text, at, "Q", 0, "", 0, plan, query);
+    return put_records(text, at, "O", 2, "", 0, plan + query, p.value - query);
 }
 
 static shodh_reply write_out(const uint8_t *bytes, size_t length, uint8_t *out, size_t room)

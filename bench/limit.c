@@ -364,7 +364,7 @@ reply limit_analyse(const u8 *s, size_t len, u8 *out, size_t room)
     u64 rounds = needs(&b, t, adm);
     size_t need = 0;
     for (int p = 0; p < b.np; p++)
-        need += 4 + t[p].n;
+        need += 5 + t[p].n;
     if (room < need)
         return R(9, need);
     u8 *o = out;
@@ -375,6 +375,7 @@ reply limit_analyse(const u8 *s, size_t len, u8 *out, size_t room)
         *o++ = t[p].n;
         memcpy(o, t[p].m, t[p].n);
         o += t[p].n;
+        *o++ = __builtin_popcountll(adm[p]);
     }
     r.value = need;
     r.rounds = rounds;

@@ -56,13 +56,16 @@
 extern "C" {
 #endif
 
-#define SHODH_VERSION "5.0.0"
+#define SHODH_VERSION "6.0.0"
 
 /* Rooms that are always enough, in bytes. */
-#define SHODH_TABLE_SIZE 1536
+#define SHODH_TABLE_SIZE 1600
 #define SHODH_PLAN_SIZE 53259
 #define SHODH_BOOK_SIZE 6986
 #define SHODH_MASKS_SIZE 20
+
+/* No analysis has more rounds. */
+#define SHODH_MOST_ROUNDS 4096
 
 /* The numbers of the replies. */
 enum {
@@ -88,10 +91,17 @@ typedef struct {
  * Replies: 0 with the value 0; 1 to 6. */
 shodh_reply shodh_check(const uint8_t *book, size_t length);
 
-/* What each predicate must be given: for each in turn `CN`, predicate, n, n masks. A mask has bit i-1 set where position i must be known; a call
- * needs all of some one mask. n = 0 is a predicate that no call can ask; the one mask 0 asks for nothing. A position must be known because the
- * predicate's own MO asks for it, for the sake of the calls that follow from the call, or because a clause would give it back empty: its variable is in
- * none of the clause's subgoals, or in negated ones alone. A book whose query cannot be ordered has its table like any other.
+/* What each predicate must be given: for each in turn `CN`, predicate, n, n masks, count. A mask has bit i-1 set where position i must be known; a call
+ * needs all of some one mask. n = 0 is a predicate that no call can ask; the one mask 0 asks for nothing. The count says how many of the 2^arity patterns
+ * of known arguments will do: 0 where no call can ask, all of them where nothing is asked for. A position must be known because the predicate's own MO asks
+ * for it, for the sake of the calls that follow from the call, or because a clause would give it back empty: its variable is in none of the clause's
+ * subgoals, or in negated ones alone. A book whose query cannot be ordered has its table like any other.
+ *
+ * How long it can go on. The rounds are at most the sum, over the predicates with clauses, of 2^arity, which can be worked out from the book before the
+ * call (examples/portal does), and so at most SHODH_MOST_ROUNDS: this is proved. There are books that take as many rounds as the sum says, one of 3,712
+ * among them. What a round costs is not proved, but follows from the code: it looks at each clause once at most, under all patterns together, and at a
+ * subgoal as often, at most, as its clause has subgoals; and behind the rounds reported comes one more, in which nothing changes. So an analysis looks at
+ * no more clauses than the book has, times the rounds and one. shodh_plan and shodh_close go through the same rounds first.
  * Room: SHODH_TABLE_SIZE. Replies: 0, with the rounds of the analysis; 1 to 6; 9. */
 shodh_reply shodh_analyse(const uint8_t *book, size_t length, uint8_t *out, size_t room);
 

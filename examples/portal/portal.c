@@ -1,11 +1,13 @@
-/* portal BOOK: what a portal's server does with a rule book before it takes it over. The book is loaded from a file and planned; the orders are
- * printed, or in words why there are none. Exit status: 0 the book is taken, 1 it is refused, 2 the file cannot be read. */
+/* portal BOOK: what a portal's server does with a rule book before it takes it over. The book is loaded from a file, analysed and planned; how long the
+ * analysis went on and could have, and the orders are printed, or in words why there are none. Exit status: 0 the book is taken, 1 it is refused, 2 the
+ * file cannot be read. */
 #include <stdio.h>
 
 #include <shodhvirup.h>
 
 /* One byte more than the longest book: a file that fills it is too long to be one. */
 static uint8_t book[SHODH_BOOK_SIZE + 1];
+static uint8_t table[SHODH_TABLE_SIZE];
 static uint8_t plan[SHODH_PLAN_SIZE];
 
 /* Whether a whole file, or as much of it as tells, could be read; its bytes and their number. */
@@ -57,6 +59,31 @@ static void print_refusal(shodh_reply reply, size_t length)
         printf("the book ends at byte %zu; wanted: %s\n", at, wanted(reply.number, 1));
 }
 
+/* The most rounds that the analysis of a book that was checked can take: the sum of 2^arity over the predicates with clauses. */
+static unsigned most_rounds(const uint8_t *p, const uint8_t *end)
+{
+    unsigned arity[64], preds = 0, sum = 0;
+    uint64_t summed = 0;
+
+    while (p < end && *p != 'Q') {
+        unsigned field = p[2];
+
+        if (*p == 'P') {
+            arity[preds++] = field;
+            p += 3;
+        } else if (*p == 'M') {
+            p += 4 + p[3];
+        } else {
+            if (*p == 'C' && (summed >> field & 1) == 0) {
+                sum += 1u << arity[field];
+                summed |= (uint64_t)1 << field;
+            }
+            p += 3 + arity[field];
+        }
+    }
+    return sum;
+}
+
 /* n places, and where they end. */
 static const uint8_t *print_places(const uint8_t *places, unsigned n)
 {
@@ -89,8 +116,12 @@ int main(int argc, char **argv)
         return 2;
     }
     reply = shodh_check(book, length);
-    if (reply.number == SHODH_DONE)
+    if (reply.number == SHODH_DONE) {
+        printf("rounds: at most %u", most_rounds(book, book + length));
+        reply = shodh_analyse(book, length, table, sizeof table);
+        printf(", %u taken\n", (unsigned)reply.rounds);
         reply = shodh_plan(book, length, plan, sizeof plan);
+    }
     if (reply.number != SHODH_DONE) {
         print_refusal(reply, length);
         return 1;

@@ -2,9 +2,9 @@
 use mathlib.Core.Path.{_≡_}
 use mathlib.Core.Bool.{true}
 use mathlib.Core.List.{List, []}
-use Prim.Native.Nat.{ℕ, _<_}
+use Prim.Native.Nat.{ℕ, _≤_, _<_}
 use lib.ListN.{getD}
-use Rattle.masks.specs.Limits.{allPatterns}
+use Rattle.masks.specs.Limits.{maxArity, allPatterns}
 use Rattle.masks.specs.Lists.{values}
 use Rattle.masks.specs.Constraint.{admits, inRange}
 use Rattle.masks.specs.Set.{bitAt, members}
@@ -39,3 +39,7 @@ Full table = Admitted table table
 -- every mask of the modes of a book is one of six positions
 abbrev pub LowModes : List ℕ → Type 0
 LowModes modes = (p : ℕ) → p < maxPredicates → hasIn (modeBytes modes p) ≡ true → inRange allPatterns (masksIn (modeBytes modes p)) ≡ true
+
+-- the first n arities are those of predicates
+abbrev pub LowArities : ℕ → List ℕ → Type 0
+LowArities n arities = (p : ℕ) → p < n → getD arities p 0 ≤ maxArity

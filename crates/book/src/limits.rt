@@ -39,9 +39,9 @@ pub const LONGEST: usize = 6986;
 
 pub const LONGEST_PLAN: usize = 53259;
 
-pub const LONGEST_TABLE: usize = 1536;
+pub const LONGEST_TABLE: usize = 1600;
 
-pub const LONGEST_SHEET: usize = 164392;
+pub const LONGEST_SHEET: usize = 164584;
 
 // The word of a call of predicate 0 with no arguments, wildcards in their places: not one byte repeated, so that clearing is by wide stores.
 pub const NO_CALL: u64 = 0xFEFE_FEFE_FEFE_0000;

@@ -17,7 +17,7 @@
 //     parts NAME BOOK SET             `N V` of the closing, and where N is 0 six comparisons, each a word and `same` or `differs` (see `parts`)
 //
 // N and V are the number and the value of a reply. A line of another kind, or another OP, prints `?`. A reply that altered a byte it had to leave adds
-// the word `spoiled`. Of the input the first 2,097,152 bytes are read, of a book 8,192, of a list of masks 32; a room has at most 164,393.
+// the word `spoiled`. Of the input the first 2,097,152 bytes are read, of a book 8,192, of a list of masks 32; a room has at most 164,585.
 mod again;
 mod fits;
 mod operations;

@@ -9,8 +9,8 @@ use mathlib.Core.Option.{none, some}
 use Prim.Native.Nat.{ℕ, suc, _+_, _^_, _≤_, _<_}
 use lib.Bits.{bitOr}
 use lib.ListN.{length, getD, take, drop}
-use Rattle.masks.specs.Constraint.{admits, written, minimise, joint as jointOf}
-use Rattle.masks.specs.Lists.{has}
+use Rattle.masks.specs.Constraint.{admits, ill, trivial, written, minimise, joint as jointOf}
+use Rattle.masks.specs.Lists.{has, howMany}
 use Rattle.masks.specs.Outcome.{Outcome, refused, done, Answers}
 use Rattle.masks.specs.Joining.{joining}
 use Rattle.masks.specs.declared.Way.the-variants.{Choice, Joint}
@@ -26,7 +26,7 @@ use Rattle.reading.specs.Judged.{checked}
 use Rattle.ordering.specs.Adorn.{variables, Bound, nothing, isBound, headBound, known}
 use Rattle.ordering.specs.Orders.{In, Rearranges, LexLt, Least, Sorted}
 use Rattle.ordering.specs.Good.{goodFrom, brought, filled}
-use Rattle.tables.specs.Table.{declared, defined, good, table, rounds, final}
+use Rattle.tables.specs.Table.{declared, defined, good, table, roundsBound, rounds, final}
 use Rattle.tables.specs.Image as analysed
 use Rattle.choices.specs.Choice.{clause, IsChoice, Reaches, WellModed, Orderable}
 use Rattle.choices.specs.Plan.{Row, rowKey, chosen, planRows, image, planning}
@@ -119,6 +119,10 @@ GoodPattern T B p a = (j : ℕ) → j < length (B .clauses) → clause B j .head
 abbrev pub FirstGood : Table → List Call → Bound → List ℕ → Type 0
 FirstGood T body b σ = Least (GoodOrder T body b) (some σ)
 
+-- The count behind the masks of p in the image of the final table.
+abbrev pub Count : Book → ℕ → ℕ
+Count B p = analysed.countOf (B .arities) (final B) p
+
 -- Of the bytes of a valid book.
 pub record Demand2 (s : List ℕ) (B : Book) : Type 0 where
   -- "Table 0: each MO as given and minimised, all others trivial."
@@ -135,9 +139,19 @@ pub record Demand2 (s : List ℕ) (B : Book) : Type 0 where
   pub last : final B ≡ table B (rounds B)
   pub settled : table B (suc (rounds B)) ≡ table B (rounds B)
   pub least : (k : ℕ) → table B (suc k) ≡ table B k → rounds B ≤ k
+  -- W5, "How long can the analysis go on": "the rounds are at most the sum, over the predicates with clauses, of 2 to the power of the arity", and that is at
+  -- most 4,096
+  pub bound : rounds B ≤ roundsBound B
+  pub boundMost : roundsBound B ≤ 4096
+  -- "how many patterns each final constraint admits": the count of p is that of the patterns of its arity that its constraint in the final table admits; 0
+  -- exactly where no call can ask p, all of them exactly where p asks for nothing, and at most 64, so that it is a byte
+  pub counts : (p : ℕ) → Count B p ≡ howMany (admits (entry (final B) p)) (2 ^ getD (B .arities) p 0)
+  pub countNone : (p : ℕ) → p < length (B .arities) → (Count B p ≡ 0) ↔ (entry (final B) p ≡ ill)
+  pub countAll : (p : ℕ) → p < length (B .arities) → (Count B p ≡ 2 ^ getD (B .arities) p 0) ↔ (entry (final B) p ≡ trivial)
+  pub countMost : (p : ℕ) → Count B p ≤ 64
   -- the final table lies inside every MO: what it admits of a predicate fits what the book declares of that
   pub inside : (p a : ℕ) → admits (entry (final B) p) a ≡ true → FitsMode B p a
-  -- a buffer of 1,536 bytes always suffices for it
+  -- a buffer of 1,600 bytes always suffices for it
   pub tableRoom : length (analysed.image B) ≤ longestTable
   -- reply 7 is given exactly when no choice of orders makes the book well-moded; else there is a plan
   pub seven : (planning s ≡ refused 7 0) ↔ (Orderable B → ⊥)
@@ -241,6 +255,10 @@ CO fields = 67 ∷ 79 ∷ fields
 abbrev pub text : ℕ → List ℕ → List ℕ
 text letter digits = line letter (run (λ d. 32 ∷ (48 + d) ∷ []) digits)
 
+-- a line of it that says what a predicate needs: one mask, and the count
+abbrev pub need : ℕ → ℕ → ℕ → List ℕ
+need p mask count = line 67 (32 ∷ (48 + p) ∷ 32 ∷ (48 + mask) ∷ 32 ∷ 47 ∷ (48 + count) ∷ [])
+
 -- "The book has 45 bytes"
 abbrev pub k1 : List ℕ
 k1 =
@@ -251,12 +269,11 @@ abbrev pub examples : List Example
 examples =
     -- "K1: the book above has the constraints, rounds and orders printed."
     ofBook k1
-    1 (CN (0 ∷ 1 ∷ 0 ∷ []) ++ CN (1 ∷ 1 ∷ 1 ∷ []) ++ CN (2 ∷ 1 ∷ 1 ∷ []) ++ CN (3 ∷ 1 ∷ 1 ∷ []))
+    1 (CN (0 ∷ 1 ∷ 0 ∷ 2 ∷ []) ++ CN (1 ∷ 1 ∷ 1 ∷ 2 ∷ []) ++ CN (2 ∷ 1 ∷ 1 ∷ 1 ∷ []) ++ CN (3 ∷ 1 ∷ 1 ∷ 1 ∷ []))
     (done 0 (QO (2 ∷ 1 ∷ 0 ∷ []) ++ CO (0 ∷ 1 ∷ 2 ∷ 1 ∷ 0 ∷ [])))
-    -- "Printed whole": `C 0 0`, `C 1 1`, `C 2 1`, `C 3 1`, `R 1`, `Q 1 0`, `O 0 1 1 0`
+    -- "Printed whole", with W5's counts: `C 0 0 /2`, `C 1 1 /2`, `C 2 1 /1`, `C 3 1 /1`, `R 1`, `Q 1 0`, `O 0 1 1 0`
     ∷ ofSheet k1
-    (text 67 (0 ∷ 0 ∷ []) ++ text 67 (1 ∷ 1 ∷ []) ++ text 67 (2 ∷ 1 ∷ []) ++ text 67 (3 ∷ 1 ∷ []) ++ text 82 (1 ∷ [])
-    ++ text 81 (1 ∷ 0 ∷ []) ++ text 79 (0 ∷ 1 ∷ 1 ∷ 0 ∷ []))
+    (need 0 0 2 ++ need 1 1 2 ++ need 2 1 1 ++ need 3 1 1 ++ text 82 (1 ∷ []) ++ text 81 (1 ∷ 0 ∷ []) ++ text 79 (0 ∷ 1 ∷ 1 ∷ 0 ∷ []))
     -- "K2: `QU` alone: 0 rounds, plan `QO` 0."
     ∷ ofBook QU
     0 []
@@ -264,19 +281,19 @@ examples =
     -- "K3: r(X,Y) :- f(X,Y), g(X,Y) with f {1,2}, g {1}: masks 1; under pattern 1 places 1 0, under 3 places 0 1."
     ∷ ofBook (PR (2 ∷ []) ++ PR (2 ∷ []) ++ PR (2 ∷ []) ++ MO (0 ∷ 1 ∷ 3 ∷ []) ++ MO (1 ∷ 1 ∷ 1 ∷ []) ++ CL (2 ∷ 0 ∷ 1 ∷ []) ++ SG (0 ∷ 0 ∷ 1 ∷ [])
     ++ SG (1 ∷ 0 ∷ 1 ∷ []) ++ QU ++ SG (2 ∷ 255 ∷ 0 ∷ []) ++ SG (2 ∷ 255 ∷ 255 ∷ []))
-    1 (CN (0 ∷ 1 ∷ 3 ∷ []) ++ CN (1 ∷ 1 ∷ 1 ∷ []) ++ CN (2 ∷ 1 ∷ 1 ∷ []))
+    1 (CN (0 ∷ 1 ∷ 3 ∷ 1 ∷ []) ++ CN (1 ∷ 1 ∷ 1 ∷ 2 ∷ []) ++ CN (2 ∷ 1 ∷ 1 ∷ 2 ∷ []))
     (done 0 (QO (2 ∷ 0 ∷ 1 ∷ []) ++ CO (0 ∷ 1 ∷ 2 ∷ 1 ∷ 0 ∷ []) ++ CO (0 ∷ 3 ∷ 2 ∷ 0 ∷ 1 ∷ [])))
     -- "K4 (document 000, 4.7): r(Y,Z) :- f(X), g(X,Y,Z), h(Z), i(X), j(X,W), with f {1}, g {1,2} or {1,3}, h {1}: masks 1 2; under 1 places 3 0 1 2 4,
     -- under 2 places 2 3 0 1 4."
     ∷ ofBook (PR (1 ∷ []) ++ PR (3 ∷ []) ++ PR (1 ∷ []) ++ PR (1 ∷ []) ++ PR (2 ∷ []) ++ PR (2 ∷ []) ++ MO (0 ∷ 1 ∷ 1 ∷ []) ++ MO (1 ∷ 2 ∷ 3 ∷ 5 ∷ [])
     ++ MO (2 ∷ 1 ∷ 1 ∷ []) ++ CL (5 ∷ 0 ∷ 1 ∷ []) ++ SG (0 ∷ 2 ∷ []) ++ SG (1 ∷ 2 ∷ 0 ∷ 1 ∷ []) ++ SG (2 ∷ 1 ∷ []) ++ SG (3 ∷ 2 ∷ [])
     ++ SG (4 ∷ 2 ∷ 3 ∷ []) ++ QU ++ SG (5 ∷ 255 ∷ 0 ∷ []) ++ SG (5 ∷ 254 ∷ 255 ∷ []))
-    1 (CN (0 ∷ 1 ∷ 1 ∷ []) ++ CN (1 ∷ 2 ∷ 3 ∷ 5 ∷ []) ++ CN (2 ∷ 1 ∷ 1 ∷ []) ++ CN (3 ∷ 1 ∷ 0 ∷ []) ++ CN (4 ∷ 1 ∷ 0 ∷ []) ++ CN (5 ∷ 2 ∷ 1 ∷ 2 ∷ []))
+    1 (CN (0 ∷ 1 ∷ 1 ∷ 1 ∷ []) ++ CN (1 ∷ 2 ∷ 3 ∷ 5 ∷ 3 ∷ []) ++ CN (2 ∷ 1 ∷ 1 ∷ 1 ∷ []) ++ CN (3 ∷ 1 ∷ 0 ∷ 2 ∷ []) ++ CN (4 ∷ 1 ∷ 0 ∷ 4 ∷ []) ++ CN (5 ∷ 2 ∷ 1 ∷ 2 ∷ 3 ∷ []))
     (done 0 (QO (2 ∷ 0 ∷ 1 ∷ []) ++ CO (0 ∷ 1 ∷ 5 ∷ 3 ∷ 0 ∷ 1 ∷ 2 ∷ 4 ∷ []) ++ CO (0 ∷ 2 ∷ 5 ∷ 2 ∷ 3 ∷ 0 ∷ 1 ∷ 4 ∷ [])))
     -- "K5 (4.10): r(X) :- g(Y), f(X), each needing {1}: ill."
     ∷ ofBook (PR (1 ∷ []) ++ PR (1 ∷ []) ++ PR (1 ∷ []) ++ MO (0 ∷ 1 ∷ 1 ∷ []) ++ MO (1 ∷ 1 ∷ 1 ∷ []) ++ CL (2 ∷ 0 ∷ []) ++ SG (1 ∷ 1 ∷ []) ++ SG (0 ∷ 0 ∷ [])
     ++ QU ++ SG (2 ∷ 255 ∷ []))
-    1 (CN (0 ∷ 1 ∷ 1 ∷ []) ++ CN (1 ∷ 1 ∷ 1 ∷ []) ++ CN (2 ∷ 0 ∷ []))
+    1 (CN (0 ∷ 1 ∷ 1 ∷ 1 ∷ []) ++ CN (1 ∷ 1 ∷ 1 ∷ 1 ∷ []) ++ CN (2 ∷ 0 ∷ 0 ∷ []))
     (refused 7 0)
     -- "K6 (5.2): joint of {1}, {3,6} and {4} as masks, two at a time: 7."
     ∷ ofMasks (1 ∷ []) (3 ∷ 6 ∷ []) (3 ∷ [])
@@ -284,86 +301,109 @@ examples =
     -- "K7: weak(P,H) :- hash(P,H), rainbow(H,P), each needing {1}: masks 1 2."
     ∷ ofBook (PR (2 ∷ []) ++ PR (2 ∷ []) ++ PR (2 ∷ []) ++ MO (0 ∷ 1 ∷ 1 ∷ []) ++ MO (1 ∷ 1 ∷ 1 ∷ []) ++ CL (2 ∷ 0 ∷ 1 ∷ []) ++ SG (0 ∷ 0 ∷ 1 ∷ [])
     ++ SG (1 ∷ 1 ∷ 0 ∷ []) ++ QU ++ SG (2 ∷ 255 ∷ 0 ∷ []) ++ SG (2 ∷ 1 ∷ 0 ∷ []))
-    1 (CN (0 ∷ 1 ∷ 1 ∷ []) ++ CN (1 ∷ 1 ∷ 1 ∷ []) ++ CN (2 ∷ 2 ∷ 1 ∷ 2 ∷ []))
+    1 (CN (0 ∷ 1 ∷ 1 ∷ 2 ∷ []) ++ CN (1 ∷ 1 ∷ 1 ∷ 2 ∷ []) ++ CN (2 ∷ 2 ∷ 1 ∷ 2 ∷ 3 ∷ []))
     (done 0 (QO (2 ∷ 0 ∷ 1 ∷ []) ++ CO (0 ∷ 1 ∷ 2 ∷ 0 ∷ 1 ∷ []) ++ CO (0 ∷ 2 ∷ 2 ∷ 1 ∷ 0 ∷ [])))
     -- "K8: a(X) :- b(X) and b(X) :- m(X), m {1}: 2 rounds, a and b both 1."
     ∷ ofBook (PR (1 ∷ []) ++ PR (1 ∷ []) ++ PR (1 ∷ []) ++ MO (0 ∷ 1 ∷ 1 ∷ []) ++ CL (1 ∷ 0 ∷ []) ++ SG (2 ∷ 0 ∷ []) ++ CL (2 ∷ 0 ∷ []) ++ SG (0 ∷ 0 ∷ [])
     ++ QU ++ SG (1 ∷ 255 ∷ []))
-    2 (CN (0 ∷ 1 ∷ 1 ∷ []) ++ CN (1 ∷ 1 ∷ 1 ∷ []) ++ CN (2 ∷ 1 ∷ 1 ∷ []))
+    2 (CN (0 ∷ 1 ∷ 1 ∷ 1 ∷ []) ++ CN (1 ∷ 1 ∷ 1 ∷ 1 ∷ []) ++ CN (2 ∷ 1 ∷ 1 ∷ 1 ∷ []))
     (done 0 (QO (1 ∷ 0 ∷ []) ++ CO (0 ∷ 1 ∷ 1 ∷ 0 ∷ []) ++ CO (1 ∷ 1 ∷ 1 ∷ 0 ∷ [])))
     -- "K9: p(X) :- p(X), m(X), m {1}: trivial, 0 rounds, places 0 1."
     ∷ ofBook (PR (1 ∷ []) ++ PR (1 ∷ []) ++ MO (0 ∷ 1 ∷ 1 ∷ []) ++ CL (1 ∷ 0 ∷ []) ++ SG (1 ∷ 0 ∷ []) ++ SG (0 ∷ 0 ∷ []) ++ QU ++ SG (1 ∷ 0 ∷ []))
-    0 (CN (0 ∷ 1 ∷ 1 ∷ []) ++ CN (1 ∷ 1 ∷ 0 ∷ []))
+    0 (CN (0 ∷ 1 ∷ 1 ∷ 1 ∷ []) ++ CN (1 ∷ 1 ∷ 0 ∷ 2 ∷ []))
     (done 0 (QO (1 ∷ 0 ∷ []) ++ CO (0 ∷ 0 ∷ 2 ∷ 0 ∷ 1 ∷ [])))
     -- "K10: r(X,X) :- f(X), f {1}: masks 1 2."
     ∷ ofBook (PR (1 ∷ []) ++ PR (2 ∷ []) ++ MO (0 ∷ 1 ∷ 1 ∷ []) ++ CL (1 ∷ 0 ∷ 0 ∷ []) ++ SG (0 ∷ 0 ∷ []) ++ QU ++ SG (1 ∷ 255 ∷ 0 ∷ [])
     ++ SG (1 ∷ 254 ∷ 255 ∷ []))
-    1 (CN (0 ∷ 1 ∷ 1 ∷ []) ++ CN (1 ∷ 2 ∷ 1 ∷ 2 ∷ []))
+    1 (CN (0 ∷ 1 ∷ 1 ∷ 1 ∷ []) ++ CN (1 ∷ 2 ∷ 1 ∷ 2 ∷ 3 ∷ []))
     (done 0 (QO (2 ∷ 0 ∷ 1 ∷ []) ++ CO (0 ∷ 1 ∷ 1 ∷ 0 ∷ []) ++ CO (0 ∷ 2 ∷ 1 ∷ 0 ∷ [])))
     -- "K11: the query m(255), m {1}: accepted; m(254): reply 7."
     ∷ ofBook (PR (1 ∷ []) ++ MO (0 ∷ 1 ∷ 1 ∷ []) ++ QU ++ SG (0 ∷ 255 ∷ []))
-    0 (CN (0 ∷ 1 ∷ 1 ∷ []))
+    0 (CN (0 ∷ 1 ∷ 1 ∷ 1 ∷ []))
     (done 0 (QO (1 ∷ 0 ∷ [])))
     ∷ ofBook (PR (1 ∷ []) ++ MO (0 ∷ 1 ∷ 1 ∷ []) ++ QU ++ SG (0 ∷ 254 ∷ []))
-    0 (CN (0 ∷ 1 ∷ 1 ∷ []))
+    0 (CN (0 ∷ 1 ∷ 1 ∷ 1 ∷ []))
     (refused 7 0)
     -- "K12: an ill predicate that nothing reached calls: accepted."
     ∷ ofBook (PR (1 ∷ []) ++ PR (1 ∷ []) ++ PR (1 ∷ []) ++ MO (0 ∷ 0 ∷ []) ++ CL (1 ∷ 0 ∷ []) ++ SG (0 ∷ 0 ∷ []) ++ QU ++ SG (2 ∷ 0 ∷ []))
-    1 (CN (0 ∷ 0 ∷ []) ++ CN (1 ∷ 0 ∷ []) ++ CN (2 ∷ 1 ∷ 0 ∷ []))
+    1 (CN (0 ∷ 0 ∷ 0 ∷ []) ++ CN (1 ∷ 0 ∷ 0 ∷ []) ++ CN (2 ∷ 1 ∷ 0 ∷ 2 ∷ []))
     (done 0 (QO (1 ∷ 0 ∷ [])))
     -- W3: "The clause seen(H,T) :- head(H) doesn't: T stays empty unless the caller brought it.": masks 2; the query seen(X,255), accepted, and seen(X,Y)
     ∷ ofBook (PR (1 ∷ []) ++ PR (2 ∷ []) ++ CL (1 ∷ 0 ∷ 1 ∷ []) ++ SG (0 ∷ 0 ∷ []) ++ QU ++ SG (1 ∷ 0 ∷ 255 ∷ []))
-    1 (CN (0 ∷ 1 ∷ 0 ∷ []) ++ CN (1 ∷ 1 ∷ 2 ∷ []))
+    1 (CN (0 ∷ 1 ∷ 0 ∷ 2 ∷ []) ++ CN (1 ∷ 1 ∷ 2 ∷ 2 ∷ []))
     (done 0 (QO (1 ∷ 0 ∷ []) ++ CO (0 ∷ 2 ∷ 1 ∷ 0 ∷ [])))
     ∷ ofBook (PR (1 ∷ []) ++ PR (2 ∷ []) ++ CL (1 ∷ 0 ∷ 1 ∷ []) ++ SG (0 ∷ 0 ∷ []) ++ QU ++ SG (1 ∷ 0 ∷ 1 ∷ []))
-    1 (CN (0 ∷ 1 ∷ 0 ∷ []) ++ CN (1 ∷ 1 ∷ 2 ∷ []))
+    1 (CN (0 ∷ 1 ∷ 0 ∷ 2 ∷ []) ++ CN (1 ∷ 1 ∷ 2 ∷ 2 ∷ []))
     (refused 7 0)
     -- W3: "The fact p(X) with no body gets mask 1."; the query p(255)
     ∷ ofBook (PR (1 ∷ []) ++ CL (0 ∷ 0 ∷ []) ++ QU ++ SG (0 ∷ 255 ∷ []))
-    1 (CN (0 ∷ 1 ∷ 1 ∷ []))
+    1 (CN (0 ∷ 1 ∷ 1 ∷ 1 ∷ []))
     (done 0 (QO (1 ∷ 0 ∷ []) ++ CO (0 ∷ 1 ∷ 0 ∷ [])))
     -- W6: "A predicate may have both MO and clauses": p(X) :- q(X), where p asks for {1} itself: masks 1, in no round; the query p(X), q(X) asks q first,
     -- and p(X) alone is refused
     ∷ ofBook (PR (1 ∷ []) ++ PR (1 ∷ []) ++ MO (1 ∷ 1 ∷ 1 ∷ []) ++ CL (1 ∷ 0 ∷ []) ++ SG (0 ∷ 0 ∷ []) ++ QU ++ SG (1 ∷ 0 ∷ []) ++ SG (0 ∷ 0 ∷ []))
-    0 (CN (0 ∷ 1 ∷ 0 ∷ []) ++ CN (1 ∷ 1 ∷ 1 ∷ []))
+    0 (CN (0 ∷ 1 ∷ 0 ∷ 2 ∷ []) ++ CN (1 ∷ 1 ∷ 1 ∷ 1 ∷ []))
     (done 0 (QO (2 ∷ 1 ∷ 0 ∷ []) ++ CO (0 ∷ 1 ∷ 1 ∷ 0 ∷ [])))
     ∷ ofBook (PR (1 ∷ []) ++ PR (1 ∷ []) ++ MO (1 ∷ 1 ∷ 1 ∷ []) ++ CL (1 ∷ 0 ∷ []) ++ SG (0 ∷ 0 ∷ []) ++ QU ++ SG (1 ∷ 0 ∷ []))
-    0 (CN (0 ∷ 1 ∷ 0 ∷ []) ++ CN (1 ∷ 1 ∷ 1 ∷ []))
+    0 (CN (0 ∷ 1 ∷ 0 ∷ 2 ∷ []) ++ CN (1 ∷ 1 ∷ 1 ∷ 1 ∷ []))
     (refused 7 0)
     -- W6: "every round takes the joint of MO and clauses": p(X,Y) :- m(Y), h(X), where m and p ask for {1}: masks 3
     ∷ ofBook (PR (1 ∷ []) ++ PR (1 ∷ []) ++ PR (2 ∷ []) ++ MO (0 ∷ 1 ∷ 1 ∷ []) ++ MO (2 ∷ 1 ∷ 1 ∷ []) ++ CL (2 ∷ 0 ∷ 1 ∷ []) ++ SG (0 ∷ 1 ∷ [])
     ++ SG (1 ∷ 0 ∷ []) ++ QU ++ SG (2 ∷ 255 ∷ 255 ∷ []))
-    1 (CN (0 ∷ 1 ∷ 1 ∷ []) ++ CN (1 ∷ 1 ∷ 0 ∷ []) ++ CN (2 ∷ 1 ∷ 3 ∷ []))
+    1 (CN (0 ∷ 1 ∷ 1 ∷ 1 ∷ []) ++ CN (1 ∷ 1 ∷ 0 ∷ 2 ∷ []) ++ CN (2 ∷ 1 ∷ 3 ∷ 1 ∷ []))
     (done 0 (QO (1 ∷ 0 ∷ []) ++ CO (0 ∷ 3 ∷ 2 ∷ 0 ∷ 1 ∷ [])))
     -- W9: "Not reported dark": lit(H) :- not dark(H), head(H) and dark(H) :- report(H): lit runs its second call first, and dark is reached under pattern 1
     ∷ ofBook (PR (1 ∷ []) ++ PR (1 ∷ []) ++ PR (1 ∷ []) ++ PR (1 ∷ []) ++ CL (2 ∷ 0 ∷ []) ++ SG (1 ∷ 0 ∷ []) ++ CL (3 ∷ 0 ∷ []) ++ NG (2 ∷ 0 ∷ [])
     ++ SG (0 ∷ 0 ∷ []) ++ QU ++ SG (3 ∷ 0 ∷ []))
-    0 (CN (0 ∷ 1 ∷ 0 ∷ []) ++ CN (1 ∷ 1 ∷ 0 ∷ []) ++ CN (2 ∷ 1 ∷ 0 ∷ []) ++ CN (3 ∷ 1 ∷ 0 ∷ []))
+    0 (CN (0 ∷ 1 ∷ 0 ∷ 2 ∷ []) ++ CN (1 ∷ 1 ∷ 0 ∷ 2 ∷ []) ++ CN (2 ∷ 1 ∷ 0 ∷ 2 ∷ []) ++ CN (3 ∷ 1 ∷ 0 ∷ 2 ∷ []))
     (done 0 (QO (1 ∷ 0 ∷ []) ++ CO (0 ∷ 1 ∷ 1 ∷ 0 ∷ []) ++ CO (1 ∷ 0 ∷ 2 ∷ 1 ∷ 0 ∷ [])))
     -- a negated subgoal without variables can go first: the query not p(255), p(X)
     ∷ ofBook (PR (1 ∷ []) ++ QU ++ NG (0 ∷ 255 ∷ []) ++ SG (0 ∷ 0 ∷ []))
-    0 (CN (0 ∷ 1 ∷ 0 ∷ []))
+    0 (CN (0 ∷ 1 ∷ 0 ∷ 2 ∷ []))
     (done 0 (QO (2 ∷ 0 ∷ 1 ∷ [])))
     -- a variable that only negated subgoals have: in the query, not p(X), it is 7; and r(X) :- p(X), not p(Y) is ill
     ∷ ofBook (PR (1 ∷ []) ++ QU ++ NG (0 ∷ 0 ∷ []))
-    0 (CN (0 ∷ 1 ∷ 0 ∷ []))
+    0 (CN (0 ∷ 1 ∷ 0 ∷ 2 ∷ []))
     (refused 7 0)
     ∷ ofBook (PR (1 ∷ []) ++ PR (1 ∷ []) ++ CL (1 ∷ 0 ∷ []) ++ SG (0 ∷ 0 ∷ []) ++ NG (0 ∷ 1 ∷ []) ++ QU ++ SG (0 ∷ 0 ∷ []))
-    1 (CN (0 ∷ 1 ∷ 0 ∷ []) ++ CN (1 ∷ 0 ∷ []))
+    1 (CN (0 ∷ 1 ∷ 0 ∷ 2 ∷ []) ++ CN (1 ∷ 0 ∷ 0 ∷ []))
     (done 0 (QO (1 ∷ 0 ∷ [])))
     -- a head variable that only a negated subgoal has: r(X) :- not p(X), masks 1
     ∷ ofBook (PR (1 ∷ []) ++ PR (1 ∷ []) ++ CL (1 ∷ 0 ∷ []) ++ NG (0 ∷ 0 ∷ []) ++ QU ++ SG (1 ∷ 255 ∷ []))
-    1 (CN (0 ∷ 1 ∷ 0 ∷ []) ++ CN (1 ∷ 1 ∷ 1 ∷ []))
+    1 (CN (0 ∷ 1 ∷ 0 ∷ 2 ∷ []) ++ CN (1 ∷ 1 ∷ 1 ∷ 1 ∷ []))
     (done 0 (QO (1 ∷ 0 ∷ []) ++ CO (0 ∷ 1 ∷ 1 ∷ 0 ∷ [])))
     -- a negated subgoal of an ill predicate is never ready: the query not m(255)
     ∷ ofBook (PR (1 ∷ []) ++ MO (0 ∷ 0 ∷ []) ++ QU ++ NG (0 ∷ 255 ∷ []))
-    0 (CN (0 ∷ 0 ∷ []))
+    0 (CN (0 ∷ 0 ∷ 0 ∷ []))
     (refused 7 0)
     -- recursion through one is not refused: p(X) :- q(X), not p(X)
     ∷ ofBook (PR (1 ∷ []) ++ PR (1 ∷ []) ++ CL (1 ∷ 0 ∷ []) ++ SG (0 ∷ 0 ∷ []) ++ NG (1 ∷ 0 ∷ []) ++ QU ++ SG (1 ∷ 0 ∷ []))
-    0 (CN (0 ∷ 1 ∷ 0 ∷ []) ++ CN (1 ∷ 1 ∷ 0 ∷ []))
+    0 (CN (0 ∷ 1 ∷ 0 ∷ 2 ∷ []) ++ CN (1 ∷ 1 ∷ 0 ∷ 2 ∷ []))
     (done 0 (QO (1 ∷ 0 ∷ []) ++ CO (0 ∷ 0 ∷ 2 ∷ 0 ∷ 1 ∷ []) ++ CO (0 ∷ 1 ∷ 2 ∷ 0 ∷ 1 ∷ [])))
+    -- W5: 64 is a byte: a predicate of six positions that asks for nothing
+    ∷ ofBook (PR (6 ∷ []) ++ QU)
+    0 (CN (0 ∷ 1 ∷ 0 ∷ 64 ∷ []))
+    (done 0 (QO (0 ∷ [])))
     ∷ []
+
+-- ---- W5's bound is attained: there are books whose analysis takes as many rounds as it says
+
+-- the bytes are a book of n rounds, and n is its bound
+abbrev pub Attains : ℕ → List ℕ → Type 0
+Attains n s = (B : Book) × (judge s ≡ book B) × (rounds B ≡ n) × (roundsBound B ≡ n)
+
+-- m and s need {1}: p(X) :- m(X) and p(X) :- p(Z), s(Z,X), where p has one position, and so two patterns
+abbrev pub counter1 : List ℕ
+counter1 =
+    PR (1 ∷ []) ++ PR (2 ∷ []) ++ PR (1 ∷ []) ++ MO (0 ∷ 1 ∷ 1 ∷ []) ++ MO (1 ∷ 1 ∷ 1 ∷ []) ++ CL (2 ∷ 0 ∷ []) ++ SG (0 ∷ 0 ∷ []) ++ CL (2 ∷ 0 ∷ [])
+    ++ SG (2 ∷ 15 ∷ []) ++ SG (1 ∷ 15 ∷ 0 ∷ []) ++ QU
+
+-- m needs {1} or {2}, and s {1}: p(X,Y) :- m(X,Y), p(X,Y) :- p(Z,Y), s(Z,X) and p(X,Y) :- p(255,Z), m(X,Z), s(Z,Y), where p has four
+abbrev pub counter2 : List ℕ
+counter2 =
+    PR (2 ∷ []) ++ PR (2 ∷ []) ++ PR (2 ∷ []) ++ MO (0 ∷ 2 ∷ 1 ∷ 2 ∷ []) ++ MO (1 ∷ 1 ∷ 1 ∷ []) ++ CL (2 ∷ 0 ∷ 1 ∷ []) ++ SG (0 ∷ 0 ∷ 1 ∷ [])
+    ++ CL (2 ∷ 0 ∷ 1 ∷ []) ++ SG (2 ∷ 15 ∷ 1 ∷ []) ++ SG (1 ∷ 15 ∷ 0 ∷ []) ++ CL (2 ∷ 0 ∷ 1 ∷ []) ++ SG (2 ∷ 255 ∷ 15 ∷ []) ++ SG (0 ∷ 0 ∷ 15 ∷ [])
+    ++ SG (1 ∷ 15 ∷ 1 ∷ []) ++ QU
 
 -- ---- All of it
 
@@ -371,4 +411,5 @@ pub record Demands : Type 0 where
   pub demand1 : Demand1
   pub demand2 : (s : List ℕ) (B : Book) → judge s ≡ book B → Demand2 s B
   pub demand3 : (s : List ℕ) (B : Book) → judge s ≡ book B → Demand3 s B
+  pub attained : Attains 2 counter1 × Attains 4 counter2
   pub bench : EachHolds examples

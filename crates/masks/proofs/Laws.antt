@@ -14,4 +14,5 @@ pub mod Members
 pub mod Words
 pub mod Patterns
 pub mod Sets
+pub mod Counts
 pub mod Kept

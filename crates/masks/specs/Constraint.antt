@@ -1,18 +1,22 @@
 -- Constraints: lists of masks. Every definition computes. Assumes nothing.
 use mathlib.Core.Bool.{Bool, true, false, not, _&&_}
 use mathlib.Core.List.{List, [], _∷_, _++_, map}
-use Prim.Native.Nat.{ℕ}
+use Prim.Native.Nat.{ℕ, _^_}
 use lib.Dec.{eqb, ltb}
 use lib.Bits.{bitOr}
 use Rattle.masks.specs.Limits.{allPatterns}
 use Rattle.masks.specs.Mask.{within}
-use Rattle.masks.specs.Lists.{any, all, anyBelow, below, has, ascending, pairwise}
+use Rattle.masks.specs.Lists.{any, all, anyBelow, below, howMany, has, ascending, pairwise}
 
 -- ---- a pattern and a constraint
 
 -- "fits a constraint when it fits at least one alternative"
 unfoldable pub admits : List ℕ → ℕ → Bool
 admits c a = any (λ m. within m a) c
+
+-- W5: "how many patterns each final constraint admits": of the patterns of an arity
+abbrev pub fitting : ℕ → List ℕ → ℕ
+fitting arity c = howMany (admits c) (2 ^ arity)
 
 -- "One with MO and n = 0 has no alternative: it is ill"; "Mask 0 is an alternative that asks for nothing": trivial
 abbrev pub ill : List ℕ

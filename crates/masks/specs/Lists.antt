@@ -3,6 +3,7 @@ use mathlib.Core.Bool.{Bool, true, false, cond, _&&_, _||_}
 use mathlib.Core.List.{List, [], _∷_, _++_}
 use Prim.Native.Nat.{ℕ, zero, suc}
 use lib.Dec.{eqb, ltb}
+use lib.ListN.{length}
 
 module _ {A : Type 0} where
   -- p holds of some element
@@ -34,6 +35,10 @@ anyBelow p (suc n) = anyBelow p n || p n
 abbrev pub below : (ℕ → Bool) → ℕ → List ℕ
 below p zero = []
 below p (suc n) = below p n ++ cond (p n) (n ∷ []) []
+
+-- how many they are
+unfoldable pub howMany : (ℕ → Bool) → ℕ → ℕ
+howMany p n = length (below p n)
 
 -- x is an element
 abbrev pub has : List ℕ → ℕ → Bool

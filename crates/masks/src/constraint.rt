@@ -12,7 +12,7 @@ ghost use lib.Bits.{bitOr};
 ghost use lib.ListN.{length};
 ghost use lib.Seq.{sets};
 ghost use Rattle.masks.specs.Limits.{maxArity, allPatterns};
-ghost use Rattle.masks.specs.Lists.{has};
+ghost use Rattle.masks.specs.Lists.{has, howMany};
 ghost use Rattle.masks.specs.Constraint.{admits, inRange, written, minimise};
 ghost use Rattle.masks.specs.Set.{bitAt, Holds, members};
 
@@ -134,4 +134,13 @@ pub fn patterns(arity: u8) -> u8
     ensures { λ r. ⌜ r ≡ 2 ^ arity ⌝ }
 {
     1u8 << arity
+}
+
+// How many patterns of an arity a set of patterns has: the lanes from 2 to the power of the arity on are none.
+pub fn fitting(set: u64, arity: u8) -> u8
+    requires { ⌜ arity ≤ maxArity ⌝ }
+    ensures { λ r. ⌜ r ≡ howMany (bitAt set) (2 ^ arity) ⌝ }
+{
+    let lanes = ALL >> (64 - patterns(arity));
+    count(set & lanes) as u8
 }

@@ -50,7 +50,7 @@ pub fn analyse(book: &[u8], out: &mut [u8]) -> Reply
     let n = image_length(b.preds, &table);
     let r = Reply::in_room(n, rounds, out.len());
     if r.number == 0 {
-        put_image(out, b.preds, &table);
+        put_image(out, b.preds, &arities, &table, &admits);
     }
     r
 }

@@ -14,6 +14,7 @@ use Rattle.book.specs.Table.{entry}
 use Rattle.ordering.specs.Adorn.{nothing}
 use Rattle.ordering.specs.Good.{firstGood, isSome}
 use Rattle.tables.specs.Table.{rounds, final}
+use Rattle.tables.specs.Image.{countOf}
 use Rattle.choices.specs.Plan.{Row, chosen, planRows}
 
 -- ---- lines
@@ -26,9 +27,17 @@ decimalIn (suc k) n = cond (ltb n 10) ((48 + n) ∷ []) (decimalIn k (n / 10) ++
 unfoldable pub decimal : ℕ → List ℕ
 decimal n = decimalIn (suc n) n
 
+-- a number in decimal, after what parts it from what stands before it
+unfoldable pub after : List ℕ → ℕ → List ℕ
+after part n = part ++ decimal n
+
 -- "The letter and the decimal fields of a line are parted by single spaces, with none at its end"
-unfoldable pub field : ℕ → List ℕ
-field n = 32 ∷ decimal n
+abbrev pub field : ℕ → List ℕ
+field n = after (32 ∷ []) n
+
+-- W5: "after a space and a slash"
+abbrev pub slashed : ℕ → List ℕ
+slashed n = after (32 ∷ 47 ∷ []) n
 
 -- "each line ends in a newline"
 abbrev pub line : ℕ → List ℕ → List ℕ
@@ -44,12 +53,12 @@ none· = 32 ∷ 110 ∷ 111 ∷ 110 ∷ 101 ∷ []
 
 -- ---- "For a book without fault"
 
--- "`C` lines (predicate, then masks in decimal, or `none`)"
-unfoldable pub constraintLine : ℕ → List ℕ → List ℕ
-constraintLine p masks = line 67 (field p ++ listing none· masks)
+-- "`C` lines (predicate, then masks in decimal, or `none`)"; W5: "`orders` prints that count last on each `C` line, after a space and a slash: `C 0 0 /2`"
+unfoldable pub constraintLine : ℕ → List ℕ → ℕ → List ℕ
+constraintLine p masks count = line 67 (field p ++ (listing none· masks ++ slashed count))
 
 unfoldable pub constraintLines : Book → List ℕ
-constraintLines B = joined (λ p. constraintLine p (entry (final B) p)) (length (B .arities))
+constraintLines B = joined (λ p. constraintLine p (entry (final B) p) (countOf (B .arities) (final B) p)) (length (B .arities))
 
 -- "one `R` line (rounds)"
 unfoldable pub roundsLine : Book → List ℕ

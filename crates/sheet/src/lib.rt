@@ -21,7 +21,7 @@ ghost use Rattle.masks.specs.Outcome.{Answers};
 ghost use Rattle.book.specs.Format.{judge};
 ghost use Rattle.writing.specs.Wrote.{Room, Wrote};
 ghost use Rattle.printing.specs.Sheet.{line, field, judgedSheet, refusalLine, printing};
-ghost use Rattle.sheet.specs.Records.{listedIn, lineIn, linesIn, judgedOrders};
+ghost use Rattle.sheet.specs.Records.{listedCount, lineIn, linesIn, judgedOrders};
 
 // W6: "`orders` cuts at 6,987": as many bytes of a book are looked at, one more than the longest has.
 pub const BOOK_SIZE: usize = LONGEST + 1;
@@ -50,7 +50,7 @@ fn put_sheet(text: &mut [u8; LONGEST_SHEET], book: &[u8]) -> usize
         return put_refusal(text, 0, r.number, r.value);
     }
     let n = r.value as usize;
-    let p = put_lines(text, 0, b'C', 1, b" none", &table[..n]);
+    let p = put_lines(text, 0, b'C', 1, b" none", 1, &table[..n]);
     let q = put_rounds(text, p, r.rounds);
     put_orders(text, q, book)
 }
@@ -67,9 +67,9 @@ fn put_orders(text: &mut [u8], at: usize, book: &[u8]) -> usize
     }
     let n = r.value as usize;
     let orders = &image[..n];
-    let p = put_line(text, at, b'Q', 0, b"", orders);
-    let rows = 3 + listed(orders, 0);
-    put_lines(text, p, b'O', 2, b"", &orders[rows..])
+    let p = put_line(text, at, b'Q', 0, b"", 0, orders);
+    let rows = 3 + listed(orders, 0, 0);
+    put_lines(text, p, b'O', 2, b"", 0, &orders[rows..])
 }
 
 // "`X`, number, value"
@@ -78,8 +78,8 @@ fn put_refusal(text: &mut [u8], at: usize, number: u32, value: u64) -> usize
     ensures { λ r. ⌜ Wrote (now (text .entry)) (now (text .exit)) at r (refusalLine number value) ⌝ }
 {
     let p = put_byte(text, at, b'X');
-    let q = put_field(text, p, number as u64);
-    let r = put_field(text, q, value);
+    let q = put_field(text, p, b" ", number as u64);
+    let r = put_field(text, q, b" ", value);
     put_byte(text, r, b'\n')
 }
 
@@ -89,37 +89,38 @@ fn put_rounds(text: &mut [u8], at: usize, rounds: u64) -> usize
     ensures { λ r. ⌜ Wrote (now (text .entry)) (now (text .exit)) at r (line 82 (field rounds)) ⌝ }
 {
     let p = put_byte(text, at, b'R');
-    let q = put_field(text, p, rounds);
+    let q = put_field(text, p, b" ", rounds);
     put_byte(text, q, b'\n')
 }
 
-// A line for each record of an image.
+// A line for each record of an image: its letter, the fields that lead, those that it lists, and those that trail.
 fn put_lines<'a>(
     text: &mut [u8],
     at: usize,
     letter: u8,
     lead: usize,
     none: &'a [u8],
+    trail: usize,
     image: &'a [u8],
 ) -> usize
-    requires { ⌜ (lead ≤ 2) × Room (now text) at (linesIn letter lead (now none) (length (now image)) (now image)) ⌝ }
-    ensures { λ r. ⌜ Wrote (now (text .entry)) (now (text .exit)) at r (linesIn letter lead (now (none .entry)) (length (now (image .entry))) (now (image .entry))) ⌝ }
+    requires { ⌜ (lead + trail ≤ 2) × Room (now text) at (linesIn letter lead (now none) trail (length (now image)) (now image)) ⌝ }
+    ensures { λ r. ⌜ Wrote (now (text .entry)) (now (text .exit)) at r (linesIn letter lead (now (none .entry)) trail (length (now (image .entry))) (now (image .entry))) ⌝ }
 {
     let mut p = at;
     let mut i: usize = 0;
-    while 3 + lead <= image.len() - i {
-        p = put_line(text, p, letter, lead, none, &image[i..]);
-        i += 3 + lead + listed(&image[i..], lead);
+    while 3 + lead + trail <= image.len() - i {
+        p = put_line(text, p, letter, lead, none, trail, &image[i..]);
+        i += 3 + lead + trail + listed(&image[i..], lead, trail);
     }
     p
 }
 
 // How many fields the first record of an image lists.
-fn listed(image: &[u8], lead: usize) -> usize
-    requires { ⌜ (lead ≤ 2) × (3 + lead ≤ length (now image)) ⌝ }
-    ensures { λ r. ⌜ r ≡ length (listedIn lead (now (image .entry))) ⌝ }
+fn listed(image: &[u8], lead: usize, trail: usize) -> usize
+    requires { ⌜ (lead + trail ≤ 2) × (3 + lead + trail ≤ length (now image)) ⌝ }
+    ensures { λ r. ⌜ r ≡ listedCount lead trail (now (image .entry)) ⌝ }
 {
-    least(image[2 + lead] as usize, image.len() - 3 - lead)
+    least(image[2 + lead] as usize, image.len() - (3 + lead + trail))
 }
 
 // The line of the first record of an image.
@@ -129,15 +130,17 @@ fn put_line<'a>(
     letter: u8,
     lead: usize,
     none: &'a [u8],
+    trail: usize,
     image: &'a [u8],
 ) -> usize
-    requires { ⌜ (lead ≤ 2) × (3 + lead ≤ length (now image)) × Room (now text) at (lineIn letter lead (now none) (now image)) ⌝ }
-    ensures { λ r. ⌜ Wrote (now (text .entry)) (now (text .exit)) at r (lineIn letter lead (now (none .entry)) (now (image .entry))) ⌝ }
+    requires { ⌜ (lead + trail ≤ 2) × (3 + lead + trail ≤ length (now image)) × Room (now text) at (lineIn letter lead (now none) trail (now image)) ⌝ }
+    ensures { λ r. ⌜ Wrote (now (text .entry)) (now (text .exit)) at r (lineIn letter lead (now (none .entry)) trail (now (image .entry))) ⌝ }
 {
     let from = 3 + lead;
-    let n = listed(image, lead);
+    let end = from + listed(image, lead, trail);
     let p = put_byte(text, at, letter);
-    let q = put_fields(text, p, &image[2..2 + lead]);
-    let r = put_listing(text, q, none, &image[from..from + n]);
-    put_byte(text, r, b'\n')
+    let q = put_fields(text, p, b" ", &image[2..2 + lead]);
+    let r = put_listing(text, q, none, &image[from..end]);
+    let s = put_fields(text, r, b" /", &image[end..end + trail]);
+    put_byte(text, s, b'\n')
 }

@@ -83,9 +83,10 @@ abbrev pub sumBelow : (ℕ → ℕ) → ℕ → ℕ
 sumBelow f zero = 0
 sumBelow f (suc n) = sumBelow f n + f n
 
--- the patterns of the predicates with clauses, all together: a round that changes something takes one away, so there are no more rounds than this
-unfoldable pub patternsOf : Book → ℕ
-patternsOf B = sumBelow (λ p. cond (defined (B .clauses) p) (2 ^ getD (B .arities) p 0) 0) (length (B .arities))
+-- W5: "the sum, over the predicates with clauses, of 2 to the power of the arity", which is all their patterns: a round that changes something takes one away,
+-- so there are no more rounds than this
+unfoldable pub roundsBound : Book → ℕ
+roundsBound B = sumBelow (λ p. cond (defined (B .clauses) p) (2 ^ getD (B .arities) p 0) 0) (length (B .arities))
 
 -- the first j from k on at which the table is settled, looked for at d places
 unfoldable pub seek : Book → ℕ → ℕ → ℕ
@@ -93,7 +94,7 @@ seek B k zero = k
 seek B k (suc d) = let r : ℕ = seek B (suc k) d in cond (settled B k) k r
 
 unfoldable pub rounds : Book → ℕ
-rounds B = seek B 0 (patternsOf B)
+rounds B = seek B 0 (roundsBound B)
 
 unfoldable pub final : Book → Table
 final B = table B (rounds B)

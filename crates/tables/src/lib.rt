@@ -6,21 +6,22 @@ use book::limits::MODES_SIZE;
 use book::mode::has_mode;
 use book::mode::masks_at;
 use masks::constraint::count;
+use masks::constraint::fitting;
 use masks::constraint::minimised;
 use masks::patterns::ALL;
 use masks::patterns::admitted;
+use writing::put::put_byte;
 use writing::put::put_constraint;
 use writing::put::put_mark;
 ghost use mathlib.Core.Path.{_≡_};
 ghost use Prim.Native.Nat.{_≤_};
-ghost use lib.ListN.{length};
 ghost use Rattle.masks.specs.Set.{members};
 ghost use Rattle.book.specs.Limits.{maxPredicates};
 ghost use Rattle.book.specs.Held.{modesOf};
-ghost use Rattle.book.specs.Table.{tableIn, Admitted, LowModes};
+ghost use Rattle.book.specs.Table.{tableIn, Admitted, LowModes, LowArities};
 ghost use Rattle.book.specs.Sets.{Cleared};
 ghost use Rattle.tables.specs.Table.{firstNeeds};
-ghost use Rattle.tables.specs.Image.{row, rows};
+ghost use Rattle.tables.specs.Image.{row, rows, LengthOf};
 ghost use Rattle.writing.specs.Wrote.{Room, Wrote};
 
 // The set of the mask 0 alone: a constraint that asks for nothing.
@@ -58,37 +59,45 @@ pub fn first_table(
 // How many bytes the image of a table has.
 pub fn image_length(preds: u8, table: &[u64; MAX_PREDICATES]) -> usize
     requires { ⌜ preds ≤ maxPredicates ⌝ }
-    ensures { λ r. ⌜ r ≡ length (rows (tableIn (now (table .entry)) preds) preds) ⌝ }
+    ensures { λ r. ⌜ LengthOf preds (now (table .entry)) r ⌝ }
 {
     let mut total: usize = 0;
     let mut p: usize = 0;
     while p < preds as usize {
-        total += 4 + count(table[p]);
+        total += 5 + count(table[p]);
         p += 1;
     }
     total
 }
 
-// "Its image: for each predicate in turn `CN`, predicate, n, n masks", from the output's start.
-pub fn put_image(out: &mut [u8], preds: u8, table: &[u64; MAX_PREDICATES]) -> usize
-    requires { ⌜ (preds ≤ maxPredicates) × Room (now out) 0 (rows (tableIn (now table) preds) preds) ⌝ }
-    ensures { λ r. ⌜ Wrote (now (out .entry)) (now (out .exit)) 0 r (rows (tableIn (now (table .entry)) preds) preds) ⌝ }
+// "Its image: for each predicate in turn `CN`, predicate, n, n masks", and W5's count at the end of each, from the output's start.
+pub fn put_image<'a>(
+    out: &mut [u8],
+    preds: u8,
+    arities: &'a [u8; MAX_PREDICATES],
+    table: &'a [u64; MAX_PREDICATES],
+    admits: &'a [u64; MAX_PREDICATES],
+) -> usize
+    requires { ⌜ (preds ≤ maxPredicates) × LowArities preds (now arities) × Admitted (now table) (now admits) × Room (now out) 0 (rows (now arities) (tableIn (now table) preds) preds) ⌝ }
+    ensures { λ r. ⌜ Wrote (now (out .entry)) (now (out .exit)) 0 r (rows (now (arities .entry)) (tableIn (now (table .entry)) preds) preds) ⌝ }
 {
     let mut at: usize = 0;
     let mut p: u8 = 0;
     while p < preds {
-        let masks = table[p as usize];
-        at = put_row(out, at, p, masks);
+        let i = p as usize;
+        let n = fitting(admits[i], arities[i]);
+        at = put_row(out, at, p, table[i], n);
         p += 1;
     }
     at
 }
 
 // One row of it.
-fn put_row(out: &mut [u8], at: usize, p: u8, masks: u64) -> usize
-    requires { ⌜ Room (now out) at (row p (members masks)) ⌝ }
-    ensures { λ r. ⌜ Wrote (now (out .entry)) (now (out .exit)) at r (row p (members masks)) ⌝ }
+fn put_row(out: &mut [u8], at: usize, p: u8, masks: u64, n: u8) -> usize
+    requires { ⌜ Room (now out) at (row p (members masks) n) ⌝ }
+    ensures { λ r. ⌜ Wrote (now (out .entry)) (now (out .exit)) at r (row p (members masks) n) ⌝ }
 {
     let q = put_mark(out, at, b"CN");
-    put_constraint(out, q, p, masks)
+    let r = put_constraint(out, q, p, masks);
+    put_byte(out, r, n)
 }

@@ -10,7 +10,7 @@ use native.Mathlib.Omega.{arith}
 use lib.Dec.{eqb}
 use lib.ListN.{length, getD, List·getD-eq-default}
 use Rattle.masks.specs.Limits.{allPatterns}
-use Rattle.masks.specs.Lists.{all, values, joined}
+use Rattle.masks.specs.Lists.{all, values, joined, howMany}
 use Rattle.book.specs.Book.{Call, Book}
 use Rattle.book.specs.Encode.{callFits, WellFormed}
 use Rattle.ordering.specs.Adorn.{Bound, nothing, headBound}
@@ -22,9 +22,10 @@ use Rattle.choices.specs.Choice.{clause, Choice, IsChoice, queryCalls, c
 use Rattle.choices.specs.Reached.{Marks, marked, marksOf, nextCalls, allMarked, withCalls, grown, reached}
 use Rattle.masks.proofs.Laws.Logic.{byBool, byRange, clash, same, and-intro, and-left, and-right, or-left, or-right, or-case}
 use Rattle.masks.proofs.Laws.Lists.{any-append, any-joined, joined-any, length-values, getD-values}
+use Rattle.masks.proofs.Laws.Counts.{howMany-most}
 use Rattle.ordering.proofs.Laws.Steps.{pattern-small}
 use Rattle.ordering.proofs.Laws.Asks.{called-case, called-first, asks-each}
-use Rattle.tables.proofs.Laws.Sums.{sum-stuck, sum-most, howMany, howMany-le, howMany-most, howMany-stuck}
+use Rattle.tables.proofs.Laws.Sums.{sum-stuck, sum-most, howMany-le, howMany-stuck}
 use Rattle.tables.proofs.Laws.Valid.{arity-low, goal-known, goal-size, goals-fit}
 
 -- ---- a mark for each pattern below w of each of n predicates

@@ -11,7 +11,7 @@ use lib.Dec.{eqb}
 use lib.ListN.{length, length-append}
 use borrow.Author.Tests.{eqb-true, eq-eqb, leb-true}
 use Rattle.masks.specs.Limits.{allPatterns}
-use Rattle.masks.specs.Lists.{joined}
+use Rattle.masks.specs.Lists.{joined, howMany}
 use Rattle.book.specs.Limits.{maxClauses, maxSubgoals, longestPlan}
 use Rattle.book.specs.Book.{Call, noClause, Book}
 use Rattle.book.specs.Encode.{run, clauseFits, WellFormed}
@@ -29,7 +29,7 @@ use Rattle.book.proofs.Laws.Encode.{run-joined}
 use Rattle.book.proofs.Laws.Trip.{clause-few}
 use Rattle.ordering.proofs.Laws.Orders.{cond-in, in-cond, in-joined, joined-in, sorted-joined, sorted-cond}
 use Rattle.ordering.proofs.Laws.Good.{first-is-least}
-use Rattle.tables.proofs.Laws.Sums.{sum-le, sum-most, sum-times, length-joined, howMany, howMany-times, howMany-parted}
+use Rattle.tables.proofs.Laws.Sums.{sum-le, sum-most, sum-times, length-joined, howMany-times, howMany-parted}
 use Rattle.choices.proofs.Laws.Moded.{chosen-choice}
 
 -- ---- "for each reached predicate with clauses, ascending by predicate and then pattern, for each of its clauses in turn"

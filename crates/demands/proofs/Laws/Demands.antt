@@ -30,6 +30,8 @@ use Rattle.choices.specs.Plan.{Row, rowKey, chosen, rowsOf, planRows, planned}
 use Rattle.closing.specs.Close.{closeOver, close, lacked, closed, closing}
 use Rattle.demands.specs.Demands as say
 use Rattle.masks.proofs.Laws.Logic.{byRange, clash}
+use Rattle.masks.proofs.Laws.Joining.{power-le}
+use Rattle.masks.proofs.Laws.Counts.{fitting-most, fitting-ill, fitting-trivial}
 use Rattle.masks.proofs.Laws.Outcome.{answers-unique, answers-kept, answers-rest, answers-zero, done-bytes}
 use Rattle.book.proofs.Laws.Answer.{number-range, book-injective, on-fault, on-book}
 use Rattle.book.proofs.Laws.Places.{fault-stands}
@@ -41,18 +43,19 @@ use Rattle.reading.proofs.Laws.Judged.{check-zero}
 use Rattle.ordering.proofs.Laws.Brought.{brought-ran, head-length}
 use Rattle.ordering.proofs.Laws.Adorn.{known-variables}
 use Rattle.ordering.proofs.Laws.Good.{good-clause-parts, good-clause-order, order-good-clause}
+use Rattle.tables.proofs.Laws.Valid.{arity-low}
 use Rattle.tables.proofs.Laws.Own.{good-at, at-good}
 use Rattle.tables.proofs.Laws.Round.{gets-good, good-gets, step-admits, step-outside}
 use Rattle.tables.proofs.Laws.Full.{step-joint}
 use Rattle.tables.proofs.Laws.Image.{table-length}
-use Rattle.tables.proofs.Laws.Rounds.{sameTable-true, true-sameTable, start-at, rounds-least, rounds-settled, final-declared}
+use Rattle.tables.proofs.Laws.Rounds.{sameTable-true, true-sameTable, start-at, rounds-least, rounds-most, rounds-settled, final-proper, final-declared, bound-most}
 use Rattle.choices.proofs.Laws.Moded.{orderable}
 use Rattle.choices.proofs.Laws.Plan.{seven-none, seven-iff, plan-iff, plan-sound, plan-exact, plan-query-first, plan-first, plan-filled}
 use Rattle.choices.proofs.Laws.Rows.{rows-rise, plan-length}
 use Rattle.closing.proofs.Laws.Valid.{closed-well}
 use Rattle.closing.proofs.Laws.Final.{final-close}
 use Rattle.closing.proofs.Laws.Outcome.{closed-lacks, closing-done, closing-valid, done-closing, closing-twice, closing-turned, closing-again, closing-none, never-seven, closing-gave}
-use Rattle.demands.proofs.Laws.Examples.{bench}
+use Rattle.demands.proofs.Laws.Examples.{bench, attained}
 
 -- ---- demand 1
 
@@ -143,6 +146,12 @@ module _ (s : List ℕ) (B : Book) (valid : judge s ≡ book B) where
         last = refl;
         settled = its-own-next;
         least = no-sooner;
+        bound = omega (arith, rounds-most B);
+        boundMost = bound-most B well;
+        counts = λ p. refl;
+        countNone = λ p h. fitting-ill (getD (B .arities) p 0) (entry (final B) p) (final-proper B well .written· p h);
+        countAll = λ p h. fitting-trivial (getD (B .arities) p 0) (entry (final B) p) (final-proper B well .written· p h);
+        countMost = λ p. omega (arith, fitting-most (getD (B .arities) p 0) (entry (final B) p), power-le (getD (B .arities) p 0) (arity-low B well p));
         inside = final-declared B well;
         tableRoom = table-length B well;
         seven = seven-iff s B valid;
@@ -214,4 +223,4 @@ module _ (s : List ℕ) (B : Book) (valid : judge s ≡ book B) where
 -- ---- all of it
 
 pub demands : say.Demands
-demands = record { demand1 = demand-1; demand2 = demand-2; demand3 = demand-3; bench = bench }
+demands = record { demand1 = demand-1; demand2 = demand-2; demand3 = demand-3; attained = attained; bench = bench }

@@ -43,10 +43,10 @@ unfolding members
 members-cong word f h = below-cong (bitAt word) f allPatterns h
 
 -- one more
-below-yes : (f : ℕ → Bool) (k : ℕ) → f k ≡ true → below f (suc k) ≡ below f k ++ (k ∷ [])
+pub below-yes : (f : ℕ → Bool) (k : ℕ) → f k ≡ true → below f (suc k) ≡ below f k ++ (k ∷ [])
 below-yes f k e = rw e
 
-below-no : (f : ℕ → Bool) (k : ℕ) → f k ≡ false → below f (suc k) ≡ below f k
+pub below-no : (f : ℕ → Bool) (k : ℕ) → f k ≡ false → below f (suc k) ≡ below f k
 below-no f k e = rw e (append-nil (below f k))
 
 below-grows : (f : ℕ → Bool) (k d : ℕ) → length (below f k) ≤ length (below f (d + k))
@@ -311,7 +311,7 @@ minimise-held word c f = written-cong (bitAt word) (has c) allPatterns (λ k h. 
 pub written-full : (c : List ℕ) → isWritten allPatterns c ≡ true → (word : ℕ) → EachLane (λ a. bitAt word a ≡ admits c a) → written (bitAt word) allPatterns ≡ c
 written-full c w word f = written-cong (bitAt word) (admits c) allPatterns f ∙ written-admits allPatterns c w
 
-below-most : (f : ℕ → Bool) (n : ℕ) → length (below f n) ≤ n
+pub below-most : (f : ℕ → Bool) (n : ℕ) → length (below f n) ≤ n
 below-most f zero = omega arith
 below-most f (suc n) =
     let l = length-append (below f n) (cond (f n) (n ∷ []) []) in

@@ -9,7 +9,7 @@ use Rattle.book.proofs.Laws.Held.{modeAt-zeros}
 use Rattle.book.proofs.Laws.Sets.{cleared-zeros}
 use Rattle.reading.proofs.Laws.Judged.{read-refused, read-well, read-made}
 use Rattle.needs.proofs.Laws.Settling.{read-held}
-use Rattle.needs.proofs.Laws.Analysed.{analysed-book}
+use Rattle.needs.proofs.Laws.Analysed.{read-low, analysed-book}
 use Rattle.needs.proofs.analyse.Statement.{statement}
 use Rattle.needs.proofs.analyse.Tie as tie
 
@@ -36,31 +36,37 @@ in-room-requires c κs = search needs
 
 put-image-requires : tie.Need-put-image-requires
 put-image-requires c κs =
-    let k = c .before .before .before .before .before in
-    let size = k .image-length .ensures in
-    let h = room-enough _ _ _ (c .before .before .before .before .in-room .ensures) (λ z. omega arith) in
-    (k .before .before .before .before .before .before .before .before .before .before .read-book .ensures .listed .few, omega arith)
+    let k = c .before .before .before .before .before .before .before in
+    let read = k .before .before .before .before .before .before .before .before .before .before .read-book in
+    let b = read .ensures in
+    let w = read-well b (k .before .before .before .before .before .before .before .before .if1 .left) in
+    let d = k .before .before .settle .ensures _ (read-held _ _ _ _ _ (b .listed .each) (b .few) w) in
+    let size = k .image-length .ensures (read .last .1 .0) in
+    let h = room-enough _ _ _ (c .before .before .before .before .before .before .in-room .ensures) (λ z. omega arith) in
+    (b .listed .few, read-low _ _ _ _ _ w, d .admitted, omega arith)
 
 same-length : tie.Need-same-length
 same-length c = search needs
 
 returns-2 : tie.Need-returns-2
 returns-2 c =
-    let k = c .before .before .before .before .before .before .before .before in
-    let b = k .before .before .before .before .before .before .before .before .before .before .read-book .ensures in
+    let k = c .before .before .before .before .before .before .before .before .before .before in
+    let read = k .before .before .before .before .before .before .before .before .before .before .read-book in
+    let b = read .ensures in
     let z = k .before .before .before .before .before .before .before .before .if1 .left in
     let h = read-held _ _ _ _ _ (b .listed .each) (b .few) (read-well b z) in
-    rw (← analysed-book _ _ (read-made b z analysed) (h .preds·) (k .before .before .settle .ensures _ h))
-    (answers-done _ _ _ (c .before .before .before .before .before .before .before .in-room .ensures) _ (k .image-length .ensures) (omega arith) (λ z. omega arith) (c .before .before .put-image .ensures .is))
+    rw (← analysed-book _ _ _ _ _ _ (read-made b z analysed) h (k .before .before .settle .ensures _ h))
+    (answers-done _ _ _ (c .before .before .before .before .before .before .before .before .before .in-room .ensures) _ (k .image-length .ensures (read .last .1 .0)) (omega arith) (λ z. omega arith) (c .before .before .put-image .ensures .is))
 
 returns-3 : tie.Need-returns-3
 returns-3 c =
     let k = c .before .before .before in
-    let b = k .before .before .before .before .before .before .before .before .before .before .read-book .ensures in
+    let read = k .before .before .before .before .before .before .before .before .before .before .read-book in
+    let b = read .ensures in
     let z = k .before .before .before .before .before .before .before .before .if1 .left in
     let h = read-held _ _ _ _ _ (b .listed .each) (b .few) (read-well b z) in
-    rw (← analysed-book _ _ (read-made b z analysed) (h .preds·) (k .before .before .settle .ensures _ h))
-    (answers-short _ _ _ (c .before .before .in-room .ensures) _ (k .image-length .ensures) (omega arith) (c .if2 .left))
+    rw (← analysed-book _ _ _ _ _ _ (read-made b z analysed) h (k .before .before .settle .ensures _ h))
+    (answers-short _ _ _ (c .before .before .in-room .ensures) _ (k .image-length .ensures (read .last .1 .0)) (omega arith) (c .if2 .left))
 
 pub analyse-spec : {M : Type 1} → statement M
 analyse-spec =

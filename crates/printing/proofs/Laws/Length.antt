@@ -1,5 +1,5 @@
--- No sheet is longer than 164,392 bytes. A field of a number below 100 has at most three bytes, so a line has at most three times the bytes of the record
--- that it comes from; the longest image of a table has 1,536 and the longest plan 53,259. The rounds are at most 4,096, and their line has at most seven.
+-- No sheet is longer than 164,584 bytes. A field of a number below 100 has at most three bytes, so a line has at most three times the bytes of the record
+-- that it comes from; the longest image of a table has 1,600 and the longest plan 53,259. The rounds are at most 4,096, and their line has at most seven.
 -- Assumes nothing.
 use mathlib.Core.Path.{_≡_, refl}
 use mathlib.Core.Logic.{inl, inr}
@@ -23,16 +23,19 @@ use Rattle.tables.specs.Table.{rounds, final}
 use Rattle.tables.specs.Image as table
 use Rattle.choices.specs.Reached.{marked, reached}
 use Rattle.choices.specs.Plan as plan
-use Rattle.printing.specs.Sheet.{decimalIn, decimal, field, listing, none·, constraintLine, constraintLines, roundsLine, queryLine, orderLine, refusalLine, orderLines, bookSheet, judgedSheet, sheet}
+use Rattle.printing.specs.Sheet.{decimalIn, decimal, after, field, slashed, listing, none·, constraintLine, constraintLines, roundsLine, queryLine, orderLine, refusalLine, orderLines, bookSheet, judgedSheet, sheet}
 use Rattle.masks.proofs.Laws.Logic.{byBool}
 use Rattle.masks.proofs.Laws.Constraint.{inRange-at}
+use Rattle.masks.proofs.Laws.Joining.{power-le}
+use Rattle.masks.proofs.Laws.Counts.{fitting-most}
 use Rattle.book.proofs.Laws.Answer.{number-range}
 use Rattle.book.proofs.Laws.Places.{fault-place}
 use Rattle.book.proofs.Laws.Trip.{judge-inv}
 use Rattle.ordering.proofs.Laws.Orders.{in-at}
 use Rattle.tables.proofs.Laws.Sums.{sum-le, sum-times, length-joined}
 use Rattle.tables.proofs.Laws.Rounds.{rounds-few}
-use Rattle.tables.proofs.Laws.Image.{rows-joined, final-low, table-length}
+use Rattle.tables.proofs.Laws.Valid.{arity-low}
+use Rattle.tables.proofs.Laws.Image.{row-length, final-low, table-length}
 use Rattle.choices.proofs.Laws.Moded.{chosen-choice}
 use Rattle.choices.proofs.Laws.Rows.{rows-out, clauses-few, body-few, plan-length}
 
@@ -49,9 +52,12 @@ digits-most (suc k) (suc d) n h =
     (λ t. rw t (omega arith))
     (λ t. rw t (omega (arith, digits-most k d (n / 10) (omega arith), length-append (decimalIn k (n / 10)) ((48 + n % 10) ∷ []))))
 
+after-most : (part : List ℕ) (d n : ℕ) → n < 10 ^ suc d → length (after part n) ≤ length part + suc d
+unfolding after decimal
+after-most part d n h = omega (arith, digits-most (suc n) d n h, length-append part (decimalIn (suc n) n))
+
 pub field-most : (d n : ℕ) → n < 10 ^ suc d → length (field n) ≤ 2 + d
-unfolding field decimal
-field-most d n h = omega (arith, digits-most (suc n) d n h)
+field-most d n h = omega (arith, after-most (32 ∷ []) d n h)
 
 -- numbers below 100
 abbrev Low : List ℕ → Type 0
@@ -64,20 +70,23 @@ fields-most (x ∷ xs) h =
 
 -- ---- the line of a record
 
--- mark, fields that lead, number, fields listed
-listing-most : (none xs : List ℕ) → Low xs → length none ≤ 7 → length (listing none xs) ≤ 7 + 3 * length xs
+-- mark, fields that lead, number, fields listed, and a count
+listing-most : (none xs : List ℕ) → Low xs → length none ≤ 5 → length (listing none xs) ≤ 5 + 3 * length xs
 listing-most none [] h l = omega arith
 listing-most none (x ∷ xs) h l = omega (arith, fields-most (x ∷ xs) h)
 
-constraint-most : (p : ℕ) (masks : List ℕ) → p < 100 → Low masks → length (constraintLine p masks) ≤ 3 * length (table.row p masks)
+constraint-most : (p : ℕ) (masks : List ℕ) (n : ℕ) → p < 100 → Low masks → n < 100 → length (constraintLine p masks n) ≤ 3 * length (table.row p masks n)
 unfolding constraintLine
-constraint-most p masks l h =
+constraint-most p masks n l h m =
     omega (
       arith,
       field-most 1 p l,
       listing-most none· masks h (omega arith),
-      length-append (field p) (listing none· masks),
-      length-append (field p ++ listing none· masks) (10 ∷ []),
+      after-most (32 ∷ 47 ∷ []) 1 n m,
+      row-length p masks n,
+      length-append (listing none· masks) (slashed n),
+      length-append (field p) (listing none· masks ++ slashed n),
+      length-append (field p ++ (listing none· masks ++ slashed n)) (10 ∷ []),
     )
 
 query-most : (σ : List ℕ) → Low σ → length (queryLine σ) ≤ 3 * length (plan.encQuery σ)
@@ -127,9 +136,11 @@ module _ (B : Book) (w : WellFormed B) where
   constraints-most =
       let n = length (B .arities) in
       let few = leb-true n maxPredicates (w .fewPredicates) in
-      rw (rows-joined (final B) n)
-      (joined-most (λ p. constraintLine p (entry (final B) p)) (λ p. table.row p (entry (final B) p)) n
-      (λ p h. constraint-most p (entry (final B) p) (omega arith) (λ i l. omega (arith, inRange-at 64 (entry (final B) p) i (final-low B w p h) l))))
+      let T = final B in
+      joined-most (λ p. constraintLine p (entry T p) (table.countOf (B .arities) T p)) (λ p. table.row p (entry T p) (table.countOf (B .arities) T p)) n
+      (λ p h.
+      constraint-most p (entry T p) (table.countOf (B .arities) T p) (omega arith) (λ i l. omega (arith, inRange-at 64 (entry T p) i (final-low B w p h) l))
+      (omega (arith, fitting-most (getD (B .arities) p 0) (entry T p), power-le (getD (B .arities) p 0) (arity-low B w p))))
 
   rounds-most : length (roundsLine B) ≤ 7
   unfolding roundsLine

@@ -8,7 +8,7 @@ use lib.ListN.{length}
 use borrow.Author.Tests.{lt-ltb, le-ltb}
 use Rattle.io.specs.Digits.{glyph, digits, Fewest}
 use Rattle.writing.specs.Wrote.{Room, Wrote}
-use Rattle.printing.specs.Sheet.{decimalIn, decimal, field}
+use Rattle.printing.specs.Sheet.{decimalIn, decimal, after}
 use Rattle.writing.proofs.Laws.Wrote.{room-second}
 
 -- the last digit
@@ -50,12 +50,12 @@ decimal-fewest n (suc (suc k)) h =
     let e = above (suc k) in
     digits-decimal (suc k) n n (omega arith) (h .1) (λ _. low)
 
--- ---- what is spelled so after a space is a field, and there is room for it where there is room for the field
+-- ---- what is spelled so stands after what parts it from what is before, and there is room for it where there is room for both
 
-module _ (n k : ℕ) {l : List ℕ} (h : Fewest 10 1 n k) (e : l ≡ digits 10 k n) where
-  pub spelled : 32 ∷ l ≡ field n
-  unfolding field
-  spelled = ap (λ (s : List ℕ). 32 ∷ s) (e ∙ decimal-fewest n k h)
+module _ (part : List ℕ) (n k : ℕ) {l : List ℕ} (h : Fewest 10 1 n k) (e : l ≡ digits 10 k n) where
+  pub spelled : part ++ l ≡ after part n
+  unfolding after
+  spelled = ap (λ (s : List ℕ). part ++ s) (e ∙ decimal-fewest n k h)
 
-  pub spelled-room : {a b : List ℕ} {at p : ℕ} → Wrote a b at p (32 ∷ []) → Room a at (field n) → Room b p l
+  pub spelled-room : {a b : List ℕ} {at p : ℕ} → Wrote a b at p part → Room a at (after part n) → Room b p l
   spelled-room w r = let z = ap length spelled in room-second l w (omega arith)

@@ -16,7 +16,7 @@ use Rattle.tables.specs.Table.{final}
 use Rattle.tables.specs.Image as table
 use Rattle.choices.specs.Plan as plan
 use Rattle.printing.specs.Sheet.{field, line, none·, constraintLines, roundsLine, queryLine, orderLine, refusalLine, orderLines, bookSheet, judgedSheet}
-use Rattle.sheet.specs.Records.{listedIn, lineIn, linesIn, judgedOrders}
+use Rattle.sheet.specs.Records.{listedCount, lineIn, linesIn, judgedOrders}
 use Rattle.masks.proofs.Laws.Logic.{byBool}
 use Rattle.masks.proofs.Laws.Outcome.{Sized}
 use Rattle.book.specs.Limits.{longestTable, longestPlan}
@@ -53,17 +53,17 @@ planning-sized s = go (judge s) refl
 
 -- the records behind that of the query
 abbrev pub ordersIn : List ℕ → List ℕ
-ordersIn image = drop (3 + length (listedIn 0 image)) image
+ordersIn image = drop (3 + listedCount 0 0 image) image
 
 -- of a planning
 abbrev pub planLines : Outcome → List ℕ
 planLines (refused n value) = refusalLine n value
-planLines (done k image) = lineIn 81 0 [] image ++ linesIn 79 2 [] (length (ordersIn image)) (ordersIn image)
+planLines (done k image) = lineIn 81 0 [] 0 image ++ linesIn 79 2 [] 0 (length (ordersIn image)) (ordersIn image)
 
 -- of an analysis, with more after it
 abbrev pub tableLines : Outcome → List ℕ → List ℕ
 tableLines (refused n value) more = refusalLine n value
-tableLines (done k image) more = linesIn 67 1 none· (length image) image ++ (line 82 (field k) ++ more)
+tableLines (done k image) more = linesIn 67 1 none· 1 (length image) image ++ (line 82 (field k) ++ more)
 
 image-lines : (B : Book) → planLines (done 0 (plan.image B)) ≡ queryLine (plan.chosen B .forQuery) ++ run orderLine (plan.planRows B)
 unfolding plan.image
@@ -71,7 +71,7 @@ image-lines B =
     let σ = plan.chosen B .forQuery in
     let rest = run plan.encRow (plan.planRows B) in
     ap₂ {C = List ℕ} _++_ (line-query σ rest)
-    (ap (λ (l : List ℕ). linesIn 79 2 [] (length l) l) (behind-query σ rest) ∙ lines-orders (plan.planRows B))
+    (ap (λ (l : List ℕ). linesIn 79 2 [] 0 (length l) l) (behind-query σ rest) ∙ lines-orders (plan.planRows B))
 
 pub planning-lines : (s : List ℕ) → planLines (plan.planning s) ≡ judgedOrders (judge s)
 unfolding onBook orderLines
@@ -90,4 +90,4 @@ analysis-lines s = go (judge s)
   where
     go : (j : Judged) → tableLines (ofJudged table.analysed j) (judgedOrders j) ≡ judgedSheet j
     go (fault f at) = refl
-    go (book B) = ap (λ (l : List ℕ). l ++ (roundsLine B ++ orderLines B)) (lines-rows (final B) (length (B .arities)))
+    go (book B) = ap (λ (l : List ℕ). l ++ (roundsLine B ++ orderLines B)) (lines-rows (B .arities) (final B) (length (B .arities)))

@@ -1,9 +1,7 @@
--- `sheet::listed` meets its contract. A record lists as many fields as it says, or those that are there. Assumes nothing.
-use mathlib.Core.Path.{_∙_}
+-- `sheet::listed` meets its contract. A record lists as many fields as it says, or as there can be. Assumes nothing.
 use Prim.Native.Nat.{_+_}
 use native.Mathlib.Omega.{arith}
 use borrow.Author.Needs.{needs}
-use Rattle.sheet.proofs.Laws.Lines.{listed-length}
 use Rattle.sheet.proofs.listed.Statement.{statement}
 use Rattle.sheet.proofs.listed.Tie as tie
 
@@ -17,9 +15,7 @@ least-requires : tie.Need-least-requires
 least-requires c κs = search needs
 
 returns : tie.Need-returns
-returns c =
-    let s = c .before .before .before .args in
-    c .least .ensures ∙ listed-length (s .lead) (s .image .now) (omega arith)
+returns c = c .least .ensures
 
 pub listed-spec : {M : Type 1} → statement M
 listed-spec =
@@ -28,6 +24,7 @@ listed-spec =
     (λ c. search needs)
     shared-slice-read-least
     cast-least
+    (λ c. search needs)
     (λ c. search needs)
     (λ c. search needs)
     least-requires

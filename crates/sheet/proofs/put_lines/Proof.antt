@@ -10,10 +10,11 @@ use Rattle.sheet.proofs.put_lines.Statement.{statement}
 use Rattle.sheet.proofs.put_lines.Tie as tie
 
 abbrev Inv-loop : tie.InvT-loop
-Inv-loop text₀ at letter lead none image p₀ i₀ text p i = Lining letter lead none image (linesIn letter lead none (length image) image) text₀ at text p i
+Inv-loop text₀ at letter lead none trail image p₀ i₀ text p i =
+    Lining letter lead none trail image (linesIn letter lead none trail (length image) image) text₀ at text p i
 
 abbrev μ-loop : tie.MeasureT-loop
-μ-loop text₀ at letter lead none image p₀ i₀ text p i = length image - i
+μ-loop text₀ at letter lead none trail image p₀ i₀ text p i = length image - i
 
 loop-holds : tie.Need-loop-holds Inv-loop μ-loop
 loop-holds c = lining-start (c .before .before .before .pre .0) (c .before .before .before .pre .1) refl
@@ -42,18 +43,17 @@ listed-requires c κs =
     (asks .0, asks .1)
 
 -- the record ends where the image does, or before
-record-ends : (c : tie.After-listed Inv-loop μ-loop)
-    → c .before .before .before .before .before .before .before .before .loop .i + (3 + c .before .before .before .before .before .before .before .before .before .before .before .before .args .lead + c .listed .result)
-    ≤ length (c .before .before .before .before .before .before .before .before .before .before .before .before .args .image .now)
+record-ends : (c : tie.After-listed Inv-loop μ-loop) → let k = c .before .before .before .before .before .before .before .before in
+    let s = k .before .before .before .before .args in k .loop .i + (3 + s .lead + s .trail + c .listed .result) ≤ length (s .image .now)
 record-ends c =
     let k = c .before .before .before .before .before .before .before .before in
     lining-most (k .loop .inv) (omega arith) (from (k .loop .i) (k .before .before .before .before .args .image .now)) (c .listed .ensures)
 
-add-i-2 : tie.Need-add-i-2 Inv-loop μ-loop
-add-i-2 c = let m = record-ends c in omega arith
-
 add-i-3 : tie.Need-add-i-3 Inv-loop μ-loop
 add-i-3 c = let m = record-ends c in omega arith
+
+add-i-4 : tie.Need-add-i-4 Inv-loop μ-loop
+add-i-4 c = let m = record-ends c in omega arith
 
 loop-less : tie.Need-loop-less Inv-loop μ-loop
 loop-less c = let m = record-ends c in omega arith
@@ -80,16 +80,18 @@ put-lines-spec =
     (λ c. search needs)
     (λ c. search needs)
     (λ c. search needs)
+    (λ c. search needs)
     part-put-line-start
     part-put-line-end
     put-line-requires
     (λ c. search needs)
     (λ c. search needs)
+    (λ c. search needs)
     part-listed-start
     part-listed-end
     listed-requires
-    add-i-2
     add-i-3
+    add-i-4
     loop-less
     loop-again
     same-length

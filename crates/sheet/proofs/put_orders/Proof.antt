@@ -37,15 +37,15 @@ found c =
 abbrev image : tie.Else1 → List ℕ
 image c = take (c .before .before .before .plan .result .value) (c .before .before .before .plan .last .1 .0)
 
-printed : (c : tie.Else1) → let e = ordersIn (image c) in lineIn 81 0 [] (image c) ++ linesIn 79 2 [] (length e) e ≡ judgedOrders (judge (c .before .before .before .before .before .before .before .args .book .now))
+printed : (c : tie.Else1) → let e = ordersIn (image c) in lineIn 81 0 [] 0 (image c) ++ linesIn 79 2 [] 0 (length e) e ≡ judgedOrders (judge (c .before .before .before .before .before .before .before .args .book .now))
 printed c = ap planLines (sym (found c .is)) ∙ planning-lines (c .before .before .before .before .before .before .before .args .book .now)
 
-room : (c : tie.Else1) → let e = ordersIn (image c) in Room (c .before .before .before .before .before .before .before .args .text .now) (c .before .before .before .before .before .before .before .args .at) (lineIn 81 0 [] (image c) ++ linesIn 79 2 [] (length e) e)
+room : (c : tie.Else1) → let e = ordersIn (image c) in Room (c .before .before .before .before .before .before .before .args .text .now) (c .before .before .before .before .before .before .before .args .at) (lineIn 81 0 [] 0 (image c) ++ linesIn 79 2 [] 0 (length e) e)
 room c = subst (Room (c .before .before .before .before .before .before .before .args .text .now) (c .before .before .before .before .before .before .before .args .at)) (sym (printed c)) (c .before .before .before .before .before .before .before .pre)
 
 -- the records behind the query's are in it
 behind : (c : tie.After-listed) → 3 + c .listed .result ≤ length (image (c .before .before .before .before .before .before .before))
-behind c = rw (c .listed .ensures) (listed-most 0 (image (c .before .before .before .before .before .before .before)) (found (c .before .before .before .before .before .before .before) .long))
+behind c = rw (c .listed .ensures) (listed-most 0 0 (image (c .before .before .before .before .before .before .before)) (found (c .before .before .before .before .before .before .before) .long))
 
 -- and they are what is lent
 lent : (c : tie.After-listed) → let k = c .before .before .before .before .before .before .before in take (length (image k) - (3 + c .listed .result)) (drop (3 + c .listed .result) (image k)) ≡ ordersIn (image k)
@@ -80,7 +80,7 @@ put-line-requires c κs =
     let k = c .before .before .before in
     let e = ordersIn (image k) in
     let a = k .before .before .before .before .before .before .before .args in
-    (omega arith, found k .long, room-first (a .text .now) (a .at) (lineIn 81 0 [] (image k)) (linesIn 79 2 [] (length e) e) (room k))
+    (omega arith, found k .long, room-first (a .text .now) (a .at) (lineIn 81 0 [] 0 (image k)) (linesIn 79 2 [] 0 (length e) e) (room k))
 
 listed-requires : tie.Need-listed-requires
 listed-requires c κs = (omega arith, found (c .before .before .before .before .before .before) .long)
@@ -105,7 +105,7 @@ put-lines-requires c κs =
     let l = c .before .before .before in
     let k = l .before .before .before .before .before .before .before in
     let e = ordersIn (image k) in
-    (omega arith, rw (lent l) (room-second (linesIn 79 2 [] (length e) e) (l .before .before .before .put-line .ensures) (room k)))
+    (omega arith, rw (lent l) (room-second (linesIn 79 2 [] 0 (length e) e) (l .before .before .before .put-line .ensures) (room k)))
 
 same-length-2 : tie.Need-same-length-2
 same-length-2 c = search needs
@@ -114,7 +114,7 @@ returns-2 : tie.Need-returns-2
 returns-2 c =
     let l = c .before .before .before .before .before .before in
     let k = l .before .before .before .before .before .before .before in
-    wrote-as (ap (λ (e : List ℕ). lineIn 81 0 [] (image k) ++ linesIn 79 2 [] (length e) e) (lent l) ∙ printed k)
+    wrote-as (ap (λ (e : List ℕ). lineIn 81 0 [] 0 (image k) ++ linesIn 79 2 [] 0 (length e) e) (lent l) ∙ printed k)
     (wrote-append (l .before .before .before .put-line .ensures) (c .before .before .put-lines .ensures))
 
 pub put-orders-spec : {M : Type 1} → statement M

@@ -10,12 +10,12 @@ put-byte-requires c κs = search needs
 
 put-field-requires : tie.Need-put-field-requires
 put-field-requires c κs =
-    let k = c .before .before .before .before .before .before in
-    room-fields (field (k .args .rounds)) (c .before .before .before .put-byte .ensures) (k .pre)
+    let k = c .before .before .before .before .before .before .before in
+    room-fields (field (k .args .rounds)) (c .before .before .before .before .put-byte .ensures) (k .pre)
 
 put-byte-requires-2 : tie.Need-put-byte-requires-2
 put-byte-requires-2 c κs =
-    let letter = c .before .before .before .before .before .before .before in
+    let letter = c .before .before .before .before .before .before .before .before in
     room-newline _ (letter .put-byte .ensures) (letter .before .before .before .pre) (c .before .before .before .put-field .ensures)
 
 same-length : tie.Need-same-length
@@ -23,8 +23,8 @@ same-length c = search needs
 
 returns : tie.Need-returns
 returns c =
-    let letter = c .before .before .before .before .before .before .before .before .before .before .put-byte .ensures in
-    wrote-line letter (c .before .before .before .before .before .before .put-field .ensures) (c .before .before .put-byte2 .ensures)
+    let number = c .before .before .before .before .before .before in
+    wrote-line (number .before .before .before .before .before .put-byte .ensures) (number .put-field .ensures) (c .before .before .put-byte2 .ensures)
 
 pub put-rounds-spec : {M : Type 1} → statement M
-put-rounds-spec = tie.close (tie.spec put-byte-requires put-field-requires put-byte-requires-2 same-length returns)
+put-rounds-spec = tie.close (tie.spec put-byte-requires (λ c. search needs) put-field-requires put-byte-requires-2 same-length returns)

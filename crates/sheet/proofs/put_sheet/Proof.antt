@@ -46,12 +46,12 @@ roundsIn c = line 82 (field (c .before .before .before .analyse .result .rounds)
 abbrev orders : tie.Else1 → List ℕ
 orders c = judgedOrders (judge (c .before .before .before .before .before .before .args .book .now))
 
-printed : (c : tie.Else1) → linesIn 67 1 none· (length (image c)) (image c) ++ (roundsIn c ++ orders c) ≡ judgedSheet (judge (c .before .before .before .before .before .before .args .book .now))
+printed : (c : tie.Else1) → linesIn 67 1 none· 1 (length (image c)) (image c) ++ (roundsIn c ++ orders c) ≡ judgedSheet (judge (c .before .before .before .before .before .before .args .book .now))
 printed c = ap (λ (o : Outcome). tableLines o (orders c)) (sym (found c .is)) ∙ analysis-lines (c .before .before .before .before .before .before .args .book .now)
 
 -- the text has room for it
 room : (c : tie.After-put-lines-arg) → let k = c .before in
-    Room (k .before .before .before .before .before .before .args .text .now) 0 (linesIn 67 1 none· (length (image k)) (image k) ++ (roundsIn k ++ orders k))
+    Room (k .before .before .before .before .before .before .args .text .now) 0 (linesIn 67 1 none· 1 (length (image k)) (image k) ++ (roundsIn k ++ orders k))
 room c =
     let k = c .before in
     let s = k .before .before .before .before .before .before .args .book .now in
@@ -86,7 +86,7 @@ slice-aggregate-put-lines-2 c = found (c .before .before .before) .size
 put-lines-requires : tie.Need-put-lines-requires
 put-lines-requires c κs =
     let k = c .before .before .before in
-    (omega arith, room-first (k .before .before .before .before .before .before .args .text .now) 0 (linesIn 67 1 none· (length (image k)) (image k)) (roundsIn k ++ orders k) (room (c .before .before)))
+    (omega arith, room-first (k .before .before .before .before .before .before .args .text .now) 0 (linesIn 67 1 none· 1 (length (image k)) (image k)) (roundsIn k ++ orders k) (room (c .before .before)))
 
 put-rounds-requires : tie.Need-put-rounds-requires
 put-rounds-requires c κs =

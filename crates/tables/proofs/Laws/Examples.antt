@@ -4,16 +4,17 @@ use mathlib.Core.Path.{_≡_, refl}
 use mathlib.Core.Bool.{false}
 use mathlib.Core.List.{List, [], _∷_}
 use Prim.Native.Nat.{ℕ}
+use Rattle.masks.specs.Lists.{howMany}
 use Rattle.masks.specs.Constraint.{drops, least, written, minimise}
 use Rattle.book.specs.Book.{Call, Mode, Clause, Book}
 use Rattle.book.specs.Table.{Table}
 use Rattle.book.proofs.Laws.Examples.{k1-book}
 use Rattle.ordering.proofs.Laws.Brought.{computing}
-use Rattle.tables.specs.Table.{modeOf, firstNeeds, start, own, defined, good, gets, next, step, table, settled, patternsOf, seek, rounds, final}
+use Rattle.tables.specs.Table.{modeOf, firstNeeds, start, own, defined, good, gets, next, step, table, settled, roundsBound, seek, rounds, final}
 use Rattle.tables.specs.Image.{image}
 
 unfoldable pub compute : Unit {0}
-unfolding computing drops least written minimise k1-book modeOf firstNeeds start own defined good gets next step table settled patternsOf seek rounds final
+unfolding computing drops least written minimise k1-book modeOf firstNeeds start own defined good gets next step table settled roundsBound seek rounds final
 compute = tt
 
 -- ---- books
@@ -159,7 +160,7 @@ rows-hold =
 
 -- ---- an image
 
--- "for each predicate in turn CN, predicate, n, n masks"
-pub k1-image : image k1-book ≡ 67 ∷ 78 ∷ 0 ∷ 1 ∷ 0 ∷ 67 ∷ 78 ∷ 1 ∷ 1 ∷ 1 ∷ 67 ∷ 78 ∷ 2 ∷ 1 ∷ 1 ∷ 67 ∷ 78 ∷ 3 ∷ 1 ∷ 1 ∷ []
-unfolding compute image
+-- "for each predicate in turn CN, predicate, n, n masks", and W5: "how many patterns each final constraint admits", 2, 2, 1 and 1
+pub k1-image : image k1-book ≡ 67 ∷ 78 ∷ 0 ∷ 1 ∷ 0 ∷ 2 ∷ 67 ∷ 78 ∷ 1 ∷ 1 ∷ 1 ∷ 2 ∷ 67 ∷ 78 ∷ 2 ∷ 1 ∷ 1 ∷ 1 ∷ 67 ∷ 78 ∷ 3 ∷ 1 ∷ 1 ∷ 1 ∷ []
+unfolding compute image howMany
 k1-image = refl

@@ -3,28 +3,29 @@ use mathlib.Core.Path.{_≡_, refl, sym, ap, ap₂, _∙_}
 use mathlib.Core.Bool.{true, false, cond}
 use mathlib.Core.List.{List, [], _∷_, _++_}
 use mathlib.Core.Option.{none, some}
-use Prim.Native.Nat.{ℕ, _+_, _<_}
+use Prim.Native.Nat.{ℕ, _+_, _^_, _≤_, _<_}
 use native.Mathlib.Numerals.{add-one}
 use native.Mathlib.Omega.{arith}
 use lib.Dec.{eqb}
-use lib.ListN.{length, set, length-set}
+use lib.ListN.{length, getD, set, length-set}
 use lib.Seq.{getD-set-same, getD-set-other}
 use borrow.Author.Tests.{eqb-true, eqb-false, eq-eqb, ne-eqb}
 use Rattle.masks.specs.Mask.{within}
 use Rattle.masks.specs.Set.{bitAt, members}
 use Rattle.masks.specs.Patterns.{EachLane}
-use Rattle.masks.specs.Constraint.{trivial, admits, inRange, isWritten, minimise}
+use Rattle.masks.specs.Constraint.{trivial, admits, fitting, inRange, isWritten, minimise}
 use Rattle.masks.proofs.Laws.Constraint.{minimise-same}
-use Rattle.masks.specs.Lists.{values}
+use Rattle.masks.specs.Lists.{values, howMany}
 use Rattle.masks.proofs.Laws.Logic.{byBool, or-left}
 use Rattle.masks.proofs.Laws.Mask.{within-zero}
 use Rattle.masks.proofs.Laws.Set.{bitAt-zero}
+use Rattle.masks.proofs.Laws.Counts.{fitting-word}
 use Rattle.masks.proofs.Laws.Patterns.{ones, bitAt-ones}
 use Rattle.masks.proofs.Laws.Sets.{members-none, members-zero}
 use Rattle.masks.proofs.Laws.Lists.{values-cong, getD-values}
 use Rattle.book.specs.Limits.{maxPredicates}
 use Rattle.book.specs.Held.{hasIn, masksIn, modeBytes, modeAt, modesOf}
-use Rattle.book.specs.Table.{Table, entryIn, tableIn, Admitted}
+use Rattle.book.specs.Table.{Table, entryIn, tableIn, Admitted, LowArities}
 use Rattle.book.specs.Sets.{Cleared}
 use Rattle.book.proofs.Laws.Held.{modesOf-joined}
 use Rattle.writing.proofs.Laws.Chunks.{Chunks}
@@ -115,11 +116,24 @@ trivial-full a l = bitAt-ones a l ∙ sym (ap (λ (c : List ℕ). admits c a) tr
 -- ---- the image
 
 -- of the first n constraints, row by row
-pub rows-chunks : (table : List ℕ) (n : ℕ) → Chunks n (rows (tableIn table n)) (λ i. row i (entryIn table i)) (rows (tableIn table n) n)
-unfolding tableIn
-rows-chunks table n =
-    record {
-      none = refl;
-      next = λ i h. rw add-one (ap (λ (c : List ℕ). rows (values (entryIn table) n) i ++ row i c) (getD-values (entryIn table) [] n i h));
-      whole = refl;
-    }
+module _ (arities table : List ℕ) (n : ℕ) where
+  abbrev pub rowsTo : ℕ → List ℕ
+  rowsTo i = rows arities (tableIn table n) i
+
+  abbrev pub rowHeld : ℕ → List ℕ
+  rowHeld i = row i (entryIn table i) (fitting (getD arities i 0) (entryIn table i))
+
+  pub rows-chunks : Chunks n rowsTo rowHeld (rowsTo n)
+  unfolding tableIn
+  rows-chunks =
+      record {
+        none = refl;
+        next = λ i h. rw add-one (ap (λ (c : List ℕ). rowsTo i ++ row i c (fitting (getD arities i 0) c)) (getD-values (entryIn table) [] n i h));
+        whole = refl;
+      }
+
+  -- the count of a row is that of the patterns held, whatever the word
+  pub row-held : (words : List ℕ) {p m : ℕ} → LowArities n arities → Admitted table words → n ≤ maxPredicates → p < n
+      → m ≡ howMany (bitAt (getD words p 0)) (2 ^ getD arities p 0) → row p (entryIn table p) m ≡ rowHeld p
+  row-held words {p} low f few h e =
+      ap (row p (entryIn table p)) (e ∙ fitting-word (entryIn table p) (getD words p 0) (getD arities p 0) (low p h) (f p (omega arith)))

@@ -1,37 +1,61 @@
--- The image of a table: its rows one after the other. A constraint of the final table has at most 20 masks, all of six positions, so a row has at most 24
+-- The image of a table: its rows one after the other. A constraint of the final table has at most 20 masks, all of six positions, so a row has at most 25
 -- bytes, and there are at most 64 rows. Assumes nothing.
 use mathlib.Core.Path.{_≡_, refl, ap}
 use mathlib.Core.Bool.{true}
-use mathlib.Core.List.{List, _++_}
-use Prim.Native.Nat.{ℕ, zero, suc, _*_, _^_, _≤_, _<_}
+use mathlib.Core.List.{List, [], _∷_}
+use Prim.Native.Nat.{ℕ, zero, suc, _+_, _*_, _^_, _≤_, _<_}
 use native.Mathlib.Nat.{pow-le-pow-right}
 use native.Mathlib.Omega.{arith}
 use lib.ListN.{length, getD, length-append}
 use borrow.Author.Tests.{leb-true}
 use Rattle.masks.specs.Limits.{maxMasks, allPatterns}
-use Rattle.masks.specs.Lists.{joined}
-use Rattle.masks.specs.Constraint.{inRange}
+use Rattle.masks.specs.Constraint.{fitting, inRange}
 use Rattle.book.specs.Limits.{maxPredicates, longestTable}
 use Rattle.book.specs.Book.{Book}
 use Rattle.book.specs.Encode.{WellFormed}
 use Rattle.book.specs.Table.{Table, entry}
 use Rattle.tables.specs.Table.{final}
-use Rattle.tables.specs.Image.{row, rows, image}
+use Rattle.tables.specs.Image.{row, countOf, rows, image}
+use Rattle.masks.proofs.Laws.Lists.{joined-cong}
 use Rattle.masks.proofs.Laws.Chains.{at-most-twenty}
 use Rattle.masks.proofs.Laws.Constraint.{inRange-mono, written-inRange}
 use Rattle.tables.proofs.Laws.Valid.{arity-low}
 use Rattle.tables.proofs.Laws.Rounds.{final-proper}
 
--- "for each predicate in turn"
-pub rows-joined : (T : Table) (n : ℕ) → rows T n ≡ joined (λ p. row p (entry T p)) n
-rows-joined T zero = refl
-rows-joined T (suc n) = ap (λ (l : List ℕ). l ++ row n (entry T n)) (rows-joined T n)
+pub row-length : (p : ℕ) (masks : List ℕ) (count : ℕ) → length (row p masks count) ≡ 5 + length masks
+row-length p masks count = omega (arith, length-append masks (count ∷ []))
 
--- "CN, predicate, n, n masks": at most 24 bytes
-rows-length : (T : Table) (n : ℕ) → ((p : ℕ) → p < n → length (entry T p) ≤ maxMasks) → length (rows T n) ≤ 24 * n
-rows-length T zero h = omega arith
-rows-length T (suc n) h =
-    omega (arith, rows-length T n (λ p l. h p (omega arith)), h n (omega arith), length-append (rows T n) (row n (entry T n)))
+-- "for each predicate in turn CN, predicate, n, n masks", and the count: at most 25 bytes each
+rows-length : (arities : List ℕ) (T : Table) (n : ℕ) → ((p : ℕ) → p < n → length (entry T p) ≤ maxMasks) → length (rows arities T n) ≤ 25 * n
+rows-length arities T zero h = omega arith
+rows-length arities T (suc n) h =
+    omega (
+      arith,
+      rows-length arities T n (λ p l. h p (omega arith)),
+      h n (omega arith),
+      row-length n (entry T n) (countOf arities T n),
+      length-append (rows arities T n) (row n (entry T n) (countOf arities T n)),
+    )
+
+module _ (arities others : List ℕ) (T : Table) where
+  -- whatever the arities, the image is as long
+  pub rows-size : (n : ℕ) → length (rows arities T n) ≡ length (rows others T n)
+  rows-size zero = refl
+  rows-size (suc n) =
+      omega (
+        arith,
+        rows-size n,
+        row-length n (entry T n) (countOf arities T n),
+        row-length n (entry T n) (countOf others T n),
+        length-append (rows arities T n) (row n (entry T n) (countOf arities T n)),
+        length-append (rows others T n) (row n (entry T n) (countOf others T n)),
+      )
+
+  -- of the first n alone it depends
+  pub rows-same : (n : ℕ) → ((p : ℕ) → p < n → getD arities p 0 ≡ getD others p 0) → rows arities T n ≡ rows others T n
+  rows-same n h =
+      joined-cong (λ p. row p (entry T p) (countOf arities T p)) (λ p. row p (entry T p) (countOf others T p)) n
+      (λ p l. ap (λ (k : ℕ). row p (entry T p) (fitting k (entry T p))) (h p l))
 
 module _ (B : Book) (w : WellFormed B) where
   patterns-few : (p : ℕ) → 2 ^ getD (B .arities) p 0 ≤ allPatterns
@@ -51,4 +75,4 @@ module _ (B : Book) (w : WellFormed B) where
   unfolding image
   table-length =
       let n = length (B .arities) in
-      omega (arith, rows-length (final B) n final-few, leb-true n maxPredicates (w .fewPredicates))
+      omega (arith, rows-length (B .arities) (final B) n final-few, leb-true n maxPredicates (w .fewPredicates))

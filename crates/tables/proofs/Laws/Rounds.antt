@@ -12,18 +12,20 @@ use lib.ListN.{length, getD}
 use lib.Seq.{ext-getD}
 use borrow.Author.Tests.{eqb-true, eqb-false, leb-true}
 use Rattle.masks.specs.Limits.{allPatterns}
+use Rattle.masks.specs.Lists.{howMany}
 use Rattle.masks.specs.Constraint.{admits, isWritten, minimise, sameMasks}
 use Rattle.masks.proofs.Laws.Logic.{byBool, clash, false-of, same, and-intro, and-left, and-right, byRange}
 use Rattle.masks.proofs.Laws.Lists.{length-values, getD-values}
 use Rattle.masks.proofs.Laws.Constraint.{sameMasks-true, sameMasks-refl, inRange-mono, canonical, written-isWritten, written-mono, written-admits, minimise-isWritten-at, admits-minimise}
 use Rattle.masks.proofs.Laws.Joining.{power-le}
+use Rattle.masks.proofs.Laws.Counts.{howMany-most}
 use Rattle.book.specs.Limits.{maxPredicates}
 use Rattle.book.specs.Book.{Book}
 use Rattle.book.specs.Encode.{WellFormed}
 use Rattle.book.specs.Table.{Table, entry}
 use Rattle.ordering.proofs.Laws.Adorn.{More, more-refl}
-use Rattle.tables.specs.Table.{declared, firstNeeds, start, defined, good, gets, step, table, sameTable, settled, sumBelow, patternsOf, seek, rounds, final}
-use Rattle.tables.proofs.Laws.Sums.{sum-le, sum-stuck, sum-most, howMany, howMany-le, howMany-most, howMany-stuck}
+use Rattle.tables.specs.Table.{declared, firstNeeds, start, defined, good, gets, step, table, sameTable, settled, sumBelow, roundsBound, seek, rounds, final}
+use Rattle.tables.proofs.Laws.Sums.{sum-le, sum-stuck, sum-most, howMany-le, howMany-stuck}
 use Rattle.tables.proofs.Laws.Valid.{arity-low, declared-low}
 use Rattle.tables.proofs.Laws.Round.{past-none, more-trans, good-more, gets-good, good-gets, gets-more, step-length, step-defined, step-outside, step-sound}
 
@@ -68,8 +70,8 @@ weight B T p = cond (defined (B .clauses) p) (howMany (admits (entry T p)) (2 ^ 
 mass : Book → Table → ℕ
 mass B T = sumBelow (weight B T) (length (B .arities))
 
-mass-most : (B : Book) (T : Table) → mass B T ≤ patternsOf B
-unfolding mass patternsOf weight
+mass-most : (B : Book) (T : Table) → mass B T ≤ roundsBound B
+unfolding mass roundsBound weight
 mass-most B T =
     sum-le (weight B T) (λ p. cond (defined (B .clauses) p) (2 ^ getD (B .arities) p 0) 0) (length (B .arities)) (λ p l. go p (defined (B .clauses) p))
   where
@@ -164,12 +166,12 @@ module _ (B : Book) where
   -- FINAL, the third part: no smaller k will do
   pub rounds-least : (j : ℕ) → j < rounds B → settled B j ≡ false
   unfolding rounds
-  rounds-least j l = seek-least (patternsOf B) 0 j (omega arith) l
+  rounds-least j l = seek-least (roundsBound B) 0 j (omega arith) l
 
-  -- at most as many rounds as the predicates with clauses have patterns
-  pub rounds-most : rounds B ≤ patternsOf B
+  -- W5: at most as many rounds as the predicates with clauses have patterns
+  pub rounds-most : rounds B ≤ roundsBound B
   unfolding rounds
-  rounds-most = omega (arith, seek-near (patternsOf B) 0)
+  rounds-most = omega (arith, seek-near (roundsBound B) 0)
 
   -- ---- a book that is well formed
 
@@ -246,7 +248,7 @@ module _ (B : Book) where
     -- FINAL: the rounds settle the table, so the final one is its own next
     pub rounds-settled : settled B (rounds B) ≡ true
     unfolding rounds
-    rounds-settled = seek-settled (patternsOf B) 0 (mass-most B (table B 0))
+    rounds-settled = seek-settled (roundsBound B) 0 (mass-most B (table B 0))
 
     pub final-fixed : step B (final B) ≡ final B
     unfolding final
@@ -296,17 +298,20 @@ module _ (B : Book) where
     greatest X x s f = greatest-table X x s f (rounds B)
 
     -- at most 64 predicates of at most six positions
-    pub rounds-few : rounds B ≤ 4096
-    unfolding patternsOf
-    rounds-few =
+    pub bound-most : roundsBound B ≤ 4096
+    unfolding roundsBound
+    bound-most =
         let n = leb-true (length (B .arities)) maxPredicates (w .fewPredicates) in
-        let m : patternsOf B ≤ length (B .arities) * 64 =
+        let m : roundsBound B ≤ length (B .arities) * 64 =
         sum-most (λ p. cond (defined (B .clauses) p) (2 ^ getD (B .arities) p 0) 0) 64 (length (B .arities)) (λ p. go p (defined (B .clauses) p)) in
-        omega (arith, rounds-most, m, n)
+        omega (arith, m, n)
       where
         go : (p : ℕ) (b : Bool) → cond b (2 ^ getD (B .arities) p 0) 0 ≤ 64
         go p true = pow-le-pow-right (omega arith) (arity-low B w p)
         go p false = omega arith
+
+    pub rounds-few : rounds B ≤ 4096
+    rounds-few = omega (arith, rounds-most, bound-most)
 
 -- ---- a loop of rounds: T is table k, and none before it was settled
 

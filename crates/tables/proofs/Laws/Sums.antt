@@ -9,10 +9,11 @@ use native.Mathlib.Omega.{arith}
 use lib.Dec.{eqb}
 use lib.ListN.{length, length-append}
 use borrow.Author.Tests.{eqb-true, eqb-false, ne-eqb}
-use Rattle.masks.specs.Lists.{below, joined}
+use Rattle.masks.specs.Lists.{below, howMany, joined}
 use Rattle.ordering.specs.Adorn.{bit}
 use Rattle.tables.specs.Table.{sumBelow}
 use Rattle.masks.proofs.Laws.Logic.{byBool}
+use Rattle.masks.proofs.Laws.Counts.{howMany-yes, howMany-no, howMany-most, none-pass}
 use Rattle.ordering.proofs.Laws.Adorn.{bit-mono}
 
 pub sum-le : (f g : ℕ → ℕ) (n : ℕ) → ((i : ℕ) → i < n → f i ≤ g i) → sumBelow f n ≤ sumBelow g n
@@ -58,8 +59,14 @@ sum-times c f (suc n) = omega (arith, sum-times c f n, mul-add c (sumBelow f n) 
 
 -- ---- how many numbers below n pass a test
 
-pub howMany : (ℕ → Bool) → ℕ → ℕ
-howMany q n = sumBelow (λ a. bit (q a)) n
+pub howMany-sum : (q : ℕ → Bool) (n : ℕ) → howMany q n ≡ sumBelow (λ a. bit (q a)) n
+unfolding howMany
+howMany-sum q zero = refl
+howMany-sum q (suc n) = length-append (below q n) (cond (q n) (n ∷ []) []) ∙ ap₂ _+_ (howMany-sum q n) (go (q n))
+  where
+    go : (b : Bool) → length {A = ℕ} (cond b (n ∷ []) []) ≡ bit b
+    go true = refl
+    go false = refl
 
 bit-inj : (a b : Bool) → bit a ≡ bit b → a ≡ b
 bit-inj true true e = refl
@@ -67,45 +74,43 @@ bit-inj true false e = absurd (omega arith)
 bit-inj false true e = absurd (omega arith)
 bit-inj false false e = refl
 
-pub howMany-le : (q r : ℕ → Bool) (n : ℕ) → ((a : ℕ) → q a ≡ true → r a ≡ true) → howMany q n ≤ howMany r n
-unfolding howMany
-howMany-le q r n h = sum-le (λ a. bit (q a)) (λ a. bit (r a)) n (λ a l. bit-mono (q a) (r a) (h a))
+module _ (q r : ℕ → Bool) (n : ℕ) (h : (a : ℕ) → q a ≡ true → r a ≡ true) where
+  pub howMany-le : howMany q n ≤ howMany r n
+  howMany-le = omega (arith, howMany-sum q n, howMany-sum r n, sum-le (λ a. bit (q a)) (λ a. bit (r a)) n (λ a l. bit-mono (q a) (r a) (h a)))
 
-pub howMany-most : (q : ℕ → Bool) (n : ℕ) → howMany q n ≤ n
-unfolding howMany
-howMany-most q zero = omega arith
-howMany-most q (suc n) = omega (arith, howMany-most q n, bit-mono (q n) true (λ e. refl))
-
-pub howMany-stuck : (q r : ℕ → Bool) (n : ℕ) → ((a : ℕ) → q a ≡ true → r a ≡ true) → howMany r n ≤ howMany q n → (a : ℕ) → a < n → q a ≡ r a
-unfolding howMany
-howMany-stuck q r n h e a l =
-    bit-inj (q a) (r a) (sum-stuck (λ a. bit (q a)) (λ a. bit (r a)) n (λ x m. bit-mono (q x) (r x) (h x)) e a l)
+  pub howMany-stuck : howMany r n ≤ howMany q n → (a : ℕ) → a < n → q a ≡ r a
+  howMany-stuck e a l =
+      bit-inj (q a) (r a)
+      (sum-stuck (λ a. bit (q a)) (λ a. bit (r a)) n (λ x m. bit-mono (q x) (r x) (h x)) (omega (arith, howMany-sum q n, howMany-sum r n)) a l)
 
 -- a sum of terms that are at most c, and 0 where the test fails
 pub howMany-times : (c : ℕ) (q : ℕ → Bool) (f : ℕ → ℕ) (n : ℕ) → ((i : ℕ) → i < n → f i ≤ c * bit (q i)) → sumBelow f n ≤ c * howMany q n
-unfolding howMany
-howMany-times c q f n h = omega (arith, sum-le f (λ i. c * bit (q i)) n h, sum-times c (λ i. bit (q i)) n)
+howMany-times c q f n h = rw (howMany-sum q n) (omega (arith, sum-le f (λ i. c * bit (q i)) n h, sum-times c (λ i. bit (q i)) n))
 
--- none below x is x, and one at all
-howMany-none : (x n : ℕ) → n ≤ x → howMany (eqb x) n ≡ 0
-unfolding howMany
-howMany-none x zero h = refl
-howMany-none x (suc n) h = let ne : x ≡ n → ⊥ = λ e. omega arith in omega (arith, howMany-none x n (omega arith), ap bit (ne-eqb x n ne))
-
+-- at most one number is x
 howMany-one : (x n : ℕ) → howMany (eqb x) n ≤ 1
-unfolding howMany
-howMany-one x zero = omega arith
+howMany-one x zero = omega (arith, howMany-most (eqb x) 0)
 howMany-one x (suc n) =
     byBool (eqb x n)
-    (λ t. let e = eqb-true x n t in omega (arith, howMany-none x n (omega arith), ap bit t))
-    (λ t. omega (arith, howMany-one x n, ap bit t))
+    (λ t.
+    let e = eqb-true x n t in
+    omega (arith, howMany-yes (eqb x) n t, none-pass (eqb x) n (λ a l. ne-eqb x a (λ z. omega arith))))
+    (λ t. omega (arith, howMany-one x n, howMany-no (eqb x) n t))
 
 -- each of m numbers has one value of h: counted for each value below n, they are m at most
 pub howMany-parted : (h : ℕ → ℕ) (n m : ℕ) → sumBelow (λ p. howMany (λ k. eqb (h k) p) m) n ≤ m
-unfolding howMany
-howMany-parted h n zero = omega (arith, sum-most (λ p. 0) 0 n (λ p. omega arith))
+howMany-parted h n zero =
+    omega (arith, sum-le (λ p. howMany (λ k. eqb (h k) p) 0) (λ p. 0) n (λ p l. howMany-most (λ k. eqb (h k) p) 0), sum-most (λ p. 0) 0 n (λ p. omega arith))
 howMany-parted h n (suc m) =
-    omega (arith, sum-add (λ p. howMany (λ k. eqb (h k) p) m) (λ p. bit (eqb (h m) p)) n, howMany-parted h n m, howMany-one (h m) n)
+    omega (
+      arith,
+      sum-cong (λ p. howMany (λ k. eqb (h k) p) (suc m)) (λ p. howMany (λ k. eqb (h k) p) m + bit (eqb (h m) p)) n
+          (λ p l. howMany-sum (λ k. eqb (h k) p) (suc m) ∙ ap (λ (i : ℕ). i + bit (eqb (h m) p)) (sym (howMany-sum (λ k. eqb (h k) p) m))),
+      sum-add (λ p. howMany (λ k. eqb (h k) p) m) (λ p. bit (eqb (h m) p)) n,
+      howMany-parted h n m,
+      howMany-sum (eqb (h m)) n,
+      howMany-one (h m) n,
+    )
 
 -- the same number for each that does
 pub sum-each : (c : ℕ) (q : ℕ → Bool) (n : ℕ) → sumBelow (λ a. cond (q a) c 0) n ≡ c * length (below q n)

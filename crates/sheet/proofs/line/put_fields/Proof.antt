@@ -1,28 +1,30 @@
--- `sheet::line::put_fields` meets its contract. The loop's invariant: the first i fields are written. Assumes nothing.
+-- `sheet::line::put_fields` meets its contract. The loop's invariant: the first i numbers are written. Assumes nothing.
 use Prim.Native.Nat.{_-_}
 use native.Mathlib.Omega.{arith}
 use lib.ListN.{length}
 use Rattle.book.specs.Encode.{run}
-use Rattle.printing.specs.Sheet.{field}
+use Rattle.printing.specs.Sheet.{after}
 use Rattle.writing.proofs.Laws.Chunks.{Writing, writing-start, writing-length, writing-room, writing-next, writing-end}
 use Rattle.sheet.proofs.Laws.Lines.{fieldsTo, fieldAt, fields-chunks}
 use Rattle.sheet.proofs.line.put_fields.Statement.{statement}
 use Rattle.sheet.proofs.line.put_fields.Tie as tie
 
 abbrev Inv-loop : tie.InvT-loop
-Inv-loop out₀ at list p₀ i₀ out p i = Writing (length list) (fieldsTo list) (fieldAt list) (run field list) out₀ at i out p
+Inv-loop out₀ at part list p₀ i₀ out p i = Writing (length list) (fieldsTo part list) (fieldAt part list) (run (after part) list) out₀ at i out p
 
 abbrev μ-loop : tie.MeasureT-loop
-μ-loop out₀ at list p₀ i₀ out p i = length list - i
+μ-loop out₀ at part list p₀ i₀ out p i = length list - i
 
 loop-holds : tie.Need-loop-holds Inv-loop μ-loop
-loop-holds c = writing-start (fields-chunks (c .before .before .args .list .now)) (c .before .before .pre)
+loop-holds c =
+    let k = c .before .before .before in
+    writing-start (fields-chunks (k .args .part .now) (k .args .list .now)) (k .pre)
 
 shared-slice-read-put-field : tie.Need-shared-slice-read-put-field Inv-loop μ-loop
 shared-slice-read-put-field c = omega arith
 
 cast-put-field : tie.Need-cast-put-field Inv-loop μ-loop
-cast-put-field c = omega (arith, c .shared-slice-known2 .given (c .before .before .before .loop .i))
+cast-put-field c = omega (arith, c .shared-slice-known3 .given (c .before .before .before .loop .i))
 
 put-field-requires : tie.Need-put-field-requires Inv-loop μ-loop
 put-field-requires c κs = writing-room (c .before .before .before .loop .inv) (omega arith)

@@ -24,7 +24,7 @@ returns c =
 
 put-fields-requires : tie.Need-put-fields-requires
 put-fields-requires c κs =
-    let s = c .before .before .before .before .before .args in
+    let s = c .before .before .before .before .before .before .args in
     let e = ap length (listing-some (s .none .now) (s .list .now) (λ z. absurd (omega arith))) in
     omega arith
 
@@ -33,10 +33,10 @@ same-length-2 c = search needs
 
 returns-2 : tie.Need-returns-2
 returns-2 c =
-    let s = c .before .before .before .before .before .before .before .before .args in
+    let s = c .before .before .before .before .before .before .before .before .before .args in
     wrote-as (sym (listing-some (s .none .now) (s .list .now) (λ z. absurd (omega arith)))) (c .before .before .put-fields .ensures)
 
 pub put-listing-spec : {M : Type 1} → statement M
 put-listing-spec =
     tie.close
-    (tie.spec put-bytes-requires same-length returns put-fields-requires same-length-2 returns-2)
+    (tie.spec put-bytes-requires same-length returns (λ c. search needs) put-fields-requires same-length-2 returns-2)
