@@ -140,7 +140,7 @@ pub record Demand2 (s : List ℕ) (B : Book) : Type 0 where
   pub settled : table B (suc (rounds B)) ≡ table B (rounds B)
   pub least : (k : ℕ) → table B (suc k) ≡ table B k → rounds B ≤ k
   -- W5, "How long can the analysis go on": "the rounds are at most the sum, over the predicates with clauses, of 2 to the power of the arity", and that is at
-  -- most 4,096
+  -- most 4,096. `rounds` looks no further than this sum; that it finds them there is `settled`
   pub bound : rounds B ≤ roundsBound B
   pub boundMost : roundsBound B ≤ 4096
   -- "how many patterns each final constraint admits": the count of p is that of the patterns of its arity that its constraint in the final table admits; 0

@@ -85,19 +85,19 @@ pub fn put_image<'a>(
     let mut p: u8 = 0;
     while p < preds {
         let i = p as usize;
-        let n = fitting(admits[i], arities[i]);
-        at = put_row(out, at, p, table[i], n);
+        let fit = fitting(admits[i], arities[i]);
+        at = put_row(out, at, p, table[i], fit);
         p += 1;
     }
     at
 }
 
-// One row of it.
-fn put_row(out: &mut [u8], at: usize, p: u8, masks: u64, n: u8) -> usize
-    requires { ⌜ Room (now out) at (row p (members masks) n) ⌝ }
-    ensures { λ r. ⌜ Wrote (now (out .entry)) (now (out .exit)) at r (row p (members masks) n) ⌝ }
+// One row of it; so many patterns fit.
+fn put_row(out: &mut [u8], at: usize, p: u8, masks: u64, fit: u8) -> usize
+    requires { ⌜ Room (now out) at (row p (members masks) fit) ⌝ }
+    ensures { λ r. ⌜ Wrote (now (out .entry)) (now (out .exit)) at r (row p (members masks) fit) ⌝ }
 {
     let q = put_mark(out, at, b"CN");
     let r = put_constraint(out, q, p, masks);
-    put_byte(out, r, n)
+    put_byte(out, r, fit)
 }

@@ -22,10 +22,10 @@ use Rattle.choices.specs.Choice.{clause, Choice, IsChoice, queryCalls, c
 use Rattle.choices.specs.Reached.{Marks, marked, marksOf, nextCalls, allMarked, withCalls, grown, reached}
 use Rattle.masks.proofs.Laws.Logic.{byBool, byRange, clash, same, and-intro, and-left, and-right, or-left, or-right, or-case}
 use Rattle.masks.proofs.Laws.Lists.{any-append, any-joined, joined-any, length-values, getD-values}
-use Rattle.masks.proofs.Laws.Counts.{howMany-most}
+use Rattle.masks.proofs.Laws.Counts.{howMany-most, howMany-le, howMany-stuck}
 use Rattle.ordering.proofs.Laws.Steps.{pattern-small}
 use Rattle.ordering.proofs.Laws.Asks.{called-case, called-first, asks-each}
-use Rattle.tables.proofs.Laws.Sums.{sum-stuck, sum-most, howMany-le, howMany-stuck}
+use Rattle.tables.proofs.Laws.Sums.{sum-stuck, sum-most}
 use Rattle.tables.proofs.Laws.Valid.{arity-low, goal-known, goal-size, goals-fit}
 
 -- ---- a mark for each pattern below w of each of n predicates
@@ -190,8 +190,8 @@ module _ (B : Book) (χ : Choice) where
   markCount-stuck M N h e p a l m =
       let row : howMany (marked M p) allPatterns ≡ howMany (marked N p) allPatterns =
       sum-stuck (λ q. howMany (marked M q) allPatterns) (λ q. howMany (marked N q) allPatterns) (length (B .arities))
-      (λ q _. howMany-le (marked M q) (marked N q) allPatterns (h q)) e p l in
-      howMany-stuck (marked M p) (marked N p) allPatterns (h p) (omega arith) a m
+      (λ q _. howMany-le (marked M q) (marked N q) (h q) allPatterns) e p l in
+      howMany-stuck (marked M p) (marked N p) (h p) allPatterns (omega arith) a m
 
   -- ---- and so the marks end closed
 

@@ -1,14 +1,14 @@
--- How many numbers below n pass a test: none, all, and no more than n. Of a word they are bits that are set; and how many patterns of an arity a constraint
--- admits tells whether it is ill or trivial. Assumes nothing.
+-- How many numbers below n pass a test: none, all, no more than n, no more than pass a weaker one. Of a word they are bits that are set; and how many patterns
+-- of an arity a constraint admits tells whether it is ill or trivial. Assumes nothing.
 use mathlib.Core.Path.{_≡_, refl, sym, ap, _∙_}
-use mathlib.Core.Bool.{Bool, true, false, _&&_, and-true, and-false}
+use mathlib.Core.Bool.{Bool, true, false, _&&_, and-true, and-false, false≢true}
 use mathlib.Core.List.{List, [], _∷_}
 use mathlib.Core.Logic.{_↔_}
-use Prim.Native.Nat.{ℕ, zero, suc, _+_, _-_, _/_, _^_, _≤_, _<_}
+use Prim.Native.Nat.{ℕ, zero, suc, _+_, _/_, _^_, _≤_, _<_}
 use lib.Pow.{pow-pos}
 use native.Mathlib.Omega.{arith}
 use lib.Bits.{bitAnd}
-use lib.Dec.{eqb, ltb}
+use lib.Dec.{eqb}
 use lib.ListN.{length, length-append}
 use borrow.Author.Tests.{eqb-true, eqb-false, lt-ltb}
 use Rattle.masks.specs.Limits.{maxArity, allPatterns}
@@ -17,7 +17,7 @@ use Rattle.masks.specs.Mask.{within}
 use Rattle.masks.specs.Constraint.{admits, ill, trivial, fitting, inRange, isWritten}
 use Rattle.masks.specs.Set.{bitAt, members}
 use Rattle.masks.specs.Patterns.{EachLane}
-use Rattle.masks.proofs.Laws.Logic.{byBool, clash, or-left}
+use Rattle.masks.proofs.Laws.Logic.{byBool, or-left}
 use Rattle.masks.proofs.Laws.Lists.{below-cong}
 use Rattle.masks.proofs.Laws.Mask.{within-zero}
 use Rattle.masks.proofs.Laws.Constraint.{canonical}
@@ -42,22 +42,6 @@ module _ (p : ℕ → Bool) where
   unfolding howMany
   howMany-most n = below-most p n
 
-  -- where there are none, each fails; where there are all, each passes
-  pub howMany-none : (n : ℕ) → howMany p n ≡ 0 → (a : ℕ) → a < n → p a ≡ false
-  howMany-none zero e a l = absurd (omega arith)
-  howMany-none (suc n) e a l =
-      byBool (p n) (λ t. let y = howMany-yes n t in absurd (omega arith))
-      (λ t. byBool (eqb a n) (λ q. ap p (eqb-true a n q) ∙ t)
-      (λ q. let ne = eqb-false a n q in let s = howMany-no n t in howMany-none n (omega arith) a (omega arith)))
-
-  pub howMany-all : (n : ℕ) → howMany p n ≡ n → (a : ℕ) → a < n → p a ≡ true
-  howMany-all zero e a l = absurd (omega arith)
-  howMany-all (suc n) e a l =
-      byBool (p n)
-      (λ t. byBool (eqb a n) (λ q. ap p (eqb-true a n q) ∙ t)
-      (λ q. let ne = eqb-false a n q in let y = howMany-yes n t in howMany-all n (omega arith) a (omega arith)))
-      (λ t. let s = howMany-no n t in let m = howMany-most n in absurd (omega arith))
-
   pub none-pass : (n : ℕ) → ((a : ℕ) → a < n → p a ≡ false) → howMany p n ≡ 0
   unfolding howMany
   none-pass zero f = refl
@@ -78,6 +62,33 @@ module _ (p : ℕ → Bool) where
 pub howMany-cong : (p q : ℕ → Bool) (n : ℕ) → ((a : ℕ) → a < n → p a ≡ q a) → howMany p n ≡ howMany q n
 unfolding howMany
 howMany-cong p q n f = ap length (below-cong p q n f)
+
+-- ---- a test that fails where another does
+
+module _ (q r : ℕ → Bool) (h : (a : ℕ) → q a ≡ true → r a ≡ true) where
+  -- one number more: both count it, or neither; or r alone does
+  count-next : {P : Type 0} (n : ℕ) → (q n ≡ r n → howMany r (suc n) + howMany q n ≡ howMany q (suc n) + howMany r n → P)
+      → (howMany q (suc n) ≡ howMany q n → howMany r (suc n) ≡ suc (howMany r n) → P) → P
+  count-next n both alone =
+      byBool (q n)
+      (λ t. both (t ∙ sym (h n t)) (omega (arith, howMany-yes q n t, howMany-yes r n (h n t))))
+      (λ t. byBool (r n)
+      (λ u. alone (howMany-no q n t) (howMany-yes r n u))
+      (λ u. both (t ∙ sym u) (omega (arith, howMany-no q n t, howMany-no r n u))))
+
+  pub howMany-le : (n : ℕ) → howMany q n ≤ howMany r n
+  howMany-le zero = omega (arith, howMany-most q 0)
+  howMany-le (suc n) = let l = howMany-le n in count-next n (λ e s. omega arith) (λ s u. omega arith)
+
+  -- where no fewer pass it, they are the same
+  pub howMany-stuck : (n : ℕ) → howMany r n ≤ howMany q n → (a : ℕ) → a < n → q a ≡ r a
+  howMany-stuck zero e a l = absurd (omega arith)
+  howMany-stuck (suc n) e a l =
+      count-next n
+      (λ here s. byBool (eqb a n)
+      (λ t. let z = eqb-true a n t in ap q z ∙ here ∙ ap r (sym z))
+      (λ t. let ne = eqb-false a n t in howMany-stuck n (omega arith) a (omega arith)))
+      (λ s u. let m = howMany-le n in absurd (omega arith))
 
 -- ---- the bits of a word below n are those that it has in common with the n lowest
 
@@ -116,7 +127,8 @@ module _ (arity : ℕ) where
   pub fitting-ill : (c : List ℕ) → isWritten (2 ^ arity) c ≡ true → (fitting arity c ≡ 0) ↔ (c ≡ ill)
   unfolding isWritten inRange admits
   fitting-ill c w = (
-    (λ e. canonical (2 ^ arity) c ill w refl (howMany-none (admits c) (2 ^ arity) e)),
+    (λ e. canonical (2 ^ arity) c ill w refl
+        (λ a l. sym (howMany-stuck (λ _. false) (admits c) (λ b t. absurd (false≢true t)) (2 ^ arity) (omega arith) a l))),
     (λ e. ap (fitting arity) e ∙ none-pass (admits ill) (2 ^ arity) (λ a l. refl)),
   )
 
@@ -125,7 +137,7 @@ module _ (arity : ℕ) where
   unfolding isWritten inRange admits
   fitting-trivial c w = (
     (λ e. canonical (2 ^ arity) c trivial w (ap (λ (b : Bool). (b && true) && true) (lt-ltb 0 (2 ^ arity) (pow-pos arity)))
-        (λ a l. howMany-all (admits c) (2 ^ arity) e a l ∙ sym (every a))),
+        (λ a l. howMany-stuck (admits c) (admits trivial) (λ b t. every b) (2 ^ arity) (omega (arith, fitting-most trivial)) a l)),
     (λ e. ap (fitting arity) e ∙ all-pass (admits trivial) (2 ^ arity) (λ a l. every a)),
   )
     where

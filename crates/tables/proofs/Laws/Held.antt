@@ -15,7 +15,7 @@ use Rattle.masks.specs.Set.{bitAt, members}
 use Rattle.masks.specs.Patterns.{EachLane}
 use Rattle.masks.specs.Constraint.{trivial, admits, fitting, inRange, isWritten, minimise}
 use Rattle.masks.proofs.Laws.Constraint.{minimise-same}
-use Rattle.masks.specs.Lists.{values, howMany}
+use Rattle.masks.specs.Lists.{howMany}
 use Rattle.masks.proofs.Laws.Logic.{byBool, or-left}
 use Rattle.masks.proofs.Laws.Mask.{within-zero}
 use Rattle.masks.proofs.Laws.Set.{bitAt-zero}

@@ -18,14 +18,14 @@ use Rattle.masks.proofs.Laws.Logic.{byBool, clash, false-of, same, and-intro, a
 use Rattle.masks.proofs.Laws.Lists.{length-values, getD-values}
 use Rattle.masks.proofs.Laws.Constraint.{sameMasks-true, sameMasks-refl, inRange-mono, canonical, written-isWritten, written-mono, written-admits, minimise-isWritten-at, admits-minimise}
 use Rattle.masks.proofs.Laws.Joining.{power-le}
-use Rattle.masks.proofs.Laws.Counts.{howMany-most}
+use Rattle.masks.proofs.Laws.Counts.{howMany-most, howMany-le, howMany-stuck}
 use Rattle.book.specs.Limits.{maxPredicates}
 use Rattle.book.specs.Book.{Book}
 use Rattle.book.specs.Encode.{WellFormed}
 use Rattle.book.specs.Table.{Table, entry}
 use Rattle.ordering.proofs.Laws.Adorn.{More, more-refl}
 use Rattle.tables.specs.Table.{declared, firstNeeds, start, defined, good, gets, step, table, sameTable, settled, sumBelow, roundsBound, seek, rounds, final}
-use Rattle.tables.proofs.Laws.Sums.{sum-le, sum-stuck, sum-most, howMany-le, howMany-stuck}
+use Rattle.tables.proofs.Laws.Sums.{sum-le, sum-stuck, sum-most}
 use Rattle.tables.proofs.Laws.Valid.{arity-low, declared-low}
 use Rattle.tables.proofs.Laws.Round.{past-none, more-trans, good-more, gets-good, good-gets, gets-more, step-length, step-defined, step-outside, step-sound}
 
@@ -85,7 +85,7 @@ weight-le B T U h p = go (defined (B .clauses) p)
   where
     go : (b : Bool)
         → cond b (howMany (admits (entry T p)) (2 ^ getD (B .arities) p 0)) 0 ≤ cond b (howMany (admits (entry U p)) (2 ^ getD (B .arities) p 0)) 0
-    go true = howMany-le (admits (entry T p)) (admits (entry U p)) (2 ^ getD (B .arities) p 0) (h p)
+    go true = howMany-le (admits (entry T p)) (admits (entry U p)) (h p) (2 ^ getD (B .arities) p 0)
     go false = omega arith
 
 module _ (B : Book) where
@@ -133,7 +133,7 @@ module _ (B : Book) where
           sum-stuck (weight B (after T)) (weight B T) (length (B .arities)) (λ q z. weight-le B (after T) T f q) m p h in
           let c : howMany (admits (entry (after T) p)) n ≡ howMany (admits (entry T p)) n = rw d at w in
           canonical n (entry (after T) p) (entry T p) (step-proper T t .written· p h) (t .written· p h)
-          (howMany-stuck (admits (entry (after T) p)) (admits (entry T p)) n (f p) (omega arith)))
+          (howMany-stuck (admits (entry (after T) p)) (admits (entry T p)) (f p) n (omega arith)))
           (λ d. step-outside B T p h d)
 
   settled-step : (k : ℕ) → settled B k ≡ true → after (table B k) ≡ table B k

@@ -14,7 +14,6 @@ use Rattle.ordering.specs.Adorn.{bit}
 use Rattle.tables.specs.Table.{sumBelow}
 use Rattle.masks.proofs.Laws.Logic.{byBool}
 use Rattle.masks.proofs.Laws.Counts.{howMany-yes, howMany-no, howMany-most, none-pass}
-use Rattle.ordering.proofs.Laws.Adorn.{bit-mono}
 
 pub sum-le : (f g : ℕ → ℕ) (n : ℕ) → ((i : ℕ) → i < n → f i ≤ g i) → sumBelow f n ≤ sumBelow g n
 sum-le f g zero h = omega arith
@@ -67,21 +66,6 @@ howMany-sum q (suc n) = length-append (below q n) (cond (q n) (n ∷ []) []) ∙
     go : (b : Bool) → length {A = ℕ} (cond b (n ∷ []) []) ≡ bit b
     go true = refl
     go false = refl
-
-bit-inj : (a b : Bool) → bit a ≡ bit b → a ≡ b
-bit-inj true true e = refl
-bit-inj true false e = absurd (omega arith)
-bit-inj false true e = absurd (omega arith)
-bit-inj false false e = refl
-
-module _ (q r : ℕ → Bool) (n : ℕ) (h : (a : ℕ) → q a ≡ true → r a ≡ true) where
-  pub howMany-le : howMany q n ≤ howMany r n
-  howMany-le = omega (arith, howMany-sum q n, howMany-sum r n, sum-le (λ a. bit (q a)) (λ a. bit (r a)) n (λ a l. bit-mono (q a) (r a) (h a)))
-
-  pub howMany-stuck : howMany r n ≤ howMany q n → (a : ℕ) → a < n → q a ≡ r a
-  howMany-stuck e a l =
-      bit-inj (q a) (r a)
-      (sum-stuck (λ a. bit (q a)) (λ a. bit (r a)) n (λ x m. bit-mono (q x) (r x) (h x)) (omega (arith, howMany-sum q n, howMany-sum r n)) a l)
 
 -- a sum of terms that are at most c, and 0 where the test fails
 pub howMany-times : (c : ℕ) (q : ℕ → Bool) (f : ℕ → ℕ) (n : ℕ) → ((i : ℕ) → i < n → f i ≤ c * bit (q i)) → sumBelow f n ≤ c * howMany q n

@@ -24,6 +24,9 @@ loop-holds c =
     let k = c .before .args in
     writing-start (rows-chunks (k .arities .now) (k .table .now) (k .preds)) (c .before .pre .3)
 
+cast-i : tie.Need-cast-i Inv-loop μ-loop
+cast-i c = search needs
+
 mul-fitting : tie.Need-mul-fitting Inv-loop μ-loop
 mul-fitting c = omega arith
 
@@ -72,7 +75,7 @@ put-image-spec =
     Inv-loop
     μ-loop
     loop-holds
-    (λ c. search needs)
+    cast-i
     mul-fitting
     element-copy-out-fitting
     element-copy-out-fitting-2

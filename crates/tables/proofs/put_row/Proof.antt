@@ -20,14 +20,14 @@ put-constraint-requires c κs =
     let k = c .before .before .before .before .before .before .before in
     let mark = c .before .before .before .put-mark in
     let behind = constraint (k .args .p) (k .args .masks) in
-    room-first (mark .last .0) (mark .result) behind (k .args .n ∷ []) (room-second (behind ++ (k .args .n ∷ [])) (mark .ensures) (k .pre))
+    room-first (mark .last .0) (mark .result) behind (k .args .fit ∷ []) (room-second (behind ++ (k .args .fit ∷ [])) (mark .ensures) (k .pre))
 
 put-byte-requires : tie.Need-put-byte-requires
 put-byte-requires c κs =
     let m = c .before .before .before .before .before .before .before in
     let k = m .before .before .before .before in
-    room-second (k .args .n ∷ []) (c .before .before .before .put-constraint .ensures)
-    (room-second (constraint (k .args .p) (k .args .masks) ++ (k .args .n ∷ [])) (m .put-mark .ensures) (k .pre))
+    room-second (k .args .fit ∷ []) (c .before .before .before .put-constraint .ensures)
+    (room-second (constraint (k .args .p) (k .args .masks) ++ (k .args .fit ∷ [])) (m .put-mark .ensures) (k .pre))
 
 same-length : tie.Need-same-length
 same-length c = search needs
