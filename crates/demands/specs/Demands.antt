@@ -119,9 +119,9 @@ GoodPattern T B p a = (j : ℕ) → j < length (B .clauses) → clause B j .head
 abbrev pub FirstGood : Table → List Call → Bound → List ℕ → Type 0
 FirstGood T body b σ = Least (GoodOrder T body b) (some σ)
 
--- The count behind the masks of p in the image of the final table.
+-- How many patterns of the arity of p its constraint in the final table admits.
 abbrev pub Count : Book → ℕ → ℕ
-Count B p = analysed.countOf (B .arities) (final B) p
+Count B p = howMany (admits (entry (final B) p)) (2 ^ getD (B .arities) p 0)
 
 -- Of the bytes of a valid book.
 pub record Demand2 (s : List ℕ) (B : Book) : Type 0 where
@@ -143,9 +143,11 @@ pub record Demand2 (s : List ℕ) (B : Book) : Type 0 where
   -- most 4,096. `rounds` looks no further than this sum; that it finds them there is `settled`
   pub bound : rounds B ≤ roundsBound B
   pub boundMost : roundsBound B ≤ 4096
-  -- "how many patterns each final constraint admits": the count of p is that of the patterns of its arity that its constraint in the final table admits; 0
-  -- exactly where no call can ask p, all of them exactly where p asks for nothing, and at most 64, so that it is a byte
-  pub counts : (p : ℕ) → Count B p ≡ howMany (admits (entry (final B) p)) (2 ^ getD (B .arities) p 0)
+  -- "how many patterns each final constraint admits .. one byte more at the end of each CN": behind the records of the predicates before it, that of p
+  -- ends in the number of patterns of its arity that its constraint admits; this is 0 exactly where no call can ask p, all of them exactly where p asks for
+  -- nothing, and it is a byte
+  pub counted : (p : ℕ) → p < length (B .arities)
+      → (after : List ℕ) × (analysed.rows (B .arities) (final B) p ++ (analysed.row p (entry (final B) p) (Count B p) ++ after) ≡ analysed.image B)
   pub countNone : (p : ℕ) → p < length (B .arities) → (Count B p ≡ 0) ↔ (entry (final B) p ≡ ill)
   pub countAll : (p : ℕ) → p < length (B .arities) → (Count B p ≡ 2 ^ getD (B .arities) p 0) ↔ (entry (final B) p ≡ trivial)
   pub countMost : (p : ℕ) → Count B p ≤ 64

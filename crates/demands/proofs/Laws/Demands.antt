@@ -2,7 +2,7 @@
 use mathlib.Core.Path.{_≡_, refl, sym, ap, _∙_, subst}
 use mathlib.Core.Bool.{true, false}
 use mathlib.Core.Logic.{_↔_}
-use mathlib.Core.List.{List}
+use mathlib.Core.List.{List, _++_}
 use mathlib.Core.Option.{none}
 use Prim.Native.Nat.{ℕ, suc, _^_, _≤_, _<_}
 use native.Mathlib.Omega.{arith}
@@ -23,13 +23,14 @@ use Rattle.ordering.specs.Adorn.{nothing, headBound}
 use Rattle.ordering.specs.Orders.{LexLt, Sorted}
 use Rattle.ordering.specs.Good.{firstGood, isSome}
 use Rattle.tables.specs.Table.{defined, table, settled, rounds, final}
-use Rattle.tables.specs.Image.{analysed}
+use Rattle.tables.specs.Image.{row, rows, image, analysed}
 use Rattle.choices.specs.Choice.{clause, Orderable}
 use Rattle.choices.specs.Reached.{marked, reached}
 use Rattle.choices.specs.Plan.{Row, rowKey, chosen, rowsOf, planRows, planned}
 use Rattle.closing.specs.Close.{closeOver, close, lacked, closed, closing}
 use Rattle.demands.specs.Demands as say
 use Rattle.masks.proofs.Laws.Logic.{byRange, clash}
+use Rattle.masks.proofs.Laws.Lists.{joined-at}
 use Rattle.masks.proofs.Laws.Joining.{power-le}
 use Rattle.masks.proofs.Laws.Counts.{fitting-most, fitting-ill, fitting-trivial}
 use Rattle.masks.proofs.Laws.Outcome.{answers-unique, answers-kept, answers-rest, answers-zero, done-bytes}
@@ -130,6 +131,10 @@ module _ (s : List ℕ) (B : Book) (valid : judge s ≡ book B) where
   unfolding table
   keeps k p h d = step-outside B (table B k) p h d
 
+  counted : (p : ℕ) → p < length (B .arities) → (after : List ℕ) × (rows (B .arities) (final B) p ++ (row p (entry (final B) p) (say.Count B p) ++ after) ≡ image B)
+  unfolding image
+  counted p h = joined-at (λ q. row q (entry (final B) q) (say.Count B q)) (length (B .arities)) p h
+
   rising : Sorted (λ (r q : Row). LexLt (rowKey B r) (rowKey B q)) (planRows B)
   unfolding planRows rowsOf
   rising = rows-rise B (chosen B) (marked (reached B (chosen B)))
@@ -148,7 +153,7 @@ module _ (s : List ℕ) (B : Book) (valid : judge s ≡ book B) where
         least = no-sooner;
         bound = omega (arith, rounds-most B);
         boundMost = bound-most B well;
-        counts = λ p. refl;
+        counted = counted;
         countNone = λ p h. fitting-ill (getD (B .arities) p 0) (entry (final B) p) (final-proper B well .written· p h);
         countAll = λ p h. fitting-trivial (getD (B .arities) p 0) (entry (final B) p) (final-proper B well .written· p h);
         countMost = λ p. omega (arith, fitting-most (getD (B .arities) p 0) (entry (final B) p), power-le (getD (B .arities) p 0) (arity-low B well p));

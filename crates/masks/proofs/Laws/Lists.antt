@@ -2,7 +2,7 @@
 -- A member is said by the test `has`. Assumes nothing.
 use mathlib.Core.Path.{_≡_, refl, sym, ap, ap₂, _∙_}
 use mathlib.Core.Bool.{Bool, true, false, cond, _&&_, _||_, or-assoc, and-assoc, or-false, and-true, false≢true}
-use mathlib.Core.List.{List, [], _∷_, _++_, map, append-nil}
+use mathlib.Core.List.{List, [], _∷_, _++_, map, append-nil, append-assoc}
 use Prim.Native.Nat.{ℕ, zero, suc, _+_, min, _≤_, _<_}
 use native.Mathlib.Omega.{arith}
 use native.Mathlib.Numerals.{add-one}
@@ -270,6 +270,20 @@ module _ {A : Type 0} where
   pub joined-cong : (f g : ℕ → List A) (n : ℕ) → ((k : ℕ) → k < n → f k ≡ g k) → joined f n ≡ joined g n
   joined-cong f g zero h = refl
   joined-cong f g (suc n) h = ap₂ {C = List A} _++_ (joined-cong f g n (λ k l. h k (omega arith))) (h n (omega arith))
+
+  -- each of them, behind those before it
+  pub joined-at : (f : ℕ → List A) (n k : ℕ) → k < n → (after : List A) × (joined f k ++ (f k ++ after) ≡ joined f n)
+  joined-at f zero k l = absurd (omega arith)
+  joined-at f (suc n) k l =
+      byBool (eqb k n)
+      (λ t. ([], ap (λ (i : ℕ). joined f i ++ (f i ++ [])) (eqb-true k n t) ∙ ap (λ (m : List A). joined f n ++ m) (append-nil (f n))))
+      (λ t.
+      let ne = eqb-false k n t in
+      let (after, e) = joined-at f n k (omega arith) in (
+        after ++ f n,
+        ap (λ (m : List A). joined f k ++ m) (sym (append-assoc (f k) after (f n))) ∙ sym (append-assoc (joined f k) (f k ++ after) (f n))
+            ∙ ap (λ (m : List A). m ++ f n) e,
+      ))
 
   -- where no list from n on has anything
   pub joined-cut : (f : ℕ → List A) (n m : ℕ) → n ≤ m → ((k : ℕ) → n ≤ k → f k ≡ []) → joined f m ≡ joined f n
