@@ -101,7 +101,7 @@ shodh_reply shodh_check(const uint8_t *book, size_t length);
  * call (examples/portal does), and so at most SHODH_MOST_ROUNDS: this is proved. There are books that take as many rounds as the sum says, one of 3,712
  * among them. What a round costs is not proved, but follows from the code: it looks at each clause once at most, under all patterns together, and at a
  * subgoal as often, at most, as its clause has subgoals; and behind the rounds reported comes one more, in which nothing changes. So an analysis looks at
- * no more clauses than the book has, times the rounds and one. shodh_plan and shodh_close go through the same rounds first.
+ * (rounds + 1) times as many clauses as the book has, at most. shodh_plan and shodh_close go through the same rounds first.
  * Room: SHODH_TABLE_SIZE. Replies: 0, with the rounds of the analysis; 1 to 6; 9. */
 shodh_reply shodh_analyse(const uint8_t *book, size_t length, uint8_t *out, size_t room);
 

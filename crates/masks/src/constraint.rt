@@ -136,7 +136,7 @@ pub fn patterns(arity: u8) -> u8
     1u8 << arity
 }
 
-// How many patterns of an arity a set of patterns has: the lanes from 2 to the power of the arity on are none.
+// How many patterns of an arity a set of patterns has: the lanes from 2 to the power of the arity on are left out.
 pub fn fitting(set: u64, arity: u8) -> u8
     requires { ⌜ arity ≤ maxArity ⌝ }
     ensures { λ r. ⌜ r ≡ howMany (bitAt set) (2 ^ arity) ⌝ }

@@ -92,7 +92,7 @@ pub fn put_image<'a>(
     at
 }
 
-// One row of it; so many patterns fit.
+// One row of it, with the number of patterns that fit.
 fn put_row(out: &mut [u8], at: usize, p: u8, masks: u64, fit: u8) -> usize
     requires { ⌜ Room (now out) at (row p (members masks) fit) ⌝ }
     ensures { λ r. ⌜ Wrote (now (out .entry)) (now (out .exit)) at r (row p (members masks) fit) ⌝ }

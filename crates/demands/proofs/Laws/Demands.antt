@@ -31,8 +31,7 @@ use Rattle.closing.specs.Close.{closeOver, close, lacked, closed, closing}
 use Rattle.demands.specs.Demands as say
 use Rattle.masks.proofs.Laws.Logic.{byRange, clash}
 use Rattle.masks.proofs.Laws.Lists.{joined-at}
-use Rattle.masks.proofs.Laws.Joining.{power-le}
-use Rattle.masks.proofs.Laws.Counts.{fitting-most, fitting-ill, fitting-trivial}
+use Rattle.masks.proofs.Laws.Counts.{fitting-ill, fitting-trivial}
 use Rattle.masks.proofs.Laws.Outcome.{answers-unique, answers-kept, answers-rest, answers-zero, done-bytes}
 use Rattle.book.proofs.Laws.Answer.{number-range, book-injective, on-fault, on-book}
 use Rattle.book.proofs.Laws.Places.{fault-stands}
@@ -44,11 +43,10 @@ use Rattle.reading.proofs.Laws.Judged.{check-zero}
 use Rattle.ordering.proofs.Laws.Brought.{brought-ran, head-length}
 use Rattle.ordering.proofs.Laws.Adorn.{known-variables}
 use Rattle.ordering.proofs.Laws.Good.{good-clause-parts, good-clause-order, order-good-clause}
-use Rattle.tables.proofs.Laws.Valid.{arity-low}
 use Rattle.tables.proofs.Laws.Own.{good-at, at-good}
 use Rattle.tables.proofs.Laws.Round.{gets-good, good-gets, step-admits, step-outside}
 use Rattle.tables.proofs.Laws.Full.{step-joint}
-use Rattle.tables.proofs.Laws.Image.{table-length}
+use Rattle.tables.proofs.Laws.Image.{count-few, table-length}
 use Rattle.tables.proofs.Laws.Rounds.{sameTable-true, true-sameTable, start-at, rounds-least, rounds-most, rounds-settled, final-proper, final-declared, bound-most}
 use Rattle.choices.proofs.Laws.Moded.{orderable}
 use Rattle.choices.proofs.Laws.Plan.{seven-none, seven-iff, plan-iff, plan-sound, plan-exact, plan-query-first, plan-first, plan-filled}
@@ -151,12 +149,12 @@ module _ (s : List ℕ) (B : Book) (valid : judge s ≡ book B) where
         last = refl;
         settled = its-own-next;
         least = no-sooner;
-        bound = omega (arith, rounds-most B);
+        bound = rounds-most B;
         boundMost = bound-most B well;
         counted = counted;
         countNone = λ p h. fitting-ill (getD (B .arities) p 0) (entry (final B) p) (final-proper B well .written· p h);
         countAll = λ p h. fitting-trivial (getD (B .arities) p 0) (entry (final B) p) (final-proper B well .written· p h);
-        countMost = λ p. omega (arith, fitting-most (getD (B .arities) p 0) (entry (final B) p), power-le (getD (B .arities) p 0) (arity-low B well p));
+        countMost = count-few B well;
         inside = final-declared B well;
         tableRoom = table-length B well;
         seven = seven-iff s B valid;

@@ -26,16 +26,13 @@ use Rattle.choices.specs.Plan as plan
 use Rattle.printing.specs.Sheet.{decimalIn, decimal, after, field, slashed, listing, none·, constraintLine, constraintLines, roundsLine, queryLine, orderLine, refusalLine, orderLines, bookSheet, judgedSheet, sheet}
 use Rattle.masks.proofs.Laws.Logic.{byBool}
 use Rattle.masks.proofs.Laws.Constraint.{inRange-at}
-use Rattle.masks.proofs.Laws.Joining.{power-le}
-use Rattle.masks.proofs.Laws.Counts.{fitting-most}
 use Rattle.book.proofs.Laws.Answer.{number-range}
 use Rattle.book.proofs.Laws.Places.{fault-place}
 use Rattle.book.proofs.Laws.Trip.{judge-inv}
 use Rattle.ordering.proofs.Laws.Orders.{in-at}
 use Rattle.tables.proofs.Laws.Sums.{sum-le, sum-times, length-joined}
 use Rattle.tables.proofs.Laws.Rounds.{rounds-few}
-use Rattle.tables.proofs.Laws.Valid.{arity-low}
-use Rattle.tables.proofs.Laws.Image.{row-length, final-low, table-length}
+use Rattle.tables.proofs.Laws.Image.{row-length, count-few, final-low, table-length}
 use Rattle.choices.proofs.Laws.Moded.{chosen-choice}
 use Rattle.choices.proofs.Laws.Rows.{rows-out, clauses-few, body-few, plan-length}
 
@@ -140,7 +137,7 @@ module _ (B : Book) (w : WellFormed B) where
       joined-most (λ p. constraintLine p (entry T p) (table.countOf (B .arities) T p)) (λ p. table.row p (entry T p) (table.countOf (B .arities) T p)) n
       (λ p h.
       constraint-most p (entry T p) (table.countOf (B .arities) T p) (omega arith) (λ i l. omega (arith, inRange-at 64 (entry T p) i (final-low B w p h) l))
-      (omega (arith, fitting-most (getD (B .arities) p 0) (entry T p), power-le (getD (B .arities) p 0) (arity-low B w p))))
+      (omega (arith, count-few B w p)))
 
   rounds-most : length (roundsLine B) ≤ 7
   unfolding roundsLine

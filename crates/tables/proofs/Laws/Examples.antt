@@ -101,6 +101,13 @@ strict =
 abbrev barred : Book
 barred = rules (1 ∷ []) (needs 0 [] ∷ []) (clause (call 0 (255 ∷ [])) [] ∷ []) []
 
+-- W5: m and s need {1}, and p(X) :- m(X), p(X) :- p(Z), s(Z,X), where p is predicate 0; a round takes each of its two patterns. No query
+abbrev counter : Book
+counter =
+    rules (1 ∷ 1 ∷ 2 ∷ []) (needs 1 (1 ∷ []) ∷ needs 2 (1 ∷ []) ∷ [])
+    (clause (call 0 (0 ∷ [])) (call 1 (0 ∷ []) ∷ []) ∷ clause (call 0 (0 ∷ [])) (call 0 (15 ∷ []) ∷ call 2 (15 ∷ 0 ∷ []) ∷ []) ∷ [])
+    []
+
 -- b(X) :- m(X), then a(X) :- b(X) and a(X) :- m(X), where a is predicate 0 and b predicate 1. The query a(X), a(X)
 abbrev pub several : Book
 several =
@@ -151,12 +158,14 @@ rows =
     ∷ record { book = strict; rounds = 1; needs = (1 ∷ []) ∷ (1 ∷ []) ∷ (0 ∷ []) ∷ [] }
     -- W6: with no alternative it is ill at once, whatever its clauses
     ∷ record { book = barred; rounds = 0; needs = [] ∷ [] }
+    -- W5: as many rounds as p has patterns, since the pattern with all bound can go, too
+    ∷ record { book = counter; rounds = 2; needs = [] ∷ (1 ∷ []) ∷ (1 ∷ []) ∷ [] }
     ∷ []
 
 pub rows-hold : EachHolds rows
 unfolding compute
 rows-hold =
-    ((refl, refl), ((refl, refl), ((refl, refl), ((refl, refl), ((refl, refl), ((refl, refl), ((refl, refl), ((refl, refl), ((refl, refl), ((refl, refl), tt))))))))))
+    ((refl, refl), ((refl, refl), ((refl, refl), ((refl, refl), ((refl, refl), ((refl, refl), ((refl, refl), ((refl, refl), ((refl, refl), ((refl, refl), ((refl, refl), tt)))))))))))
 
 -- ---- an image
 

@@ -19,6 +19,7 @@ use Rattle.tables.specs.Image.{row, countOf, rows, image}
 use Rattle.masks.proofs.Laws.Lists.{joined-cong}
 use Rattle.masks.proofs.Laws.Chains.{at-most-twenty}
 use Rattle.masks.proofs.Laws.Constraint.{inRange-mono, written-inRange}
+use Rattle.masks.proofs.Laws.Counts.{fitting-most}
 use Rattle.tables.proofs.Laws.Valid.{arity-low}
 use Rattle.tables.proofs.Laws.Rounds.{final-proper}
 
@@ -51,7 +52,7 @@ module _ (arities others : List ℕ) (T : Table) where
         length-append (rows others T n) (row n (entry T n) (countOf others T n)),
       )
 
-  -- of the first n alone it depends
+  -- and it depends on the first n alone
   pub rows-same : (n : ℕ) → ((p : ℕ) → p < n → getD arities p 0 ≡ getD others p 0) → rows arities T n ≡ rows others T n
   rows-same n h =
       joined-cong (λ p. row p (entry T p) (countOf arities T p)) (λ p. row p (entry T p) (countOf others T p)) n
@@ -60,6 +61,9 @@ module _ (arities others : List ℕ) (T : Table) where
 module _ (B : Book) (w : WellFormed B) where
   patterns-few : (p : ℕ) → 2 ^ getD (B .arities) p 0 ≤ allPatterns
   patterns-few p = pow-le-pow-right (omega arith) (arity-low B w p)
+
+  pub count-few : (p : ℕ) → countOf (B .arities) (final B) p ≤ allPatterns
+  count-few p = omega (arith, fitting-most (getD (B .arities) p 0) (entry (final B) p), patterns-few p)
 
   module _ (p : ℕ) (h : p < length (B .arities)) where
     pub final-low : inRange allPatterns (entry (final B) p) ≡ true

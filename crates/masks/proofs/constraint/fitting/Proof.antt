@@ -30,7 +30,7 @@ returns : tie.Need-returns
 returns c =
     let k = c .before .before in
     let n = c .before .patterns .result in
-    let e : n ≡ 2 ^ k .args .arity = omega arith in
+    let e : n ≡ 2 ^ k .args .arity = omega (arith, pow-pos (k .args .arity)) in
     c .count .ensures .0 ∙ common-bits (k .args .set) n (64 - n) (omega (arith, power-le (k .args .arity) (k .pre))) ∙ ap (howMany (bitAt (k .args .set))) e
 
 pub fitting-spec : {M : Type 1} → statement M
