@@ -46,3 +46,7 @@ pub record Book : Type 0 where
   pub modes : List Mode
   pub clauses : List Clause
   pub query : List Call
+
+-- W1: "that query in place of the book's own"
+abbrev pub withQuery : Book → List Call → Book
+withQuery B q = record { arities = B .arities; modes = B .modes; clauses = B .clauses; query = q }

@@ -1,7 +1,8 @@
 -- Every string of bytes judged from the left: document 01, "What a rule book says" and "Replies", with the places of document 02's W2, without the second
--- ground for 6, which W6 takes away, and with W9's sixth mark. It is recursion on the bytes that are left, so that a place is said by how many bytes are left
+-- ground for 6, which W6 takes away, with W9's sixth mark, and with the turns of W1's queries. It is recursion on the bytes that are left, so that a place is said by how many bytes are left
 -- from it on; `judge` turns that into an offset, once. Every definition computes. Assumes nothing.
 use mathlib.Core.Path.{_≡_}
+use mathlib.Core.Logic.{_⊎_}
 use mathlib.Core.Bool.{Bool, cond, _&&_, _||_, false}
 use mathlib.Core.List.{List, [], _∷_, _++_}
 use Prim.Native.Nat.{ℕ, zero, suc, _-_, _^_, _≤_, _<_}
@@ -15,7 +16,7 @@ use Rattle.book.specs.declared.fault.Fault.the-variants.{PastEnd, NoMark
 use Rattle.book.specs.declared.mark.Mark.{Mark}
 use Rattle.book.specs.declared.mark.Mark.the-variants.{Pr, Mo, Cl, Sg, Ng, Qu, Other, Half, End}
 use Rattle.book.specs.declared.mark.Phase.{Phase}
-use Rattle.book.specs.declared.mark.Phase.the-variants.{Predicates, Modes, Clauses, Body, Query}
+use Rattle.book.specs.declared.mark.Phase.the-variants.{Predicates, Modes, Clauses, Body, Query, Queries, PageQuery}
 use Rattle.book.specs.declared.mark.Turn.{Turn}
 use Rattle.book.specs.declared.mark.Turn.the-variants.{Mine, Over, No}
 use Rattle.book.specs.declared.range.Range.{Range}
@@ -112,6 +113,15 @@ turn Modes m = column m no Mine Over no Over no
 turn Clauses m = column m no no Mine no Over no
 turn Body m = column m no no Over Mine Over no
 turn Query m = column m no no no Mine no Over
+-- W1: "a run of `QU` records with their subgoals", as many as there are until the run ends
+turn Queries m = column m no no no no Mine Over
+turn PageQuery m = column m no no no Mine Over Over
+
+-- a run of subgoals: SG and NG begin its records, and no other mark does
+pub record Bodied (p : Phase) : Type 0 where
+  pub positive : turn p Sg ≡ Mine
+  pub negated : turn p Ng ≡ Mine
+  pub sole : (m : Mark) → turn p m ≡ Mine → (m ≡ Sg) ⊎ (m ≡ Ng)
 
 -- ---- "4: a byte is out of its range: arity, predicate, n, mask, argument"
 
@@ -213,9 +223,9 @@ clause ar acc s =
     andThen (many Body (subgoal ar) maxSubgoals [] t) (λ body u.
     got (record { head = h; body = body }) u))
 
--- "QU: the query", and its subgoals
-unfoldable pub query : List ℕ → List ℕ → Got (List Call)
-query ar s = many Query (subgoal ar) maxSubgoals [] (drop 2 s)
+-- "QU: the query", and its subgoals: the book's own, or one of a page
+unfoldable pub query : Phase → List ℕ → List ℕ → Got (List Call)
+query p ar s = many p (subgoal ar) maxSubgoals [] (drop 2 s)
 
 -- ---- the book
 
@@ -225,7 +235,7 @@ unfoldable pub rules : List ℕ → List ℕ → Got Book
 rules ar s =
     andThen (many Modes (mode ar) (suc maxPredicates) [] s) (λ ms t.
     andThen (many Clauses (clause ar) maxClauses [] t) (λ cs u.
-    andThen (query ar u) (λ q v.
+    andThen (query Query ar u) (λ q v.
     got (record { arities = ar; modes = ms; clauses = cs; query = q }) v)))
 
 unfoldable pub readBook : List ℕ → Got Book

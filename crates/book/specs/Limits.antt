@@ -11,6 +11,10 @@ maxClauses = 64
 abbrev pub maxSubgoals : ℕ
 maxSubgoals = 8
 
+-- W1: "A portal page asks up to 256 queries"
+abbrev pub maxQueries : ℕ
+maxQueries = 256
+
 -- W6: "The longest book grows to 6,986 bytes"; document 01: "the shortest 2"
 abbrev pub longest : ℕ
 longest = 6986
@@ -22,7 +26,11 @@ shortest = 2
 abbrev pub longestPlan : ℕ
 longestPlan = 53259
 
--- two sizes that follow. No image of a table is longer: for each of 64 predicates a mark, its number, n, 20 masks and W5's count
+-- three sizes that follow. No answer to a page is longer: for each of 256 queries 0, a mark, n and 8 places
+abbrev pub longestPage : ℕ
+longestPage = 3072
+
+-- no image of a table is longer: for each of 64 predicates a mark, its number, n, 20 masks and W5's count
 abbrev pub longestTable : ℕ
 longestTable = 1600
 

@@ -10,6 +10,9 @@ pub const MAX_CLAUSES: usize = 64;
 // In a body or query.
 pub const MAX_SUBGOALS: usize = 8;
 
+// Of a page.
+pub const MAX_QUERIES: usize = 256;
+
 // Arguments: variables are 0 to 15.
 pub const LAST_VARIABLE: u8 = 15;
 
@@ -34,12 +37,14 @@ pub const CLAUSE_SIZE: usize = 10;
 // The room of 64 clauses and of the query, which stands after them.
 pub const RULES_SIZE: usize = 650;
 
-// The longest book, plan, image of a table and printed sheet.
+// The longest book, plan, image of a table, answer to a page and printed sheet.
 pub const LONGEST: usize = 6986;
 
 pub const LONGEST_PLAN: usize = 53259;
 
 pub const LONGEST_TABLE: usize = 1600;
+
+pub const LONGEST_PAGE: usize = 3072;
 
 pub const LONGEST_SHEET: usize = 164584;
 

@@ -14,13 +14,16 @@ pub enum Mark {
     End,
 }
 
-// The runs of records of a book: its predicates, modes and clauses, the body of a clause, and that of the query.
+// The runs of records of a book: its predicates, modes and clauses, the body of a clause, and that of the query. Of a page: its queries, and the body of
+// one of them.
 pub enum Phase {
     Predicates,
     Modes,
     Clauses,
     Body,
     Query,
+    Queries,
+    PageQuery,
 }
 
 // What a mark means in a run: a record of the run, the end of the run, or a fault.

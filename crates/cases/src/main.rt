@@ -13,16 +13,19 @@
 //     room NAME OP BOOK SET ROOM      `N V ROUNDS OUT` of OP, which is analyse, plan, close or sheet, in a room of ROOM bytes
 //     pair NAME OP ARITY XS YS ROOM   `N V OUT` of OP, which is choice or joint, of two lists of masks
 //     fits NAME PATTERN MASKS         `1` where the pattern fits the masks, else `0`
+//     page NAME BOOK RUN ROOM A T     `N V OUT` of the page of RUN in a room of ROOM bytes, and the tally, from A accepted and T turned away, after it
 //     again NAME BOOK ROOM            `N V OUT` of the book read and written again; of a book that the check refuses its `N V -`
 //     parts NAME BOOK SET             `N V` of the closing, and where N is 0 six comparisons, each a word and `same` or `differs` (see `parts`)
 //
 // N and V are the number and the value of a reply. A line of another kind, or another OP, prints `?`. A reply that altered a byte it had to leave adds
-// the word `spoiled`. Of the input the first 2,097,152 bytes are read, of a book 8,192, of a list of masks 32; a room has at most 164,585.
+// the word `spoiled`. Of the input the first 2,097,152 bytes are read, of a book 8,192, of a run 20,480, of a list of masks 32; a number of a tally counts as
+// 1,000,000,000 at most; a room has at most 164,585.
 mod again;
 mod fits;
 mod operations;
 mod pair;
 mod parts;
+mod queries;
 mod show;
 mod words;
 
@@ -76,7 +79,7 @@ fn answer(line: &[u8]) {
 fn results(line: &[u8]) {
     let kind = words::place(
         lines::field(line, 0),
-        b"book short room pair fits again parts",
+        b"book short room pair fits page again parts",
     );
     match kind {
         0 => operations::book(line),
@@ -84,8 +87,9 @@ fn results(line: &[u8]) {
         2 => operations::room(line),
         3 => pair::results(line),
         4 => fits::results(line),
-        5 => again::results(line),
-        6 => parts::results(line),
+        5 => queries::results(line),
+        6 => again::results(line),
+        7 => parts::results(line),
         _ => show::unknown(),
     }
 }

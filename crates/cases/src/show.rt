@@ -7,8 +7,10 @@ use book::limits::LONGEST_SHEET;
 use libc::STDOUT_FILENO;
 use masks::reply::Reply;
 
-// The longest book that is taken from a line, and the longest list of masks.
+// The longest book that is taken from a line, the longest run of a page, and the longest list of masks.
 pub const BOOK: usize = 8192;
+
+pub const RUN: usize = 20480;
 
 pub const MASKS: usize = 32;
 

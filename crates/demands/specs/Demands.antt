@@ -8,6 +8,7 @@ use mathlib.Core.List.{List, [], _∷_, _++_}
 use mathlib.Core.Option.{none, some}
 use Prim.Native.Nat.{ℕ, suc, _+_, _^_, _≤_, _<_}
 use lib.Bits.{bitOr}
+use lib.Dec.{eqb}
 use lib.ListN.{length, getD, take, drop}
 use Rattle.masks.specs.Constraint.{admits, ill, trivial, written, minimise, joint as jointOf}
 use Rattle.masks.specs.Lists.{has, howMany}
@@ -15,8 +16,8 @@ use Rattle.masks.specs.Outcome.{Outcome, refused, done, Answers}
 use Rattle.masks.specs.Joining.{joining}
 use Rattle.masks.specs.declared.Way.the-variants.{Choice, Joint}
 use Rattle.masks.specs.declared.reply.Reply.{Reply}
-use Rattle.book.specs.Limits.{longest, longestTable, longestPlan, shortest}
-use Rattle.book.specs.Book.{Call, Clause, Book}
+use Rattle.book.specs.Limits.{maxQueries, longest, longestTable, longestPlan, longestPage, shortest}
+use Rattle.book.specs.Book.{Call, Clause, Book, withQuery}
 use Rattle.book.specs.Format.{number, Stands, fault, book, judge}
 use Rattle.book.specs.Encode.{PR, MO, CL, SG, NG, QU, run, encode, callFits, WellFormed}
 use Rattle.book.specs.Held.{bookIn}
@@ -30,20 +31,26 @@ use Rattle.tables.specs.Table.{declared, defined, good, table, roundsBound, rou
 use Rattle.tables.specs.Image as analysed
 use Rattle.choices.specs.Choice.{clause, IsChoice, Reaches, WellModed, Orderable}
 use Rattle.choices.specs.Plan.{Row, rowKey, chosen, planRows, image, planning}
+use Rattle.paging.specs.Run.{faulty, queries, judgeRun, encQu, queryFits, FitRun}
+use Rattle.paging.specs.Page.{answer, accepts, AsPlan, paging, verdicts}
 use Rattle.printing.specs.Sheet.{line, printing}
 use Rattle.closing.specs.Close.{lacked, closing}
+use Rattle.tally.specs.declared.Tally.{Tally}
+use Rattle.tally.specs.Tallied.{Tallies}
 
 -- ---- Demand 1: every string of bytes gets a defined reply; a refusal has its number and place and alters no byte of a lent buffer
 
--- The public operations that are lent a buffer, with their input: `choice` and `joint` of the crate `masks`, `analyse`, `plan`, `close`, `sheet`, and
+-- The public operations that are lent a buffer, with their input: `choice` and `joint` of the crate `masks`, `analyse`, `plan`, `close`, `page`, `sheet`, and
 -- `write_book`, whose input is a book as the code holds it. (`check` is lent none.)
 pub data Operation : Type 0 where
   choice joint : (arity : ℕ) (first second : List ℕ) → Operation
   analyse plan sheet : (bytes : List ℕ) → Operation
   close : (set : ℕ) (bytes : List ℕ) → Operation
+  page : (bytes run : List ℕ) → Operation
   write : (preds : ℕ) (arities modes : List ℕ) (clauses : ℕ) (rules : List ℕ) → Operation
 
--- What each comes to: the contract of each is `Answers` of this. Those of the C functions cite it by this name.
+-- What each comes to: the contract of each is `Answers` of this, and that of `page`, which is lent a tally too, `Tallies`. Those of the C functions cite it by
+-- this name.
 abbrev pub outcome : Operation → Outcome
 outcome (choice arity first second) = joining Choice arity first second
 outcome (joint arity first second) = joining Joint arity first second
@@ -51,6 +58,7 @@ outcome (analyse bytes) = analysed.analysis bytes
 outcome (plan bytes) = planning bytes
 outcome (sheet bytes) = printing bytes
 outcome (close set bytes) = closing set bytes
+outcome (page bytes run) = paging bytes run
 outcome (write preds arities modes clauses rules) = done 0 (encode (bookIn preds arities modes clauses rules))
 
 -- There is an answer, the reply and every byte of the buffer, and it is the only one.
@@ -74,6 +82,7 @@ pub record Faulty (s : List ℕ) (f : Fault) (at : ℕ) : Type 0 where
   pub analyse· : outcome (analyse s) ≡ refused (number f) at
   pub plan· : outcome (plan s) ≡ refused (number f) at
   pub close· : (set : ℕ) → outcome (close set s) ≡ refused (number f) at
+  pub page· : (r : List ℕ) → outcome (page s r) ≡ refused (number f) at
 
 pub record Demand1 : Type 0 where
   -- every operation answers every input in every buffer, and in one way
@@ -83,6 +92,9 @@ pub record Demand1 : Type 0 where
   -- a success alters none after the bytes written
   pub rest : (op : Operation) {out : List ℕ} {r : Reply} {after : List ℕ} → Answers (outcome op) out r after → r .number ≡ 0
       → drop (r .value) after ≡ drop (r .value) out
+  -- W1: "a refused one doesn't touch it": nor is the tally altered
+  pub untouched : (s r : List ℕ) {out : List ℕ} {old : Tally} {x : Reply} {after : List ℕ} {t : Tally} → Tallies (outcome (page s r)) (verdicts s r) out old x after t
+      → (x .number ≡ 0 → ⊥) → t ≡ old
   -- the strings that are books are the bytes of the books that keep to all limits
   pub books : (s : List ℕ) (B : Book) → (judge s ≡ book B) ↔ ((encode B ≡ s) × WellFormed B)
   -- W6: "The longest book grows to 6,986 bytes"; "the shortest 2": none is longer or shorter, and there is one of each length
@@ -182,6 +194,40 @@ pub record Demand2 (s : List ℕ) (B : Book) : Type 0 where
   -- W9, "Conditions that say "not"": its rule holds of a negated subgoal exactly where "every variable in it" is bound
   pub negation : (b : Bound) (c : Call) → callFits (B .arities) c ≡ true → c .negated ≡ true
       → (known b c ≡ true) ↔ ((v : ℕ) → v < variables → has (c .args) v ≡ true → isBound b v ≡ true)
+
+-- ---- W1, "All the queries of a page in one go": of one book, as demand 2 says of one query
+
+-- Of the bytes of a valid book.
+pub record PageOf (s : List ℕ) (B : Book) : Type 0 where
+  -- "judged from the left by the book's rules": the runs without a fault are the bytes of at most 256 queries of the book
+  pub runs : (r : List ℕ) (qs : List (List Call)) → (judgeRun (B .arities) r ≡ queries qs) ↔ ((run encQu qs ≡ r) × FitRun (B .arities) qs)
+  -- each of them is one that the book might have for its own
+  pub query· : (q : List Call) → (queryFits (B .arities) q ≡ true) ↔ WellFormed (withQuery B q)
+  -- all others have a first fault, with which the page is refused, "places counted in the run": as in a book, of the run's bytes
+  pub faults : (r : List ℕ) (f : Fault) (at : ℕ) → judgeRun (B .arities) r ≡ faulty f at → (outcome (page s r) ≡ refused (number f) at) × Stands f (length r) at
+  -- "the reply to one query depends on the book and that query only": a page is the answers to its queries, one after the other
+  pub answers : (r : List ℕ) (qs : List (List Call)) → judgeRun (B .arities) r ≡ queries qs → outcome (page s r) ≡ done 0 (run (answer (final B)) qs)
+  -- "For each comes a byte 0 or 7 and, after 0, its `QO` record, as the plan would give with that query in place of the book's own": 7 where that plan is
+  -- refused with 7, else 0 and the plan's first record
+  pub planned : (q : List Call) → queryFits (B .arities) q ≡ true → AsPlan (planning (encode (withQuery B q))) (answer (final B) q)
+  -- the book's own query plays no part
+  pub own : (q : List Call) → queryFits (B .arities) q ≡ true → (r : List ℕ) → outcome (page (encode (withQuery B q)) r) ≡ outcome (page s r)
+  -- "An empty run writes nothing."; and two runs in one give the answers of the two, while there are not too many queries
+  pub empty : outcome (page s []) ≡ done 0 []
+  pub joined : (a b : List ℕ) (qa qb : List (List Call)) → judgeRun (B .arities) a ≡ queries qa → judgeRun (B .arities) b ≡ queries qb
+      → length qa + length qb ≤ maxQueries → outcome (page s (a ++ b)) ≡ done 0 (run (answer (final B)) qa ++ run (answer (final B)) qb)
+  -- a buffer of 3,072 bytes always suffices
+  pub room : (r : List ℕ) (qs : List (List Call)) → judgeRun (B .arities) r ≡ queries qs → length (run (answer (final B)) qs) ≤ longestPage
+  -- "One tally record, of queries accepted and turned away": a query is accepted where its answer begins with 0; a call that replies 0 leaves how many are, and
+  -- the others are turned away
+  pub accepted : (q : List Call) → accepts (final B) q ≡ eqb (getD (answer (final B) q) 0 7) 0
+  pub tally : (r : List ℕ) (qs : List (List Call)) → judgeRun (B .arities) r ≡ queries qs
+      → {out : List ℕ} {old : Tally} {x : Reply} {after : List ℕ} {t : Tally} → Tallies (outcome (page s r)) (verdicts s r) out old x after t → x .number ≡ 0
+      → (t .accepted ≡ howMany (λ i. accepts (final B) (getD qs i [])) (length qs)) × (t .accepted + t .«turned_away» ≡ length qs)
+
+-- There is a page whose answer has n bytes.
+abbrev pub Answer : ℕ → Type 0
+Answer n = (s r bytes : List ℕ) × (outcome (page s r) ≡ done 0 bytes) × (length bytes ≡ n)
 
 -- ---- Demand 3: any set of predicates replaced by what they need changes no need and no acceptance, and closing in parts gives the same bytes as closing at
 -- once
@@ -413,5 +459,7 @@ pub record Demands : Type 0 where
   pub demand1 : Demand1
   pub demand2 : (s : List ℕ) (B : Book) → judge s ≡ book B → Demand2 s B
   pub demand3 : (s : List ℕ) (B : Book) → judge s ≡ book B → Demand3 s B
+  pub page : (s : List ℕ) (B : Book) → judge s ≡ book B → PageOf s B
+  pub longest : Answer longestPage
   pub attained : Attains 2 counter1 × Attains 4 counter2
   pub bench : EachHolds examples

@@ -77,7 +77,7 @@ pub fn put_plan<'a>(
     requires { ⌜ (preds ≤ maxPredicates) × EachCallable (now rules) (now own) × Full (now table) × Room (now out) 0 (planBytes (placesOf query) preds (now rules) (now table) (now own) (now reached)) ⌝ }
     ensures { λ r. ⌜ Wrote (now (out .entry)) (now (out .exit)) 0 r (planBytes (placesOf query) preds (now (rules .entry)) (now (table .entry)) (now (own .entry)) (now (reached .entry))) ⌝ }
 {
-    let mut at = put_query(out, query);
+    let mut at = put_query(out, 0, query);
     let mut p: u8 = 0;
     while p < preds {
         let q = p as usize;
@@ -88,11 +88,11 @@ pub fn put_plan<'a>(
 }
 
 // "`QO`, n, n places".
-fn put_query(out: &mut [u8], o: Order) -> usize
-    requires { ⌜ Room (now out) 0 (encQuery (placesOf o)) ⌝ }
-    ensures { λ r. ⌜ Wrote (now (out .entry)) (now (out .exit)) 0 r (encQuery (placesOf o)) ⌝ }
+pub fn put_query(out: &mut [u8], at: usize, o: Order) -> usize
+    requires { ⌜ Room (now out) at (encQuery (placesOf o)) ⌝ }
+    ensures { λ r. ⌜ Wrote (now (out .entry)) (now (out .exit)) at r (encQuery (placesOf o)) ⌝ }
 {
-    let p = put_mark(out, 0, b"QO");
+    let p = put_mark(out, at, b"QO");
     put_order(out, p, o)
 }
 

@@ -1,7 +1,6 @@
 -- What the runs of records leave beside their answers: what was read, and that the arrays lent hold it where they have room for all. Assumes nothing.
 use mathlib.Core.Path.{_≡_}
 use mathlib.Core.Bool.{true}
-use mathlib.Core.Logic.{_⊎_}
 use mathlib.Core.List.{List, [], map}
 use Prim.Native.Nat.{ℕ, suc, _+_, _-_, _*_, _≤_}
 use lib.ListN.{length, take, drop, set}
@@ -10,13 +9,11 @@ use Rattle.masks.specs.Set.{Holds}
 use Rattle.book.specs.Limits.{maxPredicates, maxClauses, maxSubgoals}
 use Rattle.book.specs.Book.{Call, Mode, Clause, Book}
 use Rattle.book.specs.Format as format
-use Rattle.book.specs.Format.{leads, markAt, turn, Got, bad, many, mode, subgoal, query}
+use Rattle.book.specs.Format.{leads, markAt, turn, Bodied, Got, bad, many, mode, subgoal, query}
 use Rattle.book.specs.Held.{callIn, clauseSize, rulesSize, clauseAt, clausesOf, StoredClause, modesSize, modesOf, hasMode, bookIn}
-use Rattle.book.specs.declared.mark.Mark.{Mark}
-use Rattle.book.specs.declared.mark.Mark.the-variants.{Sg, Ng}
 use Rattle.book.specs.declared.mark.Phase.{Phase}
 use Rattle.book.specs.declared.mark.Phase.the-variants.{Modes, Clauses}
-use Rattle.book.specs.declared.mark.Turn.the-variants.{Mine, Over}
+use Rattle.book.specs.declared.mark.Turn.the-variants.{Over}
 use Rattle.records.specs.declared.field.Found.{Found}
 use Rattle.records.specs.declared.field.Found.the-variants.{Next, Bad}
 use Rattle.records.specs.Found.{placeOf, Reads, stops}
@@ -42,12 +39,6 @@ pub record ReadsModes (ar s : List ℕ) (from : ℕ) (r : FoundModes) (before af
   pub stored : (at n : ℕ) → r .found ≡ Next at n → length before ≡ modesSize → modesOf after maxPredicates ≡ modes
 
 -- ---- subgoals
-
--- a run of subgoals: SG and NG begin its records, and no other mark does
-pub record Bodied (p : Phase) : Type 0 where
-  pub positive : turn p Sg ≡ Mine
-  pub negated : turn p Ng ≡ Mine
-  pub sole : (m : Mark) → turn p m ≡ Mine → (m ≡ Sg) ⊎ (m ≡ Ng)
 
 -- what subgoals come to in the run p, where its end is still to be judged
 abbrev pub onward : {A : Type 0} → Phase → List ℕ → Found → A → Got A
@@ -77,10 +68,10 @@ pub record ReadsClauses (ar s : List ℕ) (from : ℕ) (r : FoundRun) (before af
   pub reads : Reads s (r .found) (λ n. clauses) (many Clauses (format.clause ar) maxClauses [] (drop from s))
   pub stored : (at n : ℕ) → r .found ≡ Next at n → length before ≡ rulesSize → clausesOf after (r .n) ≡ clauses
 
--- the query is read, and stored as the clause behind all others
-pub record ReadsQuery (ar s : List ℕ) (at : ℕ) (r : Found) (before after : List ℕ) : Type 0 where
+-- a query is read, of the book or of a page, and stored as the clause behind all others
+pub record ReadsQuery (p : Phase) (ar s : List ℕ) (at : ℕ) (r : Found) (before after : List ℕ) : Type 0 where
   pub goals : List Call
-  pub reads : Reads s r (λ n. goals) (query ar (drop at s))
+  pub reads : Reads s r (λ n. goals) (query p ar (drop at s))
   pub stored : (end n : ℕ) → r ≡ Next end n → length before ≡ rulesSize
       → StoredClause before after maxClauses (record { head = clauseAt before maxClauses .head; body = goals })
 

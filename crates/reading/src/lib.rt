@@ -170,7 +170,7 @@ fn read_rules<'a>(
             with_mode: m.with_mode,
         };
     };
-    let found = read_query(s, ar, end, rules);
+    let found = read_query(s, ar, end, rules, Phase::Query);
     FoundRules {
         found,
         n: c.n,
@@ -291,15 +291,15 @@ fn read_clause(s: &[u8], ar: &[u8], at: usize, rules: &mut [u64], k: usize) -> F
     }
 }
 
-// The query whose record is at a place, stored behind the room of the clauses as the body of a clause whose head says nothing.
-fn read_query<'a>(s: &'a [u8], ar: &'a [u8], at: usize, rules: &mut [u64]) -> Found
-    requires { ⌜ (at + 2 ≤ length (now s)) × Arities (now ar) ⌝ }
-    ensures { λ r. ⌜ ReadsQuery (now (ar .entry)) (now (s .entry)) at r (now (rules .entry)) (now (rules .exit)) ⌝ }
+// The query whose record is at a place, of the book or of a page, stored behind the room of the clauses as the body of a clause whose head says nothing.
+pub fn read_query<'a>(s: &'a [u8], ar: &'a [u8], at: usize, rules: &mut [u64], p: Phase) -> Found
+    requires { ⌜ (at + 2 ≤ length (now s)) × Arities (now ar) × format.Bodied p ⌝ }
+    ensures { λ r. ⌜ ReadsQuery p (now (ar .entry)) (now (s .entry)) at r (now (rules .entry)) (now (rules .exit)) ⌝ }
 {
     let b = read_body(s, ar, at + 2, rules, MAX_CLAUSES);
     match b {
         Found::Bad(_, _) => b,
-        Found::Next(end, _) => run_end(s, end, Phase::Query),
+        Found::Next(end, _) => run_end(s, end, p),
     }
 }
 

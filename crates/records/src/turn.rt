@@ -1,5 +1,5 @@
 // Marks, and whose turn it is where a record may begin: "all `PR`, then all `MO`, then clauses, then one `QU`; `SG` only after `CL`, `QU` or `SG`",
-// and `NG`, which "has the fields and turn of `SG`".
+// and `NG`, which "has the fields and turn of `SG`". In the run of a page, "a run of `QU` records with their subgoals".
 use crate::field::Found;
 use book::fault::Fault;
 use book::fault::place;
@@ -64,6 +64,8 @@ fn turn(p: Phase, m: Mark) -> Turn
         Phase::Clauses => column(m, no, no, mine, no, over, no),
         Phase::Body => column(m, no, no, over, mine, over, no),
         Phase::Query => column(m, no, no, no, mine, no, over),
+        Phase::Queries => column(m, no, no, no, no, mine, over),
+        Phase::PageQuery => column(m, no, no, no, mine, over, over),
     }
 }
 

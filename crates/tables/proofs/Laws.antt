@@ -9,3 +9,4 @@ pub mod Full
 pub mod Rounds
 pub mod Image
 pub mod Held
+pub mod Query

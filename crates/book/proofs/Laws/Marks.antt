@@ -9,12 +9,12 @@ use lib.Dec.{eqb}
 use lib.ListN.{length, drop}
 use borrow.Author.Tests.{eqb-true}
 use Rattle.masks.proofs.Laws.Logic.{clash, and-left, and-right}
-use Rattle.book.specs.Format.{spelling, leads, unmarked, markAt, column, turn}
+use Rattle.book.specs.Format.{spelling, leads, unmarked, markAt, column, turn, Bodied}
 use Rattle.book.specs.declared.fault.Fault.the-variants.{PastEnd, NoMark}
 use Rattle.book.specs.declared.mark.Mark.{Mark}
 use Rattle.book.specs.declared.mark.Mark.the-variants.{Pr, Mo, Cl, Sg, Ng, Qu, Other, Half, End}
 use Rattle.book.specs.declared.mark.Phase.{Phase}
-use Rattle.book.specs.declared.mark.Phase.the-variants.{Predicates, Modes, Clauses, Body, Query}
+use Rattle.book.specs.declared.mark.Phase.the-variants.{Predicates, Modes, Clauses, Body, Query, Queries, PageQuery}
 use Rattle.book.specs.declared.mark.Turn.{Turn}
 use Rattle.book.specs.declared.mark.Turn.the-variants.{Mine, Over, No}
 
@@ -117,22 +117,43 @@ sole-modes k e = byColumn (λ (j : Mark). j ≡ Mo) k e (not-mine _ refl) (λ q.
 pub sole-clauses : Sole Clauses Cl
 sole-clauses k e = byColumn (λ (j : Mark). j ≡ Cl) k e (not-mine _ refl) (not-mine _ refl) (λ q. refl) (not-mine _ refl) (not-mine _ refl) (not-mine _ refl) (not-mine _ refl) (not-mine _ refl)
 
+pub sole-queries : Sole Queries Qu
+sole-queries k e = byColumn (λ (j : Mark). j ≡ Qu) k e (not-mine _ refl) (not-mine _ refl) (not-mine _ refl) (not-mine _ refl) (λ q. refl) (not-mine _ refl) (not-mine _ refl) (not-mine _ refl)
+
 -- SG and NG are, and no other mark
 abbrev pub Signed : Mark → Type 0
 Signed m = (m ≡ Sg) ⊎ (m ≡ Ng)
 
-pub signed-body : (k : Mark) → turn Body k ≡ Mine → Signed k
-signed-body k e = byColumn Signed k e (not-mine _ refl) (not-mine _ refl) (not-mine _ refl) (λ q. (inl refl, inr refl)) (not-mine _ refl) (not-mine _ refl) (not-mine _ refl) (not-mine _ refl)
+signed : (p : Phase) → mine (turn p Pr) ≡ false → mine (turn p Mo) ≡ false → mine (turn p Cl) ≡ false → mine (turn p Qu) ≡ false → mine (turn p End) ≡ false
+    → mine (turn p Other) ≡ false → mine (turn p Half) ≡ false → (k : Mark) → turn p k ≡ Mine → Signed k
+signed p pr mo cl qu end other half Pr e = not-mine _ pr e
+signed p pr mo cl qu end other half Mo e = not-mine _ mo e
+signed p pr mo cl qu end other half Cl e = not-mine _ cl e
+signed p pr mo cl qu end other half Sg e = inl refl
+signed p pr mo cl qu end other half Ng e = inr refl
+signed p pr mo cl qu end other half Qu e = not-mine _ qu e
+signed p pr mo cl qu end other half End e = not-mine _ end e
+signed p pr mo cl qu end other half Other e = not-mine _ other e
+signed p pr mo cl qu end other half Half e = not-mine _ half e
 
-pub signed-query : (k : Mark) → turn Query k ≡ Mine → Signed k
-signed-query k e = byColumn Signed k e (not-mine _ refl) (not-mine _ refl) (not-mine _ refl) (λ q. (inl refl, inr refl)) (not-mine _ refl) (not-mine _ refl) (not-mine _ refl) (not-mine _ refl)
+pub in-body : Bodied Body
+in-body = record { positive = refl; negated = refl; sole = signed Body refl refl refl refl refl refl refl }
 
--- the clauses end at QU, and the query at the end of the bytes
+pub in-query : Bodied Query
+in-query = record { positive = refl; negated = refl; sole = signed Query refl refl refl refl refl refl refl }
+
+pub in-page : Bodied PageQuery
+in-page = record { positive = refl; negated = refl; sole = signed PageQuery refl refl refl refl refl refl refl }
+
+-- the clauses end at QU, and the query at the end of the bytes, as the queries of a page do
 clauses-over : (m : Mark) → turn Clauses m ≡ Over → m ≡ Qu
 clauses-over m e = byColumn (λ (k : Mark). k ≡ Qu) m e (not-over _ refl) (not-over _ refl) (not-over _ refl) (not-over _ refl) (λ q. refl) (not-over _ refl) (not-over _ refl) (not-over _ refl)
 
 query-over : (m : Mark) → turn Query m ≡ Over → m ≡ End
 query-over m e = byColumn (λ (k : Mark). k ≡ End) m e (not-over _ refl) (not-over _ refl) (not-over _ refl) (not-over _ refl) (not-over _ refl) (λ q. refl) (not-over _ refl) (not-over _ refl)
+
+queries-over : (m : Mark) → turn Queries m ≡ Over → m ≡ End
+queries-over m e = byColumn (λ (k : Mark). k ≡ End) m e (not-over _ refl) (not-over _ refl) (not-over _ refl) (not-over _ refl) (not-over _ refl) (λ q. refl) (not-over _ refl) (not-over _ refl)
 
 -- what may follow a clause ends its body
 pub clause-ends : (m : Mark) → turn Clauses m ≡ Mine → turn Body m ≡ Over
@@ -140,6 +161,13 @@ clause-ends m e = ap (turn Body) (sole-clauses m e)
 
 pub clauses-end : (m : Mark) → turn Clauses m ≡ Over → turn Body m ≡ Over
 clauses-end m e = ap (turn Body) (clauses-over m e)
+
+-- and what may follow a query of a page, the subgoals of that
+pub page-query-ends : (m : Mark) → turn Queries m ≡ Mine → turn PageQuery m ≡ Over
+page-query-ends m e = ap (turn PageQuery) (sole-queries m e)
+
+pub queries-end : (m : Mark) → turn Queries m ≡ Over → turn PageQuery m ≡ Over
+queries-end m e = ap (turn PageQuery) (queries-over m e)
 
 -- ---- the bytes at a mark whose turn it is
 
@@ -151,6 +179,9 @@ clauses-over-starts s e = spelt-at s (clauses-over (markAt s) e)
 
 pub query-over-ends : (s : List ℕ) → turn Query (markAt s) ≡ Over → s ≡ []
 query-over-ends s e = spelt-at s (query-over (markAt s) e)
+
+pub queries-over-ends : (s : List ℕ) → turn Queries (markAt s) ≡ Over → s ≡ []
+queries-over-ends s e = spelt-at s (queries-over (markAt s) e)
 
 -- ---- the two bytes of a mark, whichever of the six it is
 
@@ -185,8 +216,10 @@ own-known : (p : Phase) (m : Mark) → turn p m ≡ Mine → known m ≡ true
 own-known Predicates m e = ap known (sole-predicates m e)
 own-known Modes m e = ap known (sole-modes m e)
 own-known Clauses m e = ap known (sole-clauses m e)
-own-known Body m e = signed-known m (signed-body m e)
-own-known Query m e = signed-known m (signed-query m e)
+own-known Body m e = signed-known m (in-body .sole m e)
+own-known Query m e = signed-known m (in-query .sole m e)
+own-known Queries m e = ap known (sole-queries m e)
+own-known PageQuery m e = signed-known m (in-page .sole m e)
 
 module _ (s : List ℕ) where
   mark-starts : (m : Mark) → known m ≡ true → Spelt s m → s ≡ spelling m ++ drop 2 s

@@ -15,7 +15,7 @@ use Rattle.book.specs.declared.fault.Fault.{Fault}
 use Rattle.book.specs.declared.fault.Fault.the-variants.{PastEnd, NoMark, OutOfTurn, OutOfRange, TooMany, Clash}
 use Rattle.book.specs.declared.mark.Mark.the-variants.{Ng}
 use Rattle.book.specs.declared.mark.Phase.{Phase}
-use Rattle.book.specs.declared.mark.Phase.the-variants.{Predicates, Modes, Clauses, Body, Query}
+use Rattle.book.specs.declared.mark.Phase.the-variants.{Predicates, Modes, Clauses, Body, Query, Queries, PageQuery}
 use Rattle.book.specs.declared.mark.Turn.{Turn}
 use Rattle.book.specs.declared.mark.Turn.the-variants.{Mine, Over, No}
 use Rattle.book.specs.declared.range.Range.{Range}
@@ -23,7 +23,7 @@ use Rattle.book.specs.declared.range.Range.the-variants.{Below, AtMost, 
 
 -- ---- a fault from whose place on k bytes are left
 
-abbrev Leaves : Fault → ℕ → Type 0
+abbrev pub Leaves : Fault → ℕ → Type 0
 Leaves PastEnd k = k ≡ 0
 Leaves NoMark k = 0 < k
 Leaves OutOfTurn k = Unit {0}
@@ -31,12 +31,12 @@ Leaves OutOfRange k = 0 < k
 Leaves TooMany k = 0 < k
 Leaves Clash k = 0 < k
 
-abbrev leavesIn : {A : Type 0} → Got A → Type 0
+abbrev pub leavesIn : {A : Type 0} → Got A → Type 0
 leavesIn (bad f k) = Leaves f k
 leavesIn (got a s) = Unit {0}
 
-record Standing {A : Type 0} (g : Got A) : Type 0 where
-  leaves : leavesIn g
+pub record Standing {A : Type 0} (g : Got A) : Type 0 where
+  pub leaves : leavesIn g
 
 at-byte : {A : Type 0} (f : Fault) (x : ℕ) (s : List ℕ) → Standing {A = A} (wrong f (x ∷ s))
 at-byte PastEnd x s = record { leaves = refl }
@@ -79,13 +79,15 @@ none-standing Modes more a = record { leaves = tt }
 none-standing Clauses more a = record { leaves = tt }
 none-standing Body more a = record { leaves = tt }
 none-standing Query more a = record { leaves = tt }
+none-standing Queries more a = record { leaves = tt }
+none-standing PageQuery more a = record { leaves = tt }
 
 turn-standing : {A : Type 0} (t : Turn) {more : Got A} (a : A) (x : ℕ) (s : List ℕ) → Standing more → Standing (onTurn t more a (x ∷ s))
 turn-standing Mine a x s p = p
 turn-standing Over a x s p = read
 turn-standing (No f) a x s p = at-byte f x s
 
-many-standing : {A : Type 0} (p : Phase) (item : List A → List ℕ → Got A) → ((acc : List A) (s : List ℕ) → Standing (item acc s)) → (room : ℕ) (acc : List A) (s : List ℕ)
+pub many-standing : {A : Type 0} (p : Phase) (item : List A → List ℕ → Got A) → ((acc : List A) (s : List ℕ) → Standing (item acc s)) → (room : ℕ) (acc : List A) (s : List ℕ)
     → Standing (many p item room acc s)
 unfolding many
 many-standing p item each zero acc [] = none-standing p _ acc
@@ -129,9 +131,9 @@ clause-standing ar acc s =
     then-standing (fields NoWildcard ar (drop 2 s)) _ (fields-standing NoWildcard ar (drop 2 s))
     (λ h t. then-standing (many Body (subgoal ar) maxSubgoals [] t) _ (many-standing Body (subgoal ar) (subgoal-standing ar) maxSubgoals [] t) (λ body u. read))
 
-query-standing : (ar s : List ℕ) → Standing (query ar s)
+pub query-standing : (p : Phase) (ar s : List ℕ) → Standing (query p ar s)
 unfolding query
-query-standing ar s = many-standing Query (subgoal ar) (subgoal-standing ar) maxSubgoals [] (drop 2 s)
+query-standing p ar s = many-standing p (subgoal ar) (subgoal-standing ar) maxSubgoals [] (drop 2 s)
 
 -- ---- the book
 
@@ -141,7 +143,7 @@ rules-standing ar s =
     then-standing (many Modes (mode ar) (suc maxPredicates) [] s) _ (many-standing Modes (mode ar) (mode-standing ar) (suc maxPredicates) [] s)
     (λ ms t.
     then-standing (many Clauses (clause ar) maxClauses [] t) _ (many-standing Clauses (clause ar) (clause-standing ar) maxClauses [] t)
-    (λ cs u. then-standing (query ar u) _ (query-standing ar u) (λ q v. read)))
+    (λ cs u. then-standing (query Query ar u) _ (query-standing Query ar u) (λ q v. read)))
 
 book-standing : (s : List ℕ) → Standing (readBook s)
 unfolding readBook
@@ -149,7 +151,7 @@ book-standing s =
     then-standing (many Predicates predicate maxPredicates [] s) _ (many-standing Predicates predicate predicate-standing maxPredicates [] s) (λ ar t. rules-standing ar t)
 
 -- the same, counted from the start
-stands : (f : Fault) (s : List ℕ) (x k : ℕ) → Leaves f k → Stands f (length (x ∷ s)) (length (x ∷ s) - k)
+pub stands : (f : Fault) (s : List ℕ) (x k : ℕ) → Leaves f k → Stands f (length (x ∷ s)) (length (x ∷ s) - k)
 stands PastEnd s x k l = omega arith
 stands NoMark s x k l = omega arith
 stands OutOfTurn s x k l = omega arith

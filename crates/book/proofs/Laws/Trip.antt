@@ -14,7 +14,7 @@ use Rattle.masks.specs.Lists.{all}
 use Rattle.masks.proofs.Laws.Logic.{and-intro, and-left, and-right}
 use Rattle.book.specs.Limits.{maxPredicates, maxClauses, maxSubgoals}
 use Rattle.book.specs.Book.{Head, Call, subgoalOf, noClause, Mode, Clause, Book}
-use Rattle.book.specs.Format.{Got, bad, got, andThen, wrong, byte, bytes, many, turn, markAt, allows, lowFrom, low, spelling, leads, fields, argumentIn, predicate, masks, modeFields, mode, subgoal, clause, query, rules, readBook, book, judged, judge}
+use Rattle.book.specs.Format.{Got, bad, got, andThen, wrong, byte, bytes, many, turn, Bodied, markAt, allows, lowFrom, low, spelling, leads, fields, argumentIn, predicate, masks, modeFields, mode, subgoal, clause, query, rules, readBook, book, judged, judge}
 use Rattle.book.specs.Encode.{run, encPredicate, encMode, encHead, encSubgoal, encClause, encode, fieldsFit, headFits, callFits, modeFits, rises, clauseFits, WellFormed}
 use Rattle.book.specs.declared.fault.Fault.the-variants.{Clash}
 use Rattle.book.specs.declared.mark.Mark.{Mark}
@@ -24,8 +24,8 @@ use Rattle.book.specs.declared.mark.Phase.the-variants.{Predicates, Mode
 use Rattle.book.specs.declared.mark.Turn.the-variants.{Mine, Over}
 use Rattle.book.specs.declared.range.Range.{Range}
 use Rattle.book.specs.declared.range.Range.the-variants.{Below, AtMost, NoWildcard}
-use Rattle.book.proofs.Laws.Marks.{sole-predicates, sole-modes, sole-clauses, Signed, signed-body, signed-query, own-leads, own-starts, sole-starts, clauses-over-starts, query-over-ends, clause-ends, clauses-end}
-use Rattle.book.proofs.Laws.Got.{then-inv, then-got, test-inv, carry, byte-inv, byte-got, bytes-got, bytes-inv, Each, Follows, each-all, all-each, many-got, many-inv}
+use Rattle.book.proofs.Laws.Marks.{sole-predicates, sole-modes, sole-clauses, Signed, in-body, in-query, own-leads, own-starts, sole-starts, clauses-over-starts, query-over-ends, clause-ends, clauses-end}
+use Rattle.book.proofs.Laws.Got.{then-inv, then-got, test-inv, carry, byte-inv, byte-got, bytes-got, bytes-inv, Run, Each, Follows, each-all, all-each, many-got, many-inv}
 
 -- ---- computed: "all PR, then all MO, then clauses, then one QU", of a book with one of each
 
@@ -143,19 +143,28 @@ subgoal-from ar acc s c r k t e =
     let at : (m : Bool) → markAt s ≡ cond m Ng Sg → s ≡ spelling (cond m Ng Sg) ++ drop 2 s = λ m d. t ∙ ap (λ (j : Mark). spelling j ++ drop 2 s) d in
     ⊎-elim (λ d. subgoal-inv false ar acc s c r (at false d) e) (λ d. subgoal-inv true ar acc s c r (at true d) e) k
 
-pub body-inv : (ar : List ℕ) (acc : List Call) (s : List ℕ) (c : Call) (r : List ℕ) → turn Body (markAt s) ≡ Mine → subgoal ar acc s ≡ got c r → (s ≡ encSubgoal c ++ r) × SubgoalFits ar acc c
-body-inv ar acc s c r t e = subgoal-from ar acc s c r (signed-body (markAt s) t) (own-starts Body s t) e
+-- ---- a run of subgoals, of a clause or of a query
 
-pub query-inv : (ar : List ℕ) (acc : List Call) (s : List ℕ) (c : Call) (r : List ℕ) → turn Query (markAt s) ≡ Mine → subgoal ar acc s ≡ got c r → (s ≡ encSubgoal c ++ r) × SubgoalFits ar acc c
-query-inv ar acc s c r t e = subgoal-from ar acc s c r (signed-query (markAt s) t) (own-starts Query s t) e
+module _ (p : Phase) (b : Bodied p) (ar : List ℕ) where
+  -- the mark of either kind is in its turn
+  own-subgoal : (c : Call) (r : List ℕ) → turn p (markAt (encSubgoal c ++ r)) ≡ Mine
+  own-subgoal c r = go (c .negated)
+    where
+      go : (m : Bool) → turn p (markAt (cond m (spelling Ng ++ (c .pred ∷ c .args)) (spelling Sg ++ (c .pred ∷ c .args)) ++ r)) ≡ Mine
+      go true = own-leads p (c .pred ∷ (c .args ++ r)) Ng (b .negated)
+      go false = own-leads p (c .pred ∷ (c .args ++ r)) Sg (b .positive)
 
--- the mark of either kind is in its turn
-own-subgoal : (p : Phase) → turn p Sg ≡ Mine → turn p Ng ≡ Mine → (c : Call) (r : List ℕ) → turn p (markAt (encSubgoal c ++ r)) ≡ Mine
-own-subgoal p s n c r = go (c .negated)
-  where
-    go : (m : Bool) → turn p (markAt (cond m (spelling Ng ++ (c .pred ∷ c .args)) (spelling Sg ++ (c .pred ∷ c .args)) ++ r)) ≡ Mine
-    go true = own-leads p (c .pred ∷ (c .args ++ r)) Ng n
-    go false = own-leads p (c .pred ∷ (c .args ++ r)) Sg s
+  pub subgoals-got : (q : List Call) (r : List ℕ) → length q ≤ maxSubgoals → all (callFits ar) q ≡ true → turn p (markAt r) ≡ Over
+      → many p (subgoal ar) maxSubgoals [] (run encSubgoal q ++ r) ≡ got q r
+  subgoals-got q r few fit over =
+      many-got p (subgoal ar) (SubgoalFits ar) encSubgoal own-subgoal (λ acc c u k f. subgoal-got ar acc c u k) maxSubgoals [] q r few
+      (all-each (callFits ar) [] q fit) over
+
+  pub subgoals-inv : (s : List ℕ) (q : List Call) (r : List ℕ) → many p (subgoal ar) maxSubgoals [] s ≡ got q r
+      → Run p (SubgoalFits ar) encSubgoal maxSubgoals s q r
+  subgoals-inv =
+      many-inv p (subgoal ar) (SubgoalFits ar) encSubgoal
+      (λ acc s c r t e. subgoal-from ar acc s c r (b .sole (markAt s) t) (own-starts p s t) e) maxSubgoals
 
 -- ---- a mode
 
@@ -242,8 +251,7 @@ clause-got ar acc c r h o =
     let bytes· : fields NoWildcard ar ((encHead (c .head) ++ run encSubgoal (c .body)) ++ r) ≡ got (c .head) after =
     ap (fields NoWildcard ar) (append-assoc (encHead (c .head)) (run encSubgoal (c .body)) r) ∙ fields-got NoWildcard ar (c .head .pred) (c .head .args) (clause-head ar c h) after in
     then-got _ bytes·
-    ∙ then-got _ (many-got Body (subgoal ar) (SubgoalFits ar) encSubgoal (own-subgoal Body refl refl) (λ b s q k f. subgoal-got ar b s q k) maxSubgoals [] (c .body) r
-    (clause-few ar c h) (all-each (callFits ar) [] (c .body) (clause-goals ar c h)) o)
+    ∙ then-got _ (subgoals-got Body in-body ar (c .body) r (clause-few ar c h) (clause-goals ar c h) o)
 
 clause-reads : (ar : List ℕ) (acc : List Clause) (c : Clause) (r : List ℕ) → ClauseFits ar acc c → Follows Clauses r → clause ar acc (encClause c ++ r) ≡ got c r
 clause-reads ar acc c r h f = clause-got ar acc c r h (⊎-elim (clause-ends (markAt r)) (clauses-end (markAt r)) f)
@@ -256,7 +264,7 @@ clause-inv ar acc s c r t e =
     let h = w .0 in
     let v = then-inv (many Body (subgoal ar) maxSubgoals [] (w .1)) (made h) (w .3) in
     let b = fields-inv NoWildcard ar (drop 2 s) h (w .1) (w .2) in
-    let n = many-inv Body (subgoal ar) (SubgoalFits ar) encSubgoal (body-inv ar) maxSubgoals (w .1) (v .0) (v .1) (v .2) in
+    let n = subgoals-inv Body in-body ar (w .1) (v .0) (v .1) (v .2) in
     let bytes· : drop 2 s ≡ (encHead h ++ run encSubgoal (v .0)) ++ v .1 = b .0 ∙ (ap (λ (l : List ℕ). encHead h ++ l) (n .from) ∙ sym (append-assoc (encHead h) (run encSubgoal (v .0)) (v .1))) in
     carry (λ (x : Clause) (l : List ℕ). (s ≡ encClause x ++ l) × ClauseFits ar acc x) (v .3) (
       sole-starts Clauses s sole-clauses t ∙ ap (λ (l : List ℕ). spelling Cl ++ l) bytes·,
@@ -338,8 +346,7 @@ read-got b w =
     (suc maxPredicates) [] ms (run encClause cs ++ asks q) fewer (modes-each ar [] ms (w .modesFit) (w .modesRise)) (over-modes q cs))
     ∙ then-got _ (many-got Clauses (clause ar) (ClauseFits ar) encClause (λ c r. own-leads Clauses ((encHead (c .head) ++ run encSubgoal (c .body)) ++ r) Cl refl) (clause-reads ar)
     maxClauses [] cs (asks q) (leb-true _ _ (w .fewClauses)) (all-each (clauseFits ar) [] cs (w .clausesFit)) (over-clauses q))
-    ∙ then-got _ (rw append-nil at (many-got Query (subgoal ar) (SubgoalFits ar) encSubgoal (own-subgoal Query refl refl) (λ acc c r k f. subgoal-got ar acc c r k)
-    maxSubgoals [] q [] (leb-true _ _ (w .fewAsked)) (all-each (callFits ar) [] q (w .queryFits)) over-query))
+    ∙ then-got _ (rw append-nil at (subgoals-got Query in-query ar q [] (leb-true _ _ (w .fewAsked)) (w .queryFits) over-query))
 
 pub read-inv : (s : List ℕ) (b : Book) (r : List ℕ) → readBook s ≡ got b r → (encode b ≡ s) × WellFormed b
 unfolding readBook rules query encode lowFrom
@@ -359,7 +366,7 @@ read-inv s b r e =
     let a = many-inv Predicates predicate PredicateFits encPredicate predicate-inv maxPredicates s ar (w1 .1) (w1 .2) in
     let m = many-inv Modes (mode ar) (ModeFits ar) encMode (mode-inv ar) (suc maxPredicates) (w1 .1) ms (w2 .1) (w2 .2) in
     let c = many-inv Clauses (clause ar) (ClauseFits ar) encClause (clause-inv ar) maxClauses (w2 .1) cs (w3 .1) (w3 .2) in
-    let u = many-inv Query (subgoal ar) (SubgoalFits ar) encSubgoal (query-inv ar) maxSubgoals (drop 2 (w3 .1)) q (w4 .1) (w4 .2) in
+    let u = subgoals-inv Query in-query ar (drop 2 (w3 .1)) q (w4 .1) (w4 .2) in
     let ends : drop 2 (w3 .1) ≡ run encSubgoal q = u .from ∙ (ap (λ (l : List ℕ). run encSubgoal q ++ l) (query-over-ends (w4 .1) (u .over)) ∙ append-nil (run encSubgoal q)) in
     let query· : w3 .1 ≡ asks q = clauses-over-starts (w3 .1) (c .over) ∙ ap (λ (l : List ℕ). spelling Qu ++ l) ends in
     let clauses· : w2 .1 ≡ run encClause cs ++ asks q = c .from ∙ ap (λ (l : List ℕ). run encClause cs ++ l) query· in

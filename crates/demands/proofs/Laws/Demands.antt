@@ -1,21 +1,23 @@
 -- The demands are met. Assumes nothing.
 use mathlib.Core.Path.{_≡_, refl, sym, ap, _∙_, subst}
-use mathlib.Core.Bool.{true, false}
+use mathlib.Core.Bool.{Bool, true, false}
 use mathlib.Core.Logic.{_↔_}
-use mathlib.Core.List.{List, _++_}
+use mathlib.Core.List.{List, [], _++_, map}
 use mathlib.Core.Option.{none}
-use Prim.Native.Nat.{ℕ, suc, _^_, _≤_, _<_}
+use Prim.Native.Nat.{ℕ, suc, _+_, _^_, _≤_, _<_}
 use native.Mathlib.Omega.{arith}
 use lib.Bits.{bitOr}
-use lib.ListN.{length, getD}
+use lib.ListN.{length, getD, length-map, List·getD-map}
+use lib.Seq.{take-all}
 use Rattle.masks.specs.Constraint.{admits}
+use Rattle.masks.specs.Lists.{howMany}
 use Rattle.masks.specs.Outcome.{Outcome, done, reply, left, Answers}
 use Rattle.masks.specs.Set.{bitAt}
 use Rattle.masks.specs.declared.reply.Reply.{Reply}
-use Rattle.book.specs.Limits.{longest}
-use Rattle.book.specs.Book.{Book}
+use Rattle.book.specs.Limits.{maxQueries, longest, longestPage}
+use Rattle.book.specs.Book.{Call, Book}
 use Rattle.book.specs.Format.{fault, book, judge}
-use Rattle.book.specs.Encode.{encode, WellFormed}
+use Rattle.book.specs.Encode.{run, encode, WellFormed}
 use Rattle.book.specs.Table.{Table, entry}
 use Rattle.book.specs.declared.fault.Fault.{Fault}
 use Rattle.reading.specs.Judged.{checked}
@@ -27,11 +29,15 @@ use Rattle.tables.specs.Image.{row, rows, image, analysed}
 use Rattle.choices.specs.Choice.{clause, Orderable}
 use Rattle.choices.specs.Reached.{marked, reached}
 use Rattle.choices.specs.Plan.{Row, rowKey, chosen, rowsOf, planRows, planned}
+use Rattle.paging.specs.Run.{queries, judgeRun}
+use Rattle.paging.specs.Page.{answer, accepts, answers, verdicts}
+use Rattle.tally.specs.declared.Tally.{Tally}
+use Rattle.tally.specs.Tallied.{tallyFrom, zeroes, Tallies}
 use Rattle.closing.specs.Close.{closeOver, close, lacked, closed, closing}
 use Rattle.demands.specs.Demands as say
 use Rattle.masks.proofs.Laws.Logic.{byRange, clash}
 use Rattle.masks.proofs.Laws.Lists.{joined-at}
-use Rattle.masks.proofs.Laws.Counts.{fitting-ill, fitting-trivial}
+use Rattle.masks.proofs.Laws.Counts.{howMany-cong, fitting-ill, fitting-trivial}
 use Rattle.masks.proofs.Laws.Outcome.{answers-unique, answers-kept, answers-rest, answers-zero, done-bytes}
 use Rattle.book.proofs.Laws.Answer.{number-range, book-injective, on-fault, on-book}
 use Rattle.book.proofs.Laws.Places.{fault-stands}
@@ -51,6 +57,10 @@ use Rattle.tables.proofs.Laws.Rounds.{sameTable-true, true-sameTable, start-at,
 use Rattle.choices.proofs.Laws.Moded.{orderable}
 use Rattle.choices.proofs.Laws.Plan.{seven-none, seven-iff, plan-iff, plan-sound, plan-exact, plan-query-first, plan-first, plan-filled}
 use Rattle.choices.proofs.Laws.Rows.{rows-rise, plan-length}
+use Rattle.paging.proofs.Laws.Run.{query-well, well-query, run-read, run-inv, run-fault}
+use Rattle.paging.proofs.Laws.Page.{answer-planning, accepts-answer, paging-fault, paging-faulty, paging-queries, verdicts-queries, paging-other, paging-join, page-length}
+use Rattle.paging.proofs.Laws.Longest.{longest-page}
+use Rattle.tally.proofs.Laws.Tallied.{tally-accepted, tally-sum, tallies-kept, tallies-told}
 use Rattle.closing.proofs.Laws.Valid.{closed-well}
 use Rattle.closing.proofs.Laws.Final.{final-close}
 use Rattle.closing.proofs.Laws.Outcome.{closed-lacks, closing-done, closing-valid, done-closing, closing-twice, closing-turned, closing-again, closing-none, never-seven, closing-gave}
@@ -73,6 +83,7 @@ faulty s f at e =
       analyse· = sym (on-fault analysed s f at (sym e));
       plan· = sym (on-fault planned s f at (sym e));
       close· = λ set. sym (on-fault (closed set) s f at (sym e));
+      page· = λ r. paging-fault s r f at e;
     }
 
 encoded : (s : List ℕ) (B : Book) → (encode B ≡ s) × WellFormed B → judge s ≡ book B
@@ -84,6 +95,7 @@ demand-1 =
       defined = λ op out. one-answer (say.outcome op) out;
       kept = λ op a. answers-kept a;
       rest = λ op a. answers-rest a;
+      untouched = λ s r w. tallies-kept (say.outcome (say.page s r)) w;
       books = λ s B. (judge-inv s B, encoded s B);
       most = judge-length;
       attained = ((_, _, shortest-book, refl), (encode longest-book, longest-book, judge-encode longest-book longest-well, longest-length));
@@ -171,6 +183,53 @@ module _ (s : List ℕ) (B : Book) (valid : judge s ≡ book B) where
         negation = known-variables (B .arities);
       }
 
+  -- ---- W1
+
+  queried : (r : List ℕ) (qs : List (List Call)) → judgeRun (B .arities) r ≡ queries qs → say.outcome (say.page s r) ≡ done 0 (run (answer (final B)) qs)
+  unfolding answers
+  queried r qs e = paging-queries s B valid r qs e
+
+  joined : (a b : List ℕ) (qa qb : List (List Call)) → judgeRun (B .arities) a ≡ queries qa → judgeRun (B .arities) b ≡ queries qb
+      → length qa + length qb ≤ maxQueries → say.outcome (say.page s (a ++ b)) ≡ done 0 (run (answer (final B)) qa ++ run (answer (final B)) qb)
+  unfolding answers
+  joined a b qa qb d e h = paging-join s B valid a b qa qb d e h
+
+  fitting : (r : List ℕ) (qs : List (List Call)) → judgeRun (B .arities) r ≡ queries qs → length (run (answer (final B)) qs) ≤ longestPage
+  unfolding answers
+  fitting r qs e = page-length (final B) (B .arities) r qs e
+
+  tallied : (r : List ℕ) (qs : List (List Call)) → judgeRun (B .arities) r ≡ queries qs
+      → {out : List ℕ} {old : Tally} {x : Reply} {after : List ℕ} {t : Tally} → Tallies (say.outcome (say.page s r)) (verdicts s r) out old x after t → x .number ≡ 0
+      → (t .accepted ≡ howMany (λ i. accepts (final B) (getD qs i [])) (length qs)) × (t .accepted + t .«turned_away» ≡ length qs)
+  tallied r qs e {out} {old} {x} {after} {t} w z =
+      let each = map (accepts (final B)) qs in
+      let v : Tallies (done 0 (run (answer (final B)) qs)) each out old x after t = rw (← queried r qs e, ← verdicts-queries s B valid r qs e) w in
+      let is : t ≡ tallyFrom zeroes each = tallies-told v z in
+      let long : length each ≡ length qs = length-map qs (accepts (final B)) in
+      let sum = tally-sum zeroes each in (
+        ap (λ (u : Tally). u .accepted) is
+            ∙ ap (λ (l : List Bool). tallyFrom zeroes l .accepted) (sym (take-all (length qs) each (omega arith)))
+            ∙ tally-accepted each (accepts (final B) []) (length qs) (omega arith)
+            ∙ howMany-cong (λ i. getD each i (accepts (final B) [])) (λ i. accepts (final B) (getD qs i [])) (length qs) (λ i h. List·getD-map (accepts (final B)) qs i []),
+        ap (λ (u : Tally). u .accepted + u .«turned_away») is ∙ omega arith,
+      )
+
+  page-of : say.PageOf s B
+  page-of =
+      record {
+        runs = λ r qs. (run-inv (B .arities) r qs, λ x. ap (judgeRun (B .arities)) (sym (x .0)) ∙ run-read (B .arities) qs (x .1));
+        query· = λ q. (query-well B well q, well-query B well q);
+        faults = λ r f at e. (paging-faulty s B valid r f at e, run-fault (B .arities) r f at e);
+        answers = queried;
+        planned = λ q h. answer-planning B q well h;
+        own = λ q h r. paging-other s B valid q (query-well B well q h) r;
+        empty = queried [] [] (run-read (B .arities) [] (record { few = refl; each = refl }));
+        joined = joined;
+        room = fitting;
+        accepted = accepts-answer (final B);
+        tally = tallied;
+      }
+
 -- ---- demand 3
 
 -- a call that was not refused wrote what closing comes to
@@ -226,4 +285,4 @@ module _ (s : List ℕ) (B : Book) (valid : judge s ≡ book B) where
 -- ---- all of it
 
 pub demands : say.Demands
-demands = record { demand1 = demand-1; demand2 = demand-2; demand3 = demand-3; attained = attained; bench = bench }
+demands = record { demand1 = demand-1; demand2 = demand-2; demand3 = demand-3; page = page-of; longest = longest-page; attained = attained; bench = bench }

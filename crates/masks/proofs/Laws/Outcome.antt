@@ -44,6 +44,9 @@ module _ (n rounds room : ℕ) {r : Reply} (e : r ≡ inRoom n rounds room) wher
   unfolding inRoom
   enough f = byBool (ltb room n) (λ t. absurd (f (ap (λ (x : Reply). x .number) e ∙ rw t))) (λ t. (ltb-false room n t, e ∙ rw t))
 
+  pub room-short : (r .number ≡ 0 → ⊥) → room < n
+  room-short f = short f .0
+
   pub room-enough : (r .number ≡ 9 → ⊥) → n ≤ room
   room-enough f = enough f .0
 

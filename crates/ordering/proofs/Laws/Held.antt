@@ -14,15 +14,21 @@ use Rattle.masks.specs.Constraint.{admits}
 use Rattle.masks.specs.Patterns.{EachLane}
 use Rattle.book.specs.Limits.{maxPredicates, maxSubgoals}
 use Rattle.book.specs.Book.{Call, noCall}
-use Rattle.book.specs.Table.{Table, entry, entryIn, tableIn}
+use Rattle.book.specs.Format.{allows}
+use Rattle.book.specs.Encode.{callFits}
+use Rattle.book.specs.Table.{Table, entry, entryIn, tableIn, Admitted, Full}
 use Rattle.book.specs.Sets.{callable}
 use Rattle.book.specs.Held.{callIn, clauseSize, clauseAt}
+use Rattle.book.specs.declared.range.Range.the-variants.{AtMost}
 use Rattle.ordering.specs.Adorn.{Bound, patternOf, known, ready, after}
 use Rattle.ordering.specs.Good.{at, readyAt, afterAt, firstGood}
 use Rattle.ordering.specs.Held.{placesOf, orNone}
 use Rattle.ordering.specs.declared.Order.{Order}
 use Rattle.masks.proofs.Laws.Logic.{and-intro, and-left, and-right}
-use Rattle.masks.proofs.Laws.Lists.{all-append, all-at}
+use Rattle.masks.proofs.Laws.Lists.{all-append, all-at, all-mono}
+use Rattle.masks.proofs.Laws.Sets.{admits-full}
+use Rattle.book.proofs.Laws.Trip.{call-size}
+use Rattle.book.proofs.Laws.Bound.{arities-at}
 use Rattle.book.proofs.Laws.Table.{tableIn-at}
 use Rattle.book.proofs.Laws.Sets.{callsBelow, callable-low}
 use Rattle.book.proofs.Laws.Held.{args-count}
@@ -76,7 +82,30 @@ first-same T U body agree called short b =
         (agree (s .pred) (callable-low body p called l) (patternOf v (s .args))
         (pattern-small v maxArity (s .args) (leb-true (length (s .args)) maxArity (all-at few noCall body p l short))))
 
--- those of a clause have six at most
+-- a table is as good as the words with the patterns that it admits
+module _ (masks words : List ℕ) (t : Admitted masks words) where
+  pub admitted-full : Full words
+  admitted-full p h a m = t p h a m ∙ sym (admits-full (entryIn masks p) (getD words p 0) (t p h) a m)
+
+  agree : (p : ℕ) → p < maxPredicates → EachLane (λ a. admits (entry (tableIn words maxPredicates) p) a ≡ admits (entry (tableIn masks maxPredicates) p) a)
+  agree p h a m =
+      ap (λ (c : List ℕ). admits c a) (tableIn-at words maxPredicates p h)
+      ∙ admits-full (entryIn masks p) (getD words p 0) (t p h) a m
+      ∙ ap (λ (c : List ℕ). admits c a) (sym (tableIn-at masks maxPredicates p h))
+
+  pub admitted-first : (n : ℕ) → n ≤ maxPredicates → (body : List Call) → callable body ≡ true → all (λ c. leb (length (c .args)) maxArity) body ≡ true
+      → callsBelow n body ≡ true → (b : Bound) → firstGood (tableIn words maxPredicates) body b ≡ firstGood (tableIn masks n) body b
+  admitted-first n h body called short below b =
+      first-same (tableIn words maxPredicates) (tableIn masks maxPredicates) body agree called short b ∙ first-cut masks n maxPredicates h body b below
+
+-- subgoals that fit a book have six arguments at most
+pub fit-few : (ar : List ℕ) → all (allows (AtMost maxArity)) ar ≡ true → (body : List Call) → all (callFits ar) body ≡ true
+    → all (λ c. leb (length (c .args)) maxArity) body ≡ true
+fit-few ar low =
+    all-mono (callFits ar) few
+    (λ c t. let e = call-size ar c t in let h = arities-at ar low (c .pred) in le-leb (length (c .args)) maxArity (omega arith))
+
+-- those of a clause have, too
 pub body-few : (rules : List ℕ) (k : ℕ) → all (λ c. leb (length (c .args)) maxArity) (clauseAt rules k .body) ≡ true
 unfolding clauseAt
 body-few rules k = go (min (getD rules (k * clauseSize) 0) maxSubgoals)

@@ -14,15 +14,13 @@ use borrow.Author.Tests.{eqb-true, leb-true, ltb-true, lt-ltb, le-ltb}
 use Rattle.masks.specs.Limits.{allPatterns}
 use Rattle.masks.specs.Lists.{joined}
 use Rattle.masks.specs.Outcome.{Answers, refused, inRoom}
-use Rattle.masks.specs.Constraint.{admits}
 use Rattle.masks.specs.Set.{bitAt, members}
-use Rattle.masks.specs.Patterns.{EachLane}
 use Rattle.masks.specs.declared.reply.Reply.{Reply}
 use Rattle.book.specs.Limits.{maxPredicates, maxClauses}
 use Rattle.book.specs.Book.{Call, Clause, noClause, Book}
 use Rattle.book.specs.Encode.{run}
 use Rattle.book.specs.Held.{clauseAt, clausesOf, bookIn}
-use Rattle.book.specs.Table.{Table, entry, entryIn, tableIn, Full}
+use Rattle.book.specs.Table.{Table, tableIn, Full}
 use Rattle.book.specs.Sets.{callable, Owns, Known}
 use Rattle.reading.specs.Judged.{BookRead}
 use Rattle.reading.specs.declared.Reading.{Reading}
@@ -41,13 +39,11 @@ use Rattle.plan.specs.Lent.{Lent, EachCallable, rowBy, clauseRows, patte
 use Rattle.masks.proofs.Laws.Logic.{byBool, byRange, same, clash, and-left, and-right}
 use Rattle.masks.proofs.Laws.Lists.{joined-cong, joined-cut}
 use Rattle.masks.proofs.Laws.Set.{bitAt-zero}
-use Rattle.masks.proofs.Laws.Sets.{admits-full}
 use Rattle.masks.proofs.Laws.Outcome.{answers-short, answers-done}
 use Rattle.reading.proofs.Laws.Judged.{read-well}
 use Rattle.book.proofs.Laws.Encode.{run-joined}
-use Rattle.book.proofs.Laws.Table.{tableIn-at}
 use Rattle.book.proofs.Laws.Sets.{callsBelow}
-use Rattle.ordering.proofs.Laws.Held.{first-cut, first-same, body-few}
+use Rattle.ordering.proofs.Laws.Held.{admitted-full, admitted-first, body-few}
 use Rattle.tables.proofs.Laws.Sums.{sum-cong, length-joined, sum-each}
 use Rattle.tables.proofs.Laws.Valid.{query-callable, query-calls, clause-calls}
 use Rattle.needs.proofs.Laws.Settling.{clauses-count, clause-is, known-clauses}
@@ -84,19 +80,13 @@ module _ (B : Book) (preds clauses : ℕ) (rules own table : List ℕ) (l : Lent
   -- ---- the orders found are those against the final table
 
   pub lent-full : Full table
-  lent-full p h a m = l .admitted p h a m ∙ sym (admits-full (entryIn (l .masks) p) (getD table p 0) (l .admitted p h) a m)
-
-  agree : (p : ℕ) → p < maxPredicates → EachLane (λ a. admits (entry held p) a ≡ admits (entry (tableIn (l .masks) maxPredicates) p) a)
-  agree p h a m =
-      ap (λ (c : List ℕ). admits c a) (tableIn-at table maxPredicates p h)
-      ∙ admits-full (entryIn (l .masks) p) (getD table p 0) (l .admitted p h) a m
-      ∙ ap (λ (c : List ℕ). admits c a) (sym (tableIn-at (l .masks) maxPredicates p h))
+  lent-full = admitted-full (l .masks) table (l .admitted)
 
   order : (k : ℕ) (b : Bound) → callable (clauseAt rules k .body) ≡ true → callsBelow (length (B .arities)) (clauseAt rules k .body) ≡ true
       → firstGood held (clauseAt rules k .body) b ≡ firstGood (final B) (clauseAt rules k .body) b
   order k b c t =
-      first-same held (tableIn (l .masks) maxPredicates) (clauseAt rules k .body) agree c (body-few rules k) b
-      ∙ first-cut (l .masks) preds maxPredicates few-preds (clauseAt rules k .body) b (subst (λ (n : ℕ). callsBelow n (clauseAt rules k .body) ≡ true) (l .preds·) t)
+      admitted-first (l .masks) table (l .admitted) preds few-preds (clauseAt rules k .body) c (body-few rules k)
+      (subst (λ (n : ℕ). callsBelow n (clauseAt rules k .body) ≡ true) (l .preds·) t) b
       ∙ ap (λ (T : Table). firstGood T (clauseAt rules k .body) b) (l .final·)
 
   pub lent-query : callable (clauseAt rules maxClauses .body) ≡ true

@@ -13,31 +13,25 @@ use Rattle.masks.proofs.Laws.Logic.{byRange, clash, false-of, or-left, or-right
 use Rattle.masks.proofs.Laws.Lists.{length-values, values-cong, getD-values}
 use Rattle.book.specs.Limits.{maxClauses, maxSubgoals}
 use Rattle.book.specs.Book.{Head, Call}
-use Rattle.book.specs.Format.{spelling, leads, turn, markAt, many, subgoal}
+use Rattle.book.specs.Format.{spelling, leads, turn, Bodied, markAt, many, subgoal}
 use Rattle.book.specs.Held.{headIn, callIn, clauseSize, rulesSize, clauseAt, StoredClause}
 use Rattle.book.specs.declared.fault.Fault.{Fault}
 use Rattle.book.specs.declared.fault.Fault.the-variants.{TooMany}
 use Rattle.book.specs.declared.mark.Mark.{Mark}
 use Rattle.book.specs.declared.mark.Mark.the-variants.{Sg, Ng}
 use Rattle.book.specs.declared.mark.Phase.{Phase}
-use Rattle.book.specs.declared.mark.Phase.the-variants.{Body, Query}
+use Rattle.book.specs.declared.mark.Phase.the-variants.{Body}
 use Rattle.book.specs.declared.mark.Turn.the-variants.{Mine}
-use Rattle.book.proofs.Laws.Marks.{signed-body, signed-query, unled}
+use Rattle.book.proofs.Laws.Marks.{in-body, unled}
 use Rattle.records.specs.declared.field.Found.{Found}
 use Rattle.records.specs.declared.field.Found.the-variants.{Next, Bad}
 use Rattle.records.specs.Found.{means, Reads, stops, leadsSubgoal}
 use Rattle.records.proofs.Laws.Reads.{bad-next}
 use Rattle.records.proofs.Laws.Stores.{sets-last}
-use Rattle.reading.specs.Stored.{Bodied, onward, ReadsBody}
+use Rattle.reading.specs.Stored.{onward, ReadsBody}
 use Rattle.reading.proofs.Laws.Runs.{Going, mine-at, mark-there, stops-reads, going-start, going-full, going-bad, going-next, going-stops}
 
--- ---- the two runs of subgoals
-
-pub in-body : Bodied Body
-in-body = record { positive = refl; negated = refl; sole = signed-body }
-
-pub in-query : Bodied Query
-in-query = record { positive = refl; negated = refl; sole = signed-query }
+-- ---- a run of subgoals
 
 -- a mark of either kind leads the bytes at a place, or none does
 module _ (p : Phase) (b : Bodied p) (s : List ℕ) (at : ℕ) where

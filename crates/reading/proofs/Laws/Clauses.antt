@@ -8,15 +8,16 @@ use native.Mathlib.Omega.{arith}
 use lib.ListN.{length, drop, set}
 use Rattle.book.specs.Limits.{maxClauses}
 use Rattle.book.specs.Book.{Call, Clause, noClause}
-use Rattle.book.specs.Format.{spelling, leads, markAt, turn, fields, clause, query}
+use Rattle.book.specs.Format.{spelling, leads, markAt, turn, Bodied, fields, clause, query}
 use Rattle.book.specs.Held.{headIn, callIn, clauseSize, rulesSize, clausesOf}
 use Rattle.book.specs.declared.fault.Fault.{Fault}
 use Rattle.book.specs.declared.fault.Fault.the-variants.{TooMany}
 use Rattle.book.specs.declared.mark.Mark.the-variants.{Cl}
-use Rattle.book.specs.declared.mark.Phase.the-variants.{Clauses, Body, Query}
+use Rattle.book.specs.declared.mark.Phase.{Phase}
+use Rattle.book.specs.declared.mark.Phase.the-variants.{Clauses, Body}
 use Rattle.book.specs.declared.mark.Turn.the-variants.{Mine}
 use Rattle.book.specs.declared.range.Range.the-variants.{NoWildcard}
-use Rattle.book.proofs.Laws.Marks.{sole-clauses}
+use Rattle.book.proofs.Laws.Marks.{sole-clauses, in-body}
 use Rattle.book.proofs.Laws.Held.{clausesOf-stored}
 use Rattle.records.specs.declared.field.Found.{Found}
 use Rattle.records.specs.declared.field.Found.the-variants.{Next, Bad}
@@ -24,7 +25,7 @@ use Rattle.records.specs.Found.{Reads, stops}
 use Rattle.records.proofs.Laws.Reads.{bad-next, then-bad, then-next, reads-map, next-inside, after-mark}
 use Rattle.reading.specs.Stored.{ReadsBody, ReadsClause, ReadsClauses, ReadsQuery}
 use Rattle.reading.proofs.Laws.Runs.{Going, mine-at, not-mine-at, mark-there, going-start, going-full, going-bad, going-next, going-end}
-use Rattle.reading.proofs.Laws.Bodies.{in-body, in-query, body-bad, body-next, body-stored, clause-stored}
+use Rattle.reading.proofs.Laws.Bodies.{body-bad, body-next, body-stored, clause-stored}
 
 -- ---- a clause
 
@@ -138,16 +139,16 @@ module _ (ar s : List ℕ) (from : ℕ) (before : List ℕ) where
 
 -- ---- the query
 
-module _ (ar s : List ℕ) (at : ℕ) {g : Found} {before after : List ℕ} (b : ReadsBody ar s (at + 2) maxClauses g before after) where
-  pub query-bad : {v : Fault} {q : ℕ} → g ≡ Bad v q → ReadsQuery ar s at g before after
+module _ (p : Phase) (is : Bodied p) (ar s : List ℕ) (at : ℕ) {g : Found} {before after : List ℕ} (b : ReadsBody ar s (at + 2) maxClauses g before after) where
+  pub query-bad : {v : Fault} {q : ℕ} → g ≡ Bad v q → ReadsQuery p ar s at g before after
   unfolding query
-  query-bad e = record { goals = []; reads = rw after-mark (body-bad b Query in-query e); stored = λ a n d. bad-next e d }
+  query-bad e = record { goals = []; reads = rw after-mark (body-bad b p is e); stored = λ a n d. bad-next e d }
 
-  pub query-ended : {end m : ℕ} → g ≡ Next end m → {r : Found} → Reads s r (λ j. j) (stops Query 0 (drop end s)) → ReadsQuery ar s at r before after
+  pub query-ended : {end m : ℕ} → g ≡ Next end m → {r : Found} → Reads s r (λ j. j) (stops p 0 (drop end s)) → ReadsQuery p ar s at r before after
   unfolding query
   query-ended {end} {m} e v =
       record {
         goals = map callIn (b .words);
-        reads = rw after-mark (body-next b Query in-query e v);
+        reads = rw after-mark (body-next b p is e v);
         stored = λ a n d room. body-stored before maxClauses (b .words) room (omega arith) (b .few) (b .stored end m e);
       }

@@ -11,7 +11,7 @@ use Rattle.book.specs.Format.{allows, Got, many, predicate, clause, query, rule
 use Rattle.book.specs.Encode.{encPredicate, encClause}
 use Rattle.book.specs.Held.{modesOf, clausesOf, clauseAt, StoredClause, bookIn}
 use Rattle.book.specs.declared.fault.Fault.{Fault}
-use Rattle.book.specs.declared.mark.Phase.the-variants.{Predicates, Clauses}
+use Rattle.book.specs.declared.mark.Phase.the-variants.{Predicates, Clauses, Query}
 use Rattle.book.specs.declared.range.Range.the-variants.{AtMost}
 use Rattle.book.proofs.Laws.Marks.{clauses-over-starts}
 use Rattle.book.proofs.Laws.Got.{each-all, many-inv}
@@ -119,7 +119,7 @@ module _ (preds : ℕ) (arities s : List ℕ) (from : ℕ) {m : FoundModes} {mod
           omega arith
 
       -- the query decides
-      pub rules-read : {r : Found} {after : List ℕ} → length one ≡ length rules· → ReadsQuery (take preds arities) s end r one after
+      pub rules-read : {r : Found} {after : List ℕ} → length one ≡ length rules· → ReadsQuery Query (take preds arities) s end r one after
           → ReadsRules preds arities s from (record { found = r; n = c .n; «with_mode» = m .«with_mode» }) modes rules· modes· after
       unfolding rules
       rules-read {r} {after} same q =

@@ -30,7 +30,8 @@ same-length c = search needs
 returns : tie.Need-returns
 returns c =
     let read-body = c .before .before .before .before .read-body in
-    query-bad _ _ _ (read-body .ensures) (c .enum-told .given .1)
+    let pre = c .before .before .before .before .before .before .before .before .before .pre in
+    query-bad _ (pre .2) _ _ _ (read-body .ensures) (c .enum-told .given .1)
 
 same-length-2 : tie.Need-same-length-2
 same-length-2 c = search needs
@@ -39,7 +40,8 @@ returns-2 : tie.Need-returns-2
 returns-2 c =
     let read-body = c .before .before .before .before .before .before .read-body in
     let b = c .before .before .b in
-    query-ended _ _ _ (read-body .ensures) (b .given .1) (c .run-end .ensures)
+    let pre = c .before .before .before .before .before .before .before .before .before .before .before .pre in
+    query-ended _ (pre .2) _ _ _ (read-body .ensures) (b .given .1) (c .run-end .ensures)
 
 pub read-query-spec : {M : Type 1} → statement M
 read-query-spec =

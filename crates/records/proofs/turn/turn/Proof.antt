@@ -33,6 +33,18 @@ enum-told-5 c = search needs
 column-requires-5 : tie.Need-column-requires-5
 column-requires-5 c κs = search needs
 
+enum-told-6 : tie.Need-enum-told-6
+enum-told-6 c = search needs
+
+column-requires-6 : tie.Need-column-requires-6
+column-requires-6 c κs = search needs
+
+enum-told-7 : tie.Need-enum-told-7
+enum-told-7 c = search needs
+
+column-requires-7 : tie.Need-column-requires-7
+column-requires-7 c κs = search needs
+
 returns : tie.Need-returns
 returns c = rw (c .before .enum-told .given .1) (c .column .ensures)
 
@@ -48,6 +60,12 @@ returns-4 c = rw (c .before .enum-told4 .given .1) (c .column4 .ensures)
 returns-5 : tie.Need-returns-5
 returns-5 c = rw (c .before .enum-told5 .given .1) (c .column5 .ensures)
 
+returns-6 : tie.Need-returns-6
+returns-6 c = rw (c .before .enum-told6 .given .1) (c .column6 .ensures)
+
+returns-7 : tie.Need-returns-7
+returns-7 c = rw (c .before .enum-told7 .given .1) (c .column7 .ensures)
+
 pub turn-spec : {M : Type 1} → statement M
 turn-spec =
     tie.close
@@ -62,8 +80,14 @@ turn-spec =
     column-requires-4
     enum-told-5
     column-requires-5
+    enum-told-6
+    column-requires-6
+    enum-told-7
+    column-requires-7
     returns
     returns-2
     returns-3
     returns-4
-    returns-5)
+    returns-5
+    returns-6
+    returns-7)

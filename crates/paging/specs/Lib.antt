@@ -1,0 +1,3 @@
+-- What a reader has to believe of this crate: how the run of a page is judged, and what a page comes to.
+pub mod Run
+pub mod Page
