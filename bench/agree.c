@@ -1,6 +1,6 @@
 // agree N SEED: the library beside the C version on N inputs, random and damaged. Each input goes through every operation of both. The replies must be
-// the same in number, value and rounds, the outputs byte for byte; the bytes before and after every buffer, those of the room behind an output, the
-// whole room at a refusal, and the inputs must stay as they were. Prints how often each reply came, or the first input that shows a difference.
+// the same in number, value and rounds, the outputs byte for byte, the tallies in both fields; the bytes before and after every buffer and tally, those of
+// the room behind an output, the whole room and the tally at a refusal, and the inputs must stay as they were. Prints how often each reply came, or the first input that shows a difference.
 #include <shodhvirup.h>
 #include <stdio.h>
 #include <stdlib.h>
@@ -214,10 +214,29 @@ static void make(input *s)
         damage(s);
 }
 
+// The run of a page for a book: a few queries, or about as many as there may be.
+static void make_run(input *s, const input *book)
+{
+    unsigned arity[64], preds = 0, variables = 1 + pick(5), negated = pick(2) == 0 ? 0 : 1 + pick(8);
+    unsigned n = pick(64) == 0 ? 254 + pick(4) : pick(6), most = n > 6 ? 2 : pick(10) == 0 ? 9 : 4;
+
+    while (preds < 64 && 3 * preds + 3 <= book->length && memcmp(book->bytes + 3 * preds, "PR", 2) == 0) {
+        arity[preds] = book->bytes[3 * preds + 2] % 7;
+        preds++;
+    }
+    for (s->length = 0; n > 0; n--) {
+        add_mark(s, "QU");
+        if (preds > 0)
+            add_body(s, most, arity, preds, variables, negated);
+    }
+    if (pick(3) == 0)
+        damage(s);
+}
+
 // ---- one call of both
 
-enum { CHECK, ANALYSE, PLAN, CLOSE, CHOICE, JOINT, OPERATIONS };
-static const char *const names[] = {"check", "analyse", "plan", "close", "choice", "joint"};
+enum { CHECK, ANALYSE, PLAN, CLOSE, PAGE, CHOICE, JOINT, OPERATIONS };
+static const char *const names[] = {"check", "analyse", "plan", "close", "page", "choice", "joint"};
 
 typedef struct {
     input first, second;
@@ -225,7 +244,7 @@ typedef struct {
     unsigned arity;
 } question;
 
-static shodh_reply ask(int ours, int op, const question *q, const uint8_t *x, const uint8_t *y, uint8_t *out, size_t room)
+static shodh_reply ask(int ours, int op, const question *q, const uint8_t *x, const uint8_t *y, uint8_t *out, size_t room, shodh_tally *tally)
 {
     size_t n = q->first.length, m = q->second.length;
     uint8_t arity = (uint8_t)q->arity;
@@ -238,6 +257,8 @@ static shodh_reply ask(int ours, int op, const question *q, const uint8_t *x, co
         return ours ? shodh_plan(x, n, out, room) : limit_plan(x, n, out, room);
     case CLOSE:
         return ours ? shodh_close(x, n, q->set, out, room) : limit_close(x, n, q->set, out, room);
+    case PAGE:
+        return ours ? shodh_page(x, n, y, m, out, room, tally) : limit_page(x, n, y, m, out, room, tally);
     case CHOICE:
         return ours ? shodh_choice(arity, x, n, y, m, out, room) : limit_choice(arity, x, n, y, m, out, room);
     default:
@@ -287,16 +308,21 @@ static void fail(int op, const question *q, size_t room, const char *what)
 static unsigned compare(int op, const question *q, size_t room)
 {
     uint8_t *x = lend(first_space, &q->first), *y = lend(second_space, &q->second), *out = room == 0 ? NULL : room_space + GUARD;
-    shodh_reply theirs = ask(0, op, q, q->first.bytes, q->second.bytes, expected, room < sizeof expected ? room : sizeof expected), r;
+    shodh_tally tally = {next(), next()}, tallies[3] = {{1, 2}, tally, {3, 4}};
+    shodh_reply theirs = ask(0, op, q, q->first.bytes, q->second.bytes, expected, room < sizeof expected ? room : sizeof expected, &tally), r;
     size_t written = op == CHECK || theirs.number != 0 ? 0 : (size_t)theirs.value;
 
     for (size_t i = 0; i < GUARD + room + GUARD; i++)
         room_space[i] = old(i);
-    r = ask(1, op, q, x, y, out, room);
+    r = ask(1, op, q, x, y, out, room, &tallies[1]);
     if (r.number != theirs.number || r.value != theirs.value || r.rounds != theirs.rounds)
         fail(op, q, room, "the replies differ");
     if (memcmp(room_space + GUARD, expected, written) != 0)
         fail(op, q, room, "the outputs differ");
+    if (tallies[1].accepted != tally.accepted || tallies[1].turned_away != tally.turned_away)
+        fail(op, q, room, "the tallies differ");
+    if (tallies[0].accepted != 1 || tallies[0].turned_away != 2 || tallies[2].accepted != 3 || tallies[2].turned_away != 4)
+        fail(op, q, room, "what stands beside the tally changed");
     for (size_t i = 0; i < GUARD + room + GUARD; i++)
         if ((i < GUARD || i >= GUARD + written) && room_space[i] != old(i))
             fail(op, q, room, "a byte changed that must stay");
@@ -310,7 +336,8 @@ static unsigned long long replies[OPERATIONS][10];
 // One operation: in a room that is large enough, then, where something was written, in one of about that size or less.
 static void try(int op, const question *q)
 {
-    shodh_reply r = ask(0, op, q, q->first.bytes, q->second.bytes, expected, sizeof expected);
+    shodh_tally tally;
+    shodh_reply r = ask(0, op, q, q->first.bytes, q->second.bytes, expected, sizeof expected, &tally);
     size_t needed = r.number == 0 ? (size_t)r.value : 0;
 
     replies[op][compare(op, q, needed + pick(256))]++;
@@ -336,7 +363,8 @@ int main(int argc, char **argv)
     for (unsigned long k = 0; k < inputs; k++) {
         make(&book.first);
         book.set = pick(4) == 0 ? next() : next() & ((1u << pick(12)) - 1);
-        for (int op = CHECK; op <= CLOSE; op++)
+        make_run(&book.second, &book.first);
+        for (int op = CHECK; op <= PAGE; op++)
             try(op, &book);
         lists.arity = pick(8);
         make_masks(&lists.first, lists.arity);

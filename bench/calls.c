@@ -1,6 +1,6 @@
 // calls WORKLOADS NAME OPERATION N: one operation, N times, on each book of that name. The instructions are counted from outside (see run). With `stack`
 // for N it is called once, and the bytes of stack that it took, the most of all books, are printed. A line of WORKLOADS is a name and a book in
-// hexadecimal digits. With -DLIMIT it is the C version that is called, else the library.
+// hexadecimal digits. A page asks the book's own query, 256 times. With -DLIMIT it is the C version that is called, else the library.
 #include <shodhvirup.h>
 #include <stdio.h>
 #include <stdlib.h>
@@ -18,12 +18,39 @@
 static char line[1 << 16];
 static uint8_t book[1 << 15], out[SHODH_PLAN_SIZE];
 
+// the run of a page
+static uint8_t run[1 << 15];
+static size_t run_length;
+
 static int digit(char c)
 {
     return c <= '9' ? c - '0' : c - 'a' + 10;
 }
 
-static const char *const operations[] = {"check", "analyse", "plan", "close-none", "close-all", "close-beyond"};
+static const char *const operations[] = {"check", "analyse", "plan", "close-none", "close-all", "close-beyond", "page"};
+
+// the query of a book, which its records end in, as often as a page may ask
+static void make_run(size_t n)
+{
+    const uint8_t *p = book, *end = book + n;
+    unsigned arity[64], preds = 0;
+
+    while (p < end && *p != 'Q') {
+        if (*p == 'P') {
+            arity[preds++] = p[2];
+            p += 3;
+        } else if (*p == 'M') {
+            p += 4 + p[3];
+        } else {
+            p += 3 + arity[p[2]];
+        }
+    }
+    run_length = 0;
+    for (int k = 0; k < SHODH_MOST_QUERIES; k++) {
+        memcpy(run + run_length, p, (size_t)(end - p));
+        run_length += (size_t)(end - p);
+    }
+}
 
 // the closing's set: none, every predicate of the book, whose `PR` records come first, or every number
 static uint64_t chosen(int operation, size_t n)
@@ -39,6 +66,8 @@ static uint64_t chosen(int operation, size_t n)
 
 static shodh_reply call(int operation, size_t n, uint64_t set)
 {
+    static shodh_tally tally;
+
     switch (operation) {
     case 0:
         return CALL(check)(book, n);
@@ -46,6 +75,8 @@ static shodh_reply call(int operation, size_t n, uint64_t set)
         return CALL(analyse)(book, n, out, sizeof out);
     case 2:
         return CALL(plan)(book, n, out, sizeof out);
+    case 6:
+        return CALL(page)(book, n, run, run_length, out, sizeof out, &tally);
     default:
         return CALL(close)(book, n, set, out, sizeof out);
     }
@@ -89,10 +120,10 @@ int main(int argc, char **argv)
     uint64_t sum = 0;
     int operation = 0;
 
-    while (argc == 5 && operation < 6 && strcmp(operations[operation], argv[3]) != 0)
+    while (argc == 5 && operation < 7 && strcmp(operations[operation], argv[3]) != 0)
         operation++;
-    if (file == NULL || operation == 6) {
-        fprintf(stderr, "usage: calls WORKLOADS NAME check|analyse|plan|close-none|close-all|close-beyond N|stack\n");
+    if (file == NULL || operation == 7) {
+        fprintf(stderr, "usage: calls WORKLOADS NAME check|analyse|plan|close-none|close-all|close-beyond|page N|stack\n");
         return 2;
     }
     while (fgets(line, sizeof line, file)) {
@@ -102,6 +133,7 @@ int main(int argc, char **argv)
             continue;
         for (; digits[2 * n] != 0; n++)
             book[n] = (uint8_t)(digit(digits[2 * n]) * 16 + digit(digits[2 * n + 1]));
+        make_run(n);
         uint64_t set = chosen(operation, n);
         if (strcmp(argv[4], "stack") == 0) {
             size_t taken = stack_of(operation, n, set);

@@ -9,6 +9,7 @@
 #define ROOM 164585
 #define OLD 238
 #define BOOK 8192
+#define RUN 20480
 #define MASKS 32
 #define FIELDS 7
 
@@ -21,7 +22,7 @@ static const char *const names[OPERATIONS] = {"analyse", "plan", "close", "sheet
 
 // bytes taken from a field
 typedef struct {
-    uint8_t bytes[BOOK];
+    uint8_t bytes[RUN];
     size_t length;
 } input;
 
@@ -308,6 +309,22 @@ static void fits(char **field)
     printf(" %d", any);
 }
 
+static void page(char **field)
+{
+    static answer a;
+    static input b, r;
+    shodh_tally t;
+
+    b = bytes_of(field[2], BOOK);
+    r = bytes_of(field[3], RUN);
+    t.accepted = number_of(field[5], 1000000000);
+    t.turned_away = number_of(field[6], 1000000000);
+    memset(a.out, OLD, ROOM);
+    a.reply = limit_page(b.bytes, b.length, r.bytes, r.length, a.out, number_of(field[4], ROOM), &t);
+    show_answer(&a, 2);
+    printf(" %llu %llu", (unsigned long long)t.accepted, (unsigned long long)t.turned_away);
+}
+
 static void again(char **field)
 {
     static answer a;
@@ -389,7 +406,7 @@ static void parts(char **field)
 static const struct {
     const char *kind;
     void (*results)(char **field);
-} kinds[] = {{"book", book}, {"short", shorter}, {"room", room}, {"pair", pair}, {"fits", fits}, {"again", again}, {"parts", parts}};
+} kinds[] = {{"book", book}, {"short", shorter}, {"room", room}, {"pair", pair}, {"fits", fits}, {"page", page}, {"again", again}, {"parts", parts}};
 
 static void results(char **field)
 {

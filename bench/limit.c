@@ -1,4 +1,4 @@
-// The four operations on books in C, unverified and tuned by hand: the bar for speed, and a second opinion. All head patterns of a clause
+// The operations on books in C, unverified and tuned by hand: the bar for speed, and a second opinion. All head patterns of a clause
 // are scheduled at once: lane a of a 64-bit word says "under head pattern a". Not for use: `limit_plan` keeps its orders in static memory.
 #include <shodhvirup.h>
 #include <stddef.h>
@@ -42,6 +42,36 @@ static reply R(u32 n, u64 v)
 {
     reply r = {n, v, 0};
     return r;
+}
+
+// the subgoal whose predicate is at p, behind SG (k = 4) or NG (5): the place after it, or 0 and the fault
+static inline __attribute__((always_inline)) size_t read_sub(const u8 *s, size_t len, size_t p, int k, const book *b, sub *x, reply *fault)
+{
+    if (p >= len) {
+        *fault = R(1, len);
+        return 0;
+    }
+    u8 pr = s[p++];
+    if (pr >= b->np) {
+        *fault = R(4, p - 1);
+        return 0;
+    }
+    for (int i = 0; i < b->arity[pr]; i++) {
+        if (p >= len) {
+            *fault = R(1, len);
+            return 0;
+        }
+        u8 a = s[p++];
+        if (a > 15 && a < (k == 4 ? 254 : 255)) {
+            *fault = R(4, p - 1);
+            return 0;
+        }
+        x->args[i] = a;
+    }
+    x->pred = pr;
+    x->n = b->arity[pr];
+    x->negated = k == 5;
+    return p;
 }
 
 // the book that the bytes are, or its first fault and the byte at fault; phases: 0 PR, 1 MO, 2 CL, 3 QU
@@ -152,23 +182,10 @@ static reply read_book(const u8 *s, size_t len, book *b)
         }
         if (nsub == 8)
             return R(5, at);
-        if (p >= len)
-            return R(1, len);
-        u8 pr = s[p++];
-        if (pr >= b->np)
-            return R(4, p - 1);
-        sub *x = phase == 3 ? &b->q[b->nq] : &b->cl[b->nc - 1].body[nsub];
-        for (int i = 0; i < b->arity[pr]; i++) {
-            if (p >= len)
-                return R(1, len);
-            u8 a = s[p++];
-            if (a > 15 && a < (k == 4 ? 254 : 255))
-                return R(4, p - 1);
-            x->args[i] = a;
-        }
-        x->pred = pr;
-        x->n = b->arity[pr];
-        x->negated = k == 5;
+        reply fault;
+        p = read_sub(s, len, p, k, b, phase == 3 ? &b->q[b->nq] : &b->cl[b->nc - 1].body[nsub], &fault);
+        if (p == 0)
+            return fault;
         nsub++;
         if (phase == 3)
             b->nq++;
@@ -512,6 +529,61 @@ reply limit_close(const u8 *s, size_t len, u64 set, u8 *out, size_t room)
 }
 
 // the choice or the joint of two lists of masks
+// two bytes are this mark, or one of the six
+static int is(const u8 *s, const char *mark)
+{
+    return s[0] == mark[0] && s[1] == mark[1];
+}
+static int known(const u8 *s)
+{
+    return is(s, "PR") || is(s, "MO") || is(s, "CL") || is(s, "SG") || is(s, "NG") || is(s, "QU");
+}
+reply limit_page(const u8 *s, size_t len, const u8 *run, size_t run_len, u8 *out, size_t room, shodh_tally *tally)
+{
+    book b;
+    reply r = read_book(s, len, &b);
+    if (r.number)
+        return r;
+    masks t[64];
+    u64 adm[64];
+    needs(&b, t, adm);
+    u8 image[SHODH_PAGE_SIZE], *o = image, pats[8];
+    u64 queries = 0, accepted = 0;
+    sub q[8];
+    for (size_t at = 0; at < run_len;) {
+        if (run_len - at < 2)
+            return R(1, run_len);
+        if (!is(run + at, "QU"))
+            return R(known(run + at) ? 3 : 2, at);
+        if (queries++ == 256)
+            return R(5, at);
+        int n = 0;
+        for (at += 2; run_len - at >= 2 && (is(run + at, "SG") || is(run + at, "NG")); n++) {
+            if (n == 8)
+                return R(5, at);
+            at = read_sub(run, run_len, at + 2, run[at] == 'S' ? 4 : 5, &b, &q[n], &r);
+            if (at == 0)
+                return r;
+        }
+        if (order(q, n, 0, adm, o + 4, pats)) {
+            o[0] = 0;
+            o[1] = 'Q';
+            o[2] = 'O';
+            o[3] = n;
+            o += 4 + n;
+            accepted++;
+        } else
+            *o++ = 7;
+    }
+    size_t need = o - image;
+    if (room < need)
+        return R(9, need);
+    memcpy(out, image, need);
+    tally->accepted = accepted;
+    tally->turned_away = queries - accepted;
+    r.value = need;
+    return r;
+}
 static reply combine(int joint, u8 arity, const u8 *x, size_t nx, const u8 *y, size_t ny, u8 *out, size_t room)
 {
     const u8 *lists[2] = {x, y};

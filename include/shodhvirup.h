@@ -1,4 +1,4 @@
-/* shodhvirup.h: rule books checked, analysed, planned and closed.
+/* shodhvirup.h: rule books checked, analysed, planned and closed, and the queries of a page ordered.
  *
  * A rule book is a string of bytes: Datalog clauses over predicates, some of which reach outside and can only be asked when certain of their
  * arguments are known. A book declares by MO what its predicates must be given: those outside and, where a rule writer wants it, those with clauses, too.
@@ -9,7 +9,7 @@
  *
  * WHAT HOLDS OF EVERY FUNCTION
  *
- * Input. A book, or a list of masks, is given as a pointer and a length. Any bytes may be given, of any length; each input gets one of the replies
+ * Input. A book, a run of queries, or a list of masks, is given as a pointer and a length. Any bytes may be given, of any length; each input gets one of the replies
  * below, and the work ends. The input is only read, and nobody may change it during the call.
  *
  * Output. Room for the output is lent as a pointer and a length. On success the output is written from the start of the room, and the bytes after it
@@ -36,8 +36,8 @@
  *
  * At 2, 4, 5 and 6 the value is less than the book's length, so that book[value] is a byte of it; at 3 it may be the length, at 1 it always is.
  *
- * Records are judged from the left, and the first fault is given. A valid book is then tried for 8, then 7, then 9. shodh_choice and shodh_joint give
- * 0, 4, 5 and 9 alone, as described there.
+ * Records are judged from the left, and the first fault is given. A valid book is then tried for 8, then 7, then 9. shodh_page judges its run once the book
+ * is valid, and shodh_choice and shodh_joint give 0, 4, 5 and 9 alone, as described there.
  *
  * State. None: no memory is allocated, nothing is kept between calls, and calls from several threads do not disturb each other.
  *
@@ -56,16 +56,18 @@
 extern "C" {
 #endif
 
-#define SHODH_VERSION "6.0.0"
+#define SHODH_VERSION "6.1.0"
 
 /* Rooms that are always enough, in bytes. */
 #define SHODH_TABLE_SIZE 1600
 #define SHODH_PLAN_SIZE 53259
 #define SHODH_BOOK_SIZE 6986
+#define SHODH_PAGE_SIZE 3072
 #define SHODH_MASKS_SIZE 20
 
-/* No analysis has more rounds. */
+/* No analysis has more rounds, and no page more queries. */
 #define SHODH_MOST_ROUNDS 4096
+#define SHODH_MOST_QUERIES 256
 
 /* The numbers of the replies. */
 enum {
@@ -86,6 +88,12 @@ typedef struct {
     uint64_t value;
     uint64_t rounds;
 } shodh_reply;
+
+/* How many queries of a page are accepted, and how many turned away. */
+typedef struct {
+    uint64_t accepted;
+    uint64_t turned_away;
+} shodh_tally;
 
 /* Whether the bytes are a book. Writes nothing.
  * Replies: 0 with the value 0; 1 to 6. */
@@ -116,6 +124,20 @@ shodh_reply shodh_plan(const uint8_t *book, size_t length, uint8_t *out, size_t 
  * gives the same bytes as closing at once, and the empty set gives back the book.
  * Room: SHODH_BOOK_SIZE. Replies: 0; 1 to 6; 8; 9. */
 shodh_reply shodh_close(const uint8_t *book, size_t length, uint64_t set, uint8_t *out, size_t room);
+
+/* All the queries of a page in one go, of one book: a run of up to SHODH_MOST_QUERIES `QU` records, each with its subgoals. For each query in turn is
+ * written a byte 0 and its `QO` record, or a byte 7: as shodh_plan gives with that query in place of the book's own, which plays no part here. So an answer
+ * depends on the book and its query alone, and the answers to a run that is joined of two are those of the two, one after the other. An empty run writes
+ * nothing. The book is read and analysed once; each query then costs one order.
+ *
+ * In the run QU is always in turn, SG and NG once a QU has come, and the run may end behind any record. It is judged from the left by the book's rules, as
+ * the table above says, with 5 for a 257th QU, too, and with the run in the book's stead: the value is an offset in the run, and at 1 the run's length.
+ *
+ * The tally is the caller's. A call that replies 0 leaves in it how many queries were accepted, with a byte 0, and how many turned away, with a byte 7; a
+ * refused one does not touch it. The pointer must be good for a shodh_tally, and nobody else may read or write that during the call; it must not overlap
+ * the inputs or the room.
+ * Room: SHODH_PAGE_SIZE. Replies: 0; 1 to 6, of the book; then 1 to 5, of the run; 9. */
+shodh_reply shodh_page(const uint8_t *book, size_t length, const uint8_t *run, size_t run_length, uint8_t *out, size_t room, shodh_tally *tally);
 
 /* Two constraints of one arity combined: the choice is fitted by a pattern that fits either, the joint by one that fits each. Given are the arity, 0
  * to 6, and two lists of up to 20 masks in any order; written are the masks of the result, equal ones once, none containing another, ascending.

@@ -16,8 +16,9 @@ use needs::settle;
 use ordering::Order;
 use ordering::first_order;
 use plan::image::put_query;
+use reading::ended;
+use reading::read_body;
 use reading::read_book;
-use reading::read_query;
 use records::field::Found;
 use records::turn::is_mark;
 use records::turn::run_end;
@@ -111,16 +112,16 @@ fn give<'a>(
         return Paged { reply, tally };
     }
     let size = a.size;
-    let reply = Reply::in_room(size, 0, out.len());
-    if reply.number != 0 {
-        return Paged { reply, tally };
-    }
-    put_bytes(out, 0, &image[..size]);
     let counts = a.tally;
-    Paged {
-        reply,
-        tally: counts,
+    let reply = Reply::in_room(size, 0, out.len());
+    if reply.number == 0 {
+        put_bytes(out, 0, &image[..size]);
+        return Paged {
+            reply,
+            tally: counts,
+        };
     }
+    Paged { reply, tally }
 }
 
 // The answers to the queries of a run, one after the other, and their tally from zero.
@@ -176,7 +177,11 @@ fn read_page_query<'a>(
     ensures { λ r. ⌜ QueryRead (now (ar .entry)) (now (run .entry)) at r (now (rules .exit)) ⌝ }
 {
     let words: &mut [u64] = rules;
-    read_query(run, ar, at, words, Phase::PageQuery)
+    let b = read_body(run, ar, at + 2, words, MAX_CLAUSES);
+    match b {
+        Found::Bad(_, _) => b,
+        Found::Next(end, _) => ended(run, end, Phase::PageQuery, b"QU"),
+    }
 }
 
 // The answer to the query that is stored, from a place on. It depends on the table and the query alone.

@@ -170,7 +170,7 @@ fn read_rules<'a>(
             with_mode: m.with_mode,
         };
     };
-    let found = read_query(s, ar, end, rules, Phase::Query);
+    let found = read_query(s, ar, end, rules);
     FoundRules {
         found,
         n: c.n,
@@ -291,20 +291,20 @@ fn read_clause(s: &[u8], ar: &[u8], at: usize, rules: &mut [u64], k: usize) -> F
     }
 }
 
-// The query whose record is at a place, of the book or of a page, stored behind the room of the clauses as the body of a clause whose head says nothing.
-pub fn read_query<'a>(s: &'a [u8], ar: &'a [u8], at: usize, rules: &mut [u64], p: Phase) -> Found
-    requires { ⌜ (at + 2 ≤ length (now s)) × Arities (now ar) × format.Bodied p ⌝ }
-    ensures { λ r. ⌜ ReadsQuery p (now (ar .entry)) (now (s .entry)) at r (now (rules .entry)) (now (rules .exit)) ⌝ }
+// The query whose record is at a place, stored behind the room of the clauses as the body of a clause whose head says nothing.
+fn read_query<'a>(s: &'a [u8], ar: &'a [u8], at: usize, rules: &mut [u64]) -> Found
+    requires { ⌜ (at + 2 ≤ length (now s)) × Arities (now ar) ⌝ }
+    ensures { λ r. ⌜ ReadsQuery Phase.Query (now (ar .entry)) (now (s .entry)) at r (now (rules .entry)) (now (rules .exit)) ⌝ }
 {
     let b = read_body(s, ar, at + 2, rules, MAX_CLAUSES);
     match b {
         Found::Bad(_, _) => b,
-        Found::Next(end, _) => run_end(s, end, p),
+        Found::Next(end, _) => run_end(s, end, Phase::Query),
     }
 }
 
-// The subgoals of a clause or of the query, from a place on, stored as those of clause k. What stands behind them is not judged here.
-fn read_body(s: &[u8], ar: &[u8], from: usize, rules: &mut [u64], k: usize) -> Found
+// The subgoals of a clause or of a query, from a place on, stored as those of clause k. What stands behind them is not judged here.
+pub fn read_body(s: &[u8], ar: &[u8], from: usize, rules: &mut [u64], k: usize) -> Found
     requires { ⌜ (from ≤ length (now s)) × Arities (now ar) × (k ≤ maxClauses) ⌝ }
     ensures { λ r. ⌜ ReadsBody (now (ar .entry)) (now (s .entry)) from k r (now (rules .entry)) (now (rules .exit)) ⌝ }
 {
@@ -333,7 +333,7 @@ fn read_body(s: &[u8], ar: &[u8], from: usize, rules: &mut [u64], k: usize) -> F
 }
 
 // What comes of a run where none of its records follows. Mostly it is a mark that ends it, which is tried first.
-fn ended(s: &[u8], at: usize, p: Phase, next: &[u8; 2]) -> Found
+pub fn ended(s: &[u8], at: usize, p: Phase, next: &[u8; 2]) -> Found
     requires { ⌜ (at ≤ length (now s)) × Ends p (now next) ⌝ }
     ensures { λ r. ⌜ Reads (now (s .entry)) r (λ k. k) (stops p 0 (drop at (now (s .entry)))) ⌝ }
 {

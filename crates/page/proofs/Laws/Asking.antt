@@ -6,9 +6,9 @@ use Prim.Native.Nat.{ℕ, _+_, _-_, _*_, _≤_, _<_}
 use native.Mathlib.Omega.{arith}
 use lib.ListN.{length, drop}
 use Rattle.book.specs.Limits.{maxPredicates, maxClauses, maxQueries, longestPage}
-use Rattle.book.specs.Book.{Call}
+use Rattle.book.specs.Book.{Call, Clause}
 use Rattle.book.specs.Format.{spelling, leads, markAt, turn, Got, got, many, query}
-use Rattle.book.specs.Held.{clauseAt}
+use Rattle.book.specs.Held.{rulesSize, clauseAt}
 use Rattle.book.specs.Sets.{callable}
 use Rattle.book.specs.Table.{Table}
 use Rattle.book.specs.declared.fault.Fault.{Fault}
@@ -22,6 +22,7 @@ use Rattle.book.proofs.Laws.Sets.{fit-callable}
 use Rattle.records.specs.declared.field.Found.{Found}
 use Rattle.records.specs.declared.field.Found.the-variants.{Next, Bad}
 use Rattle.records.specs.Found.{Reads, Arities, means, stops}
+use Rattle.reading.specs.Stored.{ReadsQuery}
 use Rattle.reading.proofs.Laws.Runs.{Going, mine-at, not-mine-at, mark-there, going-start, going-full, going-bad, going-next, going-end}
 use Rattle.writing.specs.Wrote.{Wrote}
 use Rattle.writing.proofs.Laws.Wrote.{wrote-nil, wrote-append, wrote-as, wrote-length, wrote-front}
@@ -32,6 +33,11 @@ use Rattle.paging.specs.Run.{readRun, faulty, judgedRun, judgeRun}
 use Rattle.paging.specs.Page.{answer, accepts, answers}
 use Rattle.paging.proofs.Laws.Run.{query-inv, query-calls}
 use Rattle.page.specs.Lent.{QueryRead, Kept, CameTo, RunAnswered}
+
+-- ---- a query that is read is stored, where there is room
+
+pub query-stored : {ar run : List ℕ} {at : ℕ} {r : Found} {before after : List ℕ} → ReadsQuery PageQuery ar run at r before after → length before ≡ rulesSize → QueryRead ar run at r after
+query-stored w room = record { goals = w .goals; reads = w .reads; stored = λ end n e. ap (λ (c : Clause). c .body) (w .stored end n e room .is) }
 
 -- ---- one more query
 

@@ -46,13 +46,6 @@ enum-told c = search needs
 in-room-requires : tie.Need-in-room-requires
 in-room-requires c κs = search needs
 
-returns-2 : tie.Need-returns-2
-returns-2 c =
-    let a = c .before .before .before .before .before in
-    let s = a .before .before .before .before .before .before .before .args in
-    give-short (s .preds) (s .arities .now) (s .admits .now) (s .run .now) (a .answer-run .ensures) (c .before .before .before .enum-told .given .1) (s .out .now) (s .tally) _
-    (c .before .before .in-room .ensures) (omega arith) (c .if1 .taken)
-
 -- the answers are the front of the image
 front : (c : tie.After-enum-told)
     → let a = c .before .before .answer-run in
@@ -63,27 +56,36 @@ front c =
     give-front (s .preds) (s .arities .now) (s .admits .now) (s .run .now) (a .answer-run .ensures) (c .enum-told .given .1)
 
 array-share-prefix-image : tie.Need-array-share-prefix-image
-array-share-prefix-image c = front (c .before .before .before .before) .fits
+array-share-prefix-image c = front (c .before .before .before .before .before) .fits
 
 slice-aggregate-put-bytes : tie.Need-slice-aggregate-put-bytes
-slice-aggregate-put-bytes c = front (c .before .before .before .before .before) .size
+slice-aggregate-put-bytes c = front (c .before .before .before .before .before .before) .size
 
 put-bytes-requires : tie.Need-put-bytes-requires
 put-bytes-requires c κs =
-    let size = front (c .before .before .before .before .before) .size in
-    let room = room-enough _ _ _ (c .before .before .before .before .in-room .ensures) (λ z. omega arith) in
+    let size = front (c .before .before .before .before .before .before) .size in
+    let room = room-enough _ _ _ (c .before .before .before .before .in-room .ensures) (λ z. omega (arith, c .before .before .if1 .taken)) in
     omega arith
 
 same-length : tie.Need-same-length
 same-length c = search needs
 
-returns-3 : tie.Need-returns-3
-returns-3 c =
+returns-2 : tie.Need-returns-2
+returns-2 c =
     let e = c .before .before .before .before .before .before .before .before .before in
     let a = e .before .before in
     let s = a .before .before .before .before .before .before .before .args in
     give-done (s .preds) (s .arities .now) (s .admits .now) (s .run .now) (a .answer-run .ensures) (e .enum-told .given .1) (s .out .now) (s .tally) _
-    (c .before .before .before .before .before .before .before .before .in-room .ensures) (omega arith) (λ z. omega arith) (c .before .before .before .put-bytes .ensures .is)
+    (c .before .before .before .before .before .before .before .in-room .ensures) (omega arith) (λ z. omega (arith, c .before .before .before .before .before .if1 .taken))
+    (c .before .before .put-bytes .ensures .is)
+
+returns-3 : tie.Need-returns-3
+returns-3 c =
+    let e = c .before .before .before .before in
+    let a = e .before .before in
+    let s = a .before .before .before .before .before .before .before .args in
+    give-short (s .preds) (s .arities .now) (s .admits .now) (s .run .now) (a .answer-run .ensures) (e .enum-told .given .1) (s .out .now) (s .tally) _
+    (c .before .before .in-room .ensures) (omega arith) (λ z. c .if1 .left (omega arith))
 
 pub give-spec : {M : Type 1} → statement M
 give-spec =
@@ -97,9 +99,9 @@ give-spec =
     returns
     enum-told
     in-room-requires
-    returns-2
     array-share-prefix-image
     slice-aggregate-put-bytes
     put-bytes-requires
     same-length
+    returns-2
     returns-3)

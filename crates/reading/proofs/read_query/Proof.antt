@@ -1,6 +1,8 @@
 -- `reading::read_query` meets its contract: the subgoals behind the two bytes of the mark, and then what ends them. Assumes nothing.
 use native.Mathlib.Omega.{arith}
 use borrow.Author.Needs.{needs}
+use Rattle.book.specs.declared.mark.Phase.the-variants.{Query}
+use Rattle.book.proofs.Laws.Marks.{in-query}
 use Rattle.reading.proofs.Laws.Clauses.{query-bad, query-ended}
 use Rattle.reading.proofs.read_query.Statement.{statement}
 use Rattle.reading.proofs.read_query.Tie as tie
@@ -30,8 +32,7 @@ same-length c = search needs
 returns : tie.Need-returns
 returns c =
     let read-body = c .before .before .before .before .read-body in
-    let pre = c .before .before .before .before .before .before .before .before .before .pre in
-    query-bad _ (pre .2) _ _ _ (read-body .ensures) (c .enum-told .given .1)
+    query-bad Query in-query _ _ _ (read-body .ensures) (c .enum-told .given .1)
 
 same-length-2 : tie.Need-same-length-2
 same-length-2 c = search needs
@@ -40,8 +41,7 @@ returns-2 : tie.Need-returns-2
 returns-2 c =
     let read-body = c .before .before .before .before .before .before .read-body in
     let b = c .before .before .b in
-    let pre = c .before .before .before .before .before .before .before .before .before .before .before .pre in
-    query-ended _ (pre .2) _ _ _ (read-body .ensures) (b .given .1) (c .run-end .ensures)
+    query-ended Query in-query _ _ _ (read-body .ensures) (b .given .1) (c .run-end .ensures)
 
 pub read-query-spec : {M : Type 1} → statement M
 read-query-spec =

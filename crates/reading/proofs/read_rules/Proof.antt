@@ -3,7 +3,6 @@ use mathlib.Core.Path.{sym}
 use native.Mathlib.Omega.{arith}
 use lib.Seq.{length-take-le}
 use borrow.Author.Needs.{needs}
-use Rattle.book.proofs.Laws.Marks.{in-query}
 use Rattle.records.proofs.Laws.Reads.{next-inside}
 use Rattle.reading.proofs.Laws.Whole.{rules-unmoded, rules-unclaused, rules-asked, rules-read}
 use Rattle.reading.proofs.read_rules.Statement.{statement}
@@ -67,7 +66,7 @@ read-query-requires c κs =
     let f = c .before .before .before .before .before .before .before .before .before .f in
     let read-clauses = c .before .before .before .before .before .before .read-clauses in
     let g = c .before .before .g in
-    (rules-asked (args .preds) (args .arities .now) (args .s .now) (args .from) (read-modes .ensures) _ (f .given .1) (read-clauses .ensures) (g .given .1), pre .2, in-query)
+    (rules-asked (args .preds) (args .arities .now) (args .s .now) (args .from) (read-modes .ensures) _ (f .given .1) (read-clauses .ensures) (g .given .1), pre .2)
 
 same-length-4 : tie.Need-same-length-4
 same-length-4 c = search needs

@@ -32,6 +32,16 @@ kept-at-nine = refl
 
 -- ---- counts
 
+-- one more of the accepted, or of those turned away
+module _ (t : Tally) {accepted : Bool} {a n : ℕ} where
+  pub one-accepted : accepted ≡ true → a ≡ t .accepted + 1 → n ≡ t .«turned_away» → record { accepted = a; «turned_away» = n } ≡ tallied t accepted
+  unfolding tallied
+  one-accepted b d e = rw (b, d, e)
+
+  pub one-turned-away : accepted ≡ false → a ≡ t .accepted → n ≡ t .«turned_away» + 1 → record { accepted = a; «turned_away» = n } ≡ tallied t accepted
+  unfolding tallied
+  one-turned-away b d e = rw (b, d, e)
+
 -- no more than n on either side
 abbrev pub AtMost : ℕ → Tally → Type 0
 AtMost n t = (t .accepted ≤ n) × (t .«turned_away» ≤ n)
