@@ -5,7 +5,7 @@ use mathlib.Core.List.{List, [], _∷_, _++_, map, map-append, append-nil}
 use Prim.Native.Nat.{ℕ, _+_, _-_, _*_, _≤_, _<_}
 use native.Mathlib.Omega.{arith}
 use lib.ListN.{length, drop}
-use Rattle.book.specs.Limits.{maxPredicates, maxClauses, maxQueries, longestPage}
+use Rattle.book.specs.Limits.{maxClauses, maxQueries, longestPage}
 use Rattle.book.specs.Book.{Call, Clause}
 use Rattle.book.specs.Format.{spelling, leads, markAt, turn, Got, got, many, query}
 use Rattle.book.specs.Held.{rulesSize, clauseAt}

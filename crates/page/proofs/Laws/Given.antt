@@ -9,7 +9,7 @@ use lib.ListN.{length, take}
 use lib.Seq.{sets}
 use borrow.Author.Tests.{leb-true}
 use Rattle.masks.specs.Lists.{all}
-use Rattle.masks.specs.Outcome.{Outcome, refused, done, inRoom}
+use Rattle.masks.specs.Outcome.{refused, done, inRoom}
 use Rattle.masks.specs.declared.reply.Reply.{Reply}
 use Rattle.masks.proofs.Laws.Logic.{and-left, and-right}
 use Rattle.masks.proofs.Laws.Outcome.{answers-refused, room-enough, room-short, answers-short, answers-done}

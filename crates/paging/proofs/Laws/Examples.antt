@@ -6,17 +6,12 @@ use Prim.Native.Nat.{ℕ}
 use lib.ListN.{replicate}
 use Rattle.masks.specs.Outcome.{refused, done}
 use Rattle.book.specs.Book.{Call}
-use Rattle.book.specs.Format.{markAt, allows, bytes, many, fields, subgoal, query}
-use Rattle.book.specs.Encode.{QU, SG, NG, PR, MO, CL, run}
+use Rattle.book.specs.Encode.{QU, SG, NG, CL, run}
 use Rattle.book.specs.declared.fault.Fault.the-variants.{PastEnd, NoMark, OutOfTurn, OutOfRange, TooMany}
-use Rattle.book.proofs.Laws.Examples.{k1-book}
+use Rattle.book.proofs.Laws.Examples.{compute, k1-book}
 use Rattle.choices.proofs.Laws.Examples.{compute-plan}
 use Rattle.paging.specs.Run.{readRun, judgeRun, faulty, queries}
 use Rattle.paging.specs.Page.{answer, accepts, answers, paged, verdictsOf}
-
-unfoldable compute-run : Unit {0}
-unfolding markAt allows bytes many fields subgoal query readRun judgeRun
-compute-run = tt
 
 -- a subgoal of one argument
 abbrev goal : ℕ → ℕ → Call
@@ -30,12 +25,12 @@ ar = 1 ∷ 2 ∷ 1 ∷ 1 ∷ []
 
 pub run-reads : judgeRun ar (QU ++ SG (2 ∷ 0 ∷ []) ++ QU ++ SG (3 ∷ 255 ∷ []) ++ NG (3 ∷ 255 ∷ []) ++ QU)
     ≡ queries ((goal 2 0 ∷ []) ∷ (goal 3 255 ∷ record { negated = true; pred = 3; args = 255 ∷ [] } ∷ []) ∷ [] ∷ [])
-unfolding compute-run
+unfolding compute readRun judgeRun
 run-reads = refl
 
 -- "An empty run"
 pub run-empty : judgeRun ar [] ≡ queries []
-unfolding compute-run
+unfolding compute readRun judgeRun
 run-empty = refl
 
 -- "by the book's rules, .. and places counted in the run": a subgoal before any query, a book's record, no mark, half of one, a byte out of range, one that
@@ -43,12 +38,12 @@ run-empty = refl
 pub run-faults : judgeRun ar (SG (2 ∷ 0 ∷ []) ++ QU) ∷ judgeRun ar (QU ++ CL (2 ∷ 0 ∷ [])) ∷ judgeRun ar (QU ++ (88 ∷ 88 ∷ [])) ∷ judgeRun ar (QU ++ (81 ∷ []))
     ∷ judgeRun ar (QU ++ QU ++ SG (2 ∷ 16 ∷ [])) ∷ judgeRun ar (QU ++ SG (2 ∷ [])) ∷ []
     ≡ faulty OutOfTurn 0 ∷ faulty OutOfTurn 2 ∷ faulty NoMark 2 ∷ faulty PastEnd 3 ∷ faulty OutOfRange 7 ∷ faulty PastEnd 5 ∷ []
-unfolding compute-run
+unfolding compute readRun judgeRun
 run-faults = refl
 
 -- "with 5 for a 257th query", at its mark
 pub run-257 : judgeRun [] (run (λ (k : ℕ). QU) (replicate 257 0)) ≡ faulty TooMany 512
-unfolding compute-run
+unfolding compute readRun judgeRun
 run-257 = refl
 
 -- ---- "For each comes a byte 0 or 7 and, after 0, its `QO` record": of document 01's book, fault(H), which asks for what it is not given, low(255) and none

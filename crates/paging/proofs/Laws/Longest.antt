@@ -1,15 +1,15 @@
 -- A page whose answer is as long as any: 256 times the query with eight subgoals of a predicate that asks for nothing. Assumes nothing.
 use mathlib.Core.Path.{_≡_, refl}
-use mathlib.Core.List.{List, [], _∷_}
+use mathlib.Core.List.{List, [], _∷_, _++_}
 use Prim.Native.Nat.{ℕ, zero, suc, _*_}
 use native.Mathlib.Omega.{arith}
 use lib.ListN.{length, replicate, length-append}
 use Rattle.masks.specs.Outcome.{done}
 use Rattle.book.specs.Limits.{maxQueries, longestPage}
 use Rattle.book.specs.Book.{Call, noCall, Book}
-use Rattle.book.specs.Format.{allows}
-use Rattle.book.specs.Encode.{run, encode, WellFormed}
-use Rattle.book.proofs.Laws.Trip.{judge-encode}
+use Rattle.book.specs.Format.{allows, book, judge}
+use Rattle.book.specs.Encode.{PR, QU, run}
+use Rattle.book.proofs.Laws.Examples.{compute}
 use Rattle.choices.proofs.Laws.Examples.{compute-plan}
 use Rattle.tables.specs.Table.{final}
 use Rattle.paging.specs.Run.{encQu, FitRun}
@@ -21,19 +21,9 @@ use Rattle.paging.proofs.Laws.Page.{paging-queries}
 abbrev small : Book
 small = record { arities = 0 ∷ []; modes = []; clauses = []; query = [] }
 
-small-well : WellFormed small
-unfolding allows
-small-well =
-    record {
-      fewPredicates = refl;
-      aritiesFit = refl;
-      modesFit = refl;
-      modesRise = refl;
-      fewClauses = refl;
-      clausesFit = refl;
-      fewAsked = refl;
-      queryFits = refl;
-    }
+small-valid : judge (PR (0 ∷ []) ++ QU) ≡ book small
+unfolding compute
+small-valid = refl
 
 abbrev eight : List Call
 eight = replicate 8 noCall
@@ -53,10 +43,10 @@ fits = record { few = refl; each = refl }
 pub longest-page : (s r bytes : List ℕ) × (paging s r ≡ done 0 bytes) × (length bytes ≡ longestPage)
 unfolding answers
 longest-page = (
-  encode small,
+  PR (0 ∷ []) ++ QU,
   run encQu (replicate maxQueries eight),
   answers (final small) (replicate maxQueries eight),
-  paging-queries (encode small) small (judge-encode small small-well) (run encQu (replicate maxQueries eight)) (replicate maxQueries eight)
+  paging-queries (PR (0 ∷ []) ++ QU) small small-valid (run encQu (replicate maxQueries eight)) (replicate maxQueries eight)
       (run-read (small .arities) (replicate maxQueries eight) fits),
   run-same (answer (final small)) eight answer-eight maxQueries,
 )

@@ -1,7 +1,7 @@
 -- What is known of a page: each answer beside the plan of the book with that query, joined pages, lengths. Assumes nothing.
 use mathlib.Core.Path.{_≡_, refl, sym, ap, _∙_, subst}
-use mathlib.Core.Bool.{Bool, true, false}
-use mathlib.Core.List.{List, [], _∷_, _++_, map, map-append}
+use mathlib.Core.Bool.{true, false}
+use mathlib.Core.List.{List, [], _∷_, _++_, map}
 use mathlib.Core.Option.{Option, none, some}
 use Prim.Native.Nat.{ℕ, _+_, _*_, _≤_}
 use native.Mathlib.Omega.{arith}
@@ -19,7 +19,7 @@ use Rattle.book.specs.Table.{Table}
 use Rattle.book.specs.declared.fault.Fault.{Fault}
 use Rattle.book.proofs.Laws.Answer.{on-fault, on-book}
 use Rattle.book.proofs.Laws.Encode.{run-append}
-use Rattle.book.proofs.Laws.Trip.{judge-encode, judge-inv}
+use Rattle.book.proofs.Laws.Trip.{judge-encode}
 use Rattle.ordering.specs.Adorn.{nothing}
 use Rattle.ordering.specs.Good.{firstGood, isSome}
 use Rattle.ordering.proofs.Laws.Good.{first-is-least}

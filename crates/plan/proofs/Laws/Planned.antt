@@ -8,7 +8,7 @@ use mathlib.Core.Option.{Option, none, some}
 use Prim.Native.Nat.{ℕ, _+_, _*_, _≤_, _<_, min}
 use native.Mathlib.Omega.{arith}
 use lib.Dec.{eqb, ltb}
-use lib.ListN.{length, getD, length-append, List·getD-eq-default}
+use lib.ListN.{length, getD, length-append}
 use lib.Seq.{sets}
 use borrow.Author.Tests.{eqb-true, leb-true, ltb-true, lt-ltb, le-ltb}
 use Rattle.masks.specs.Limits.{allPatterns}
@@ -21,7 +21,7 @@ use Rattle.book.specs.Book.{Call, Clause, noClause, Book}
 use Rattle.book.specs.Encode.{run}
 use Rattle.book.specs.Held.{clauseAt, clausesOf, bookIn}
 use Rattle.book.specs.Table.{Table, tableIn, Full}
-use Rattle.book.specs.Sets.{callable, Owns, Known}
+use Rattle.book.specs.Sets.{callable, Known}
 use Rattle.reading.specs.Judged.{BookRead}
 use Rattle.reading.specs.declared.Reading.{Reading}
 use Rattle.ordering.specs.Adorn.{Bound, nothing, headBound}
@@ -36,9 +36,8 @@ use Rattle.choices.specs.Reached.{marked, reached}
 use Rattle.choices.specs.Plan.{orStanding, firstChoice, chosen, rowsFor, rowsUnder, rowsOf, planRows, encQuery, encRow, image, planned}
 use Rattle.reach.specs.Marked.{markedAt, taken, ReachedIn}
 use Rattle.plan.specs.Lent.{Lent, EachCallable, rowBy, clauseRows, patternRows, planBytes, rowsLength, planLength}
-use Rattle.masks.proofs.Laws.Logic.{byBool, byRange, same, clash, and-left, and-right}
+use Rattle.masks.proofs.Laws.Logic.{byBool, same, clash, and-left, and-right}
 use Rattle.masks.proofs.Laws.Lists.{joined-cong, joined-cut}
-use Rattle.masks.proofs.Laws.Set.{bitAt-zero}
 use Rattle.masks.proofs.Laws.Outcome.{answers-short, answers-done}
 use Rattle.reading.proofs.Laws.Judged.{read-well}
 use Rattle.book.proofs.Laws.Encode.{run-joined}
