@@ -203,8 +203,9 @@ pub record PageOf (s : List ℕ) (B : Book) : Type 0 where
   pub runs : (r : List ℕ) (qs : List (List Call)) → (judgeRun (B .arities) r ≡ queries qs) ↔ ((run encQu qs ≡ r) × FitRun (B .arities) qs)
   -- each of them is one that the book might have for its own
   pub query· : (q : List Call) → (queryFits (B .arities) q ≡ true) ↔ WellFormed (withQuery B q)
-  -- all others have a first fault, with which the page is refused, "places counted in the run": as in a book, of the run's bytes
-  pub faults : (r : List ℕ) (f : Fault) (at : ℕ) → judgeRun (B .arities) r ≡ faulty f at → (outcome (page s r) ≡ refused (number f) at) × Stands f (length r) at
+  -- all others have a first fault, with which the page is refused; it is one of 1 to 5, "places counted in the run": as in a book, of the run's bytes
+  pub faults : (r : List ℕ) (f : Fault) (at : ℕ) → judgeRun (B .arities) r ≡ faulty f at
+      → (outcome (page s r) ≡ refused (number f) at) × (number f ≤ 5) × Stands f (length r) at
   -- "the reply to one query depends on the book and that query only": a page is the answers to its queries, one after the other
   pub answers : (r : List ℕ) (qs : List (List Call)) → judgeRun (B .arities) r ≡ queries qs → outcome (page s r) ≡ done 0 (run (answer (final B)) qs)
   -- "For each comes a byte 0 or 7 and, after 0, its `QO` record, as the plan would give with that query in place of the book's own": 7 where that plan is

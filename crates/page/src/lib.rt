@@ -48,16 +48,16 @@ pub struct Paged {
 }
 
 // What a run comes to: where none of its records has a fault, how many bytes its answers have, and their tally.
-pub struct Answered {
-    pub found: Found,
-    pub size: usize,
-    pub tally: Tally,
+struct Answered {
+    found: Found,
+    size: usize,
+    tally: Tally,
 }
 
 // What a query comes to: the place after its answer, and whether it is accepted.
-pub struct Verdict {
-    pub next: usize,
-    pub accepted: bool,
+struct Verdict {
+    next: usize,
+    accepted: bool,
 }
 
 // The answers to the queries of a run, written into the output. A call that is refused gives the tally back as it was.

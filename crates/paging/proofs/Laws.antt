@@ -1,5 +1,6 @@
 -- The laws of this crate's definitions.
 pub mod Examples
+pub mod Faults
 pub mod Run
 pub mod Page
 pub mod Longest

@@ -58,6 +58,7 @@ use Rattle.choices.proofs.Laws.Moded.{orderable}
 use Rattle.choices.proofs.Laws.Plan.{seven-none, seven-iff, plan-iff, plan-sound, plan-exact, plan-query-first, plan-first, plan-filled}
 use Rattle.choices.proofs.Laws.Rows.{rows-rise, plan-length}
 use Rattle.paging.proofs.Laws.Run.{query-well, well-query, run-read, run-inv, run-fault}
+use Rattle.paging.proofs.Laws.Faults.{run-number}
 use Rattle.paging.proofs.Laws.Page.{answer-planning, accepts-answer, paging-fault, paging-faulty, paging-queries, verdicts-queries, paging-other, paging-join, page-length}
 use Rattle.paging.proofs.Laws.Longest.{longest-page}
 use Rattle.tally.proofs.Laws.Tallied.{tally-accepted, tally-sum, tallies-kept, tallies-told}
@@ -219,7 +220,7 @@ module _ (s : List ℕ) (B : Book) (valid : judge s ≡ book B) where
       record {
         runs = λ r qs. (run-inv (B .arities) r qs, λ x. ap (judgeRun (B .arities)) (sym (x .0)) ∙ run-read (B .arities) qs (x .1));
         query· = λ q. (query-well B well q, well-query B well q);
-        faults = λ r f at e. (paging-faulty s B valid r f at e, run-fault (B .arities) r f at e);
+        faults = λ r f at e. (paging-faulty s B valid r f at e, run-number (B .arities) r f at e, run-fault (B .arities) r f at e);
         answers = queried;
         planned = λ q h. answer-planning B q well h;
         own = λ q h r. paging-other s B valid q (query-well B well q h) r;
