@@ -41,7 +41,7 @@
  *
  * State. None: no memory is allocated, nothing is kept between calls, and calls from several threads do not disturb each other.
  *
- * Stack. As measured (bench/run), not proved: the check takes 0.6 KB, the analysis and the closing 10 KB, the plan 11 KB.
+ * Stack. As measured (bench/run), not proved: the check takes 0.6 KB, the analysis and the closing 10 KB, the plan 11 KB, the page 13 KB.
  *
  * Version. SHODH_VERSION is three numbers. Replies, images and sizes may change only with the first; with the second, functions are added; with the
  * third, only speed, stack and words change.
