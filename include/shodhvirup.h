@@ -17,7 +17,7 @@
  * needed. Nobody else may read or write the room during the call.
  *
  * Pointers. Each has to be good for as many bytes as are given with it. A null pointer goes with the length 0 only: it is an empty input, or no room.
- * No alignment is asked. The room must not overlap an input. Two inputs may overlap, and be the same.
+ * No alignment is asked of bytes. The room must not overlap an input. Two inputs may overlap, and be the same.
  *
  * Reply. A struct of three numbers, given back by value. `rounds` is 0 but for a successful analysis.
  *
@@ -131,11 +131,12 @@ shodh_reply shodh_close(const uint8_t *book, size_t length, uint64_t set, uint8_
  * nothing. The book is read and analysed once; each query then costs one order.
  *
  * In the run QU is always in turn, SG and NG once a QU has come, and the run may end behind any record. It is judged from the left by the book's rules, as
- * the table above says, with 5 for a 257th QU, too, and with the run in the book's stead: the value is an offset in the run, and at 1 the run's length.
+ * the table above says, with 5 for a 257th QU, too, and with the run in the book's stead: the value is an offset in the run, and at 1 the run's length. Whether
+ * a refusal 1 to 5 is of the book or of the run, shodh_check tells: where it replies 0 to the book, it is of the run.
  *
  * The tally is the caller's. A call that replies 0 leaves in it how many queries were accepted, with a byte 0, and how many turned away, with a byte 7; a
- * refused one does not touch it. The pointer must be good for a shodh_tally, and nobody else may read or write that during the call; it must not overlap
- * the inputs or the room.
+ * refused one leaves it as it was. The pointer must be good for a shodh_tally, aligned as C has it, and not null; nobody else may read or write the tally during
+ * the call, and it must not overlap the inputs or the room.
  * Room: SHODH_PAGE_SIZE. Replies: 0; 1 to 6, of the book; then 1 to 5, of the run; 9. */
 shodh_reply shodh_page(const uint8_t *book, size_t length, const uint8_t *run, size_t run_length, uint8_t *out, size_t room, shodh_tally *tally);
 

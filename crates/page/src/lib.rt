@@ -184,7 +184,8 @@ fn read_page_query<'a>(
     }
 }
 
-// The answer to the query that is stored, from a place on. It depends on the table and the query alone.
+// The answer to the query that is stored, from a place on. It depends on the table and the query alone, and has at most 12 bytes: 0, a mark, n and eight
+// places.
 fn answer_query<'a>(
     rules: &'a [u64; RULES_SIZE],
     admits: &'a [u64; MAX_PREDICATES],
