@@ -1,6 +1,6 @@
 -- Every string of bytes judged from the left: document 01, "What a rule book says" and "Replies", with the places of document 02's W2, without the second
--- ground for 6, which W6 takes away, with W9's sixth mark, and with the turns of W1's queries. It is recursion on the bytes that are left, so that a place is said by how many bytes are left
--- from it on; `judge` turns that into an offset, once. Every definition computes. Assumes nothing.
+-- ground for 6, which W6 takes away, with W9's sixth mark, and with the turns of W1's queries. It is recursion on the bytes that are left, so that a place is
+-- said by how many bytes are left from it on; `judge` turns that into an offset, once. Every definition computes. Assumes nothing.
 use mathlib.Core.Path.{_≡_}
 use mathlib.Core.Logic.{_⊎_}
 use mathlib.Core.Bool.{Bool, cond, _&&_, _||_, false}

@@ -123,10 +123,11 @@ module _ (preds : ℕ) (arities table r : List ℕ) {g : Found} {image : List �
 
     -- 9, or the answers with their length
     module _ (out : List ℕ) (t : Tally) (room : ℕ) {x : Reply} (d : x ≡ inRoom size 0 room) where
-      pub give-short : length out ≤ room → (x .number ≡ 0 → ⊥) → Gives preds arities table r out t x out t
-      give-short h z B l =
+      pub give-short : length out ≤ room → (x .number ≡ 0 → ⊥) → {v : Tally} → v .accepted ≡ t .accepted → v .«turned_away» ≡ t .«turned_away»
+          → Gives preds arities table r out t x out v
+      give-short h z a b B l =
           let n : length out < length bytes = let long = all· .2 .long in let s = room-short size 0 room d z in omega arith in
-          rw (given-queries B preds arities table l r (all· .1)) (tallies-short 0 bytes n (answers-short size 0 room d bytes (all· .2 .long) h z))
+          rw (given-queries B preds arities table l r (all· .1)) (tallies-short 0 bytes n (answers-short size 0 room d bytes (all· .2 .long) h z) a b)
 
       pub give-done : {after : List ℕ} → room ≤ length out → (x .number ≡ 9 → ⊥) → after ≡ sets out 0 (take size image) → Gives preds arities table r out t x after u
       give-done h z f B l =

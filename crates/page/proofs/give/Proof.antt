@@ -84,7 +84,7 @@ returns-3 c =
     let a = e .before .before in
     let s = a .before .before .before .before .before .before .before .args in
     give-short (s .preds) (s .arities .now) (s .admits .now) (s .run .now) (a .answer-run .ensures) (e .enum-told .given .1) (s .out .now) (s .tally) _
-    (c .before .before .in-room .ensures) (omega arith) (λ z. c .if1 .left (omega arith))
+    (c .before .before .in-room .ensures) (omega arith) (λ z. c .if1 .left (omega arith)) (omega arith) (omega arith)
 
 pub give-spec : {M : Type 1} → statement M
 give-spec =

@@ -57,4 +57,5 @@ unfolding compute-plan accepts
 verdicts-k1 = refl
 
 pub page-fault : paged k1-book (faulty OutOfRange 7) ≡ refused 4 7
+unfolding compute k1-book
 page-fault = refl

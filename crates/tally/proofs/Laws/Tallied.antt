@@ -1,5 +1,5 @@
 -- A tally grows by one a query, so that it says how many are accepted and how many are not; and how a call comes to its promise. Assumes nothing.
-use mathlib.Core.Path.{_≡_, refl, sym, ap, _∙_}
+use mathlib.Core.Path.{_≡_, refl, sym, ap, ap₂, _∙_}
 use mathlib.Core.Bool.{Bool, true, false}
 use mathlib.Core.List.{List, [], _∷_, _++_}
 use Prim.Native.Nat.{ℕ, zero, suc, _+_, _≤_, _<_}
@@ -89,10 +89,15 @@ module _ {each : List Bool} {out after : List ℕ} {old : Tally} {r : Reply} whe
   unfolding leftTally
   tallies-refused number value a = record { answers = a; tally· = refl }
 
-  pub tallies-short : (rounds : ℕ) (bytes : List ℕ) → length out < length bytes → Answers (done rounds bytes) out r after
-      → Tallies (done rounds bytes) each out old r after old
+  -- the tally is what it was, field by field
+  pub tallies-short : (rounds : ℕ) (bytes : List ℕ) {t : Tally} → length out < length bytes → Answers (done rounds bytes) out r after
+      → t .accepted ≡ old .accepted → t .«turned_away» ≡ old .«turned_away» → Tallies (done rounds bytes) each out old r after t
   unfolding leftTally
-  tallies-short rounds bytes h a = record { answers = a; tally· = rw (lt-ltb (length out) (length bytes) h) refl }
+  tallies-short rounds bytes h a d e =
+      record {
+        answers = a;
+        tally· = rw (lt-ltb (length out) (length bytes) h) (ap₂ (λ (x y : ℕ). record { accepted = x; «turned_away» = y }) d e);
+      }
 
   pub tallies-done : (rounds : ℕ) (bytes : List ℕ) {t : Tally} → length bytes ≤ length out → Answers (done rounds bytes) out r after
       → t ≡ tallyFrom zeroes each → Tallies (done rounds bytes) each out old r after t
