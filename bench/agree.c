@@ -1,11 +1,14 @@
 // agree N SEED: the library beside the C version on N inputs, random and damaged. Each input goes through every operation of both. The replies must be
 // the same in number, value and rounds, the outputs byte for byte, the tallies in both fields; the bytes before and after every buffer and tally, those of
-// the room behind an output, the whole room and the tally at a refusal, and the inputs must stay as they were. Prints how often each reply came, or the first input that shows a difference.
+// the room behind an output, the whole room and the tally at a refusal, and the inputs must stay as they were. Each valid book is besides closed over a
+// self-contained set, and the library's plan of the closed book must be what is left of its plan of the book. Prints how often each reply came, and how often
+// clauses were dropped, or the first input that shows a difference.
 #include <shodhvirup.h>
 #include <stdio.h>
 #include <stdlib.h>
 #include <string.h>
 
+#include "left.h"
 #include "limit.h"
 
 #define GUARD 64
@@ -346,6 +349,43 @@ static void try(int op, const question *q)
     replies[op][compare(op, q, pick(2) == 0 ? needed - 1 + pick(3) : pick((unsigned)needed + 1))]++;
 }
 
+// ---- the plan of a closed book
+
+// Closed books, those of them with a plan, and those whose plan has both lost records and kept some besides the query's.
+static unsigned long long closed_books, closed_plans, parted_plans;
+
+// A valid book, closed over the least self-contained set that has the chosen predicates that there are.
+static void try_closed(question *q)
+{
+    static uint8_t closed[SHODH_BOOK_SIZE], full[SHODH_PLAN_SIZE], left[SHODH_PLAN_SIZE], plan[SHODH_PLAN_SIZE];
+    const uint8_t *book = q->first.bytes;
+    size_t n = q->first.length, preds = 0, kept;
+    uint8_t numbers[64];
+    shodh_reply c, f, p;
+
+    if (shodh_check(book, n).number != SHODH_DONE)
+        return;
+    while (book[3 * preds] == 'P')
+        preds++;
+    q->set = left_contained(book, preds == 64 ? q->set : q->set & (((uint64_t)1 << preds) - 1));
+    c = shodh_close(book, n, q->set, closed, sizeof closed);
+    if (c.number != SHODH_DONE)
+        fail(CLOSE, q, sizeof closed, "not closed");
+    f = shodh_plan(book, n, full, sizeof full);
+    p = shodh_plan(closed, (size_t)c.value, plan, sizeof plan);
+    closed_books++;
+    if (f.number != p.number)
+        fail(PLAN, q, sizeof plan, "7 for one of the book and the closed book");
+    if (f.number != SHODH_DONE)
+        return;
+    left_numbers(book, q->set, numbers);
+    kept = left_plan(numbers, full, (size_t)f.value, left);
+    if (p.value != kept || memcmp(plan, left, kept) != 0)
+        fail(PLAN, q, sizeof plan, "the closed book's plan is not what is left");
+    closed_plans++;
+    parted_plans += kept < f.value && kept > 3 + (size_t)full[2];
+}
+
 static void make_masks(input *s, unsigned arity)
 {
     unsigned limit = arity > 6 ? 64 : 1u << arity;
@@ -366,6 +406,7 @@ int main(int argc, char **argv)
         make_run(&book.second, &book.first);
         for (int op = CHECK; op <= PAGE; op++)
             try(op, &book);
+        try_closed(&book);
         lists.arity = pick(8);
         make_masks(&lists.first, lists.arity);
         make_masks(&lists.second, lists.arity);
@@ -382,5 +423,7 @@ int main(int argc, char **argv)
             printf(" %10llu", replies[op][n]);
         printf("\n");
     }
+    printf("Closed over a self-contained set: %llu books, %llu with a plan, %llu of which lost records of clauses and kept some\n", closed_books, closed_plans,
+           parted_plans);
     return 0;
 }

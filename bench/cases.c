@@ -4,6 +4,7 @@
 #include <stdlib.h>
 #include <string.h>
 
+#include "left.h"
 #include "limit.h"
 
 #define ROOM 164585
@@ -401,12 +402,40 @@ static void parts(char **field)
     show_same("accepted", accepted(&b) == accepted(&closed));
 }
 
+// ---- the plan of a closed book
+
+static void closed_plan(char **field)
+{
+    static answer full, closed, other;
+    static uint8_t left[SHODH_PLAN_SIZE];
+    uint8_t numbers[64];
+    input b = bytes_of(field[2], BOOK), c;
+    uint64_t set = set_of(field[3]);
+
+    closed = *try_in(ROOM, CLOSE, &b, set);
+    if (closed.reply.number != 0) {
+        show_reply(closed.reply, 2);
+        show_spoiled(&closed);
+        return;
+    }
+    c = result_of(CLOSE, &b, set);
+    full = *try_in(ROOM, PLAN, &b, 0);
+    other = *try_in(ROOM, PLAN, &c, 0);
+    show_answer(&full, 1);
+    show_bytes(c.bytes, c.length);
+    show_answer(&other, 1);
+    left_numbers(b.bytes, set, numbers);
+    if (full.reply.number != other.reply.number || left_plan(numbers, full.out, written(full.reply), left) != written(other.reply) ||
+        memcmp(left, other.out, written(other.reply)) != 0)
+        printf(" differs");
+}
+
 // ---- lines
 
 static const struct {
     const char *kind;
     void (*results)(char **field);
-} kinds[] = {{"book", book}, {"short", shorter}, {"room", room}, {"pair", pair}, {"fits", fits}, {"page", page}, {"again", again}, {"parts", parts}};
+} kinds[] = {{"book", book}, {"short", shorter}, {"room", room}, {"pair", pair}, {"fits", fits}, {"page", page}, {"again", again}, {"parts", parts}, {"same", closed_plan}};
 
 static void results(char **field)
 {

@@ -16,6 +16,8 @@
 //     page NAME BOOK RUN ROOM A T     `N V OUT` of the page of RUN in a room of ROOM bytes, and the tally, from A accepted and T turned away, after it
 //     again NAME BOOK ROOM            `N V OUT` of the book read and written again; of a book that the check refuses its `N V -`
 //     parts NAME BOOK SET             `N V` of the closing, and where N is 0 six comparisons, each a word and `same` or `differs` (see `parts`)
+//     same NAME BOOK SET              the plan `N PLAN`, the closed book `CLOSED` and its plan `N PLAN`, and `differs` where that is not what is left of
+//                                     the first (see `same`); where the closing is refused, its `N V`
 //
 // N and V are the number and the value of a reply. A line of another kind, or another OP, prints `?`. A reply that altered a byte it had to leave adds
 // the word `spoiled`. Of the input the first 2,097,152 bytes are read, of a book 8,192, of a run 20,480, of a list of masks 32; a number of a tally counts as
@@ -26,6 +28,7 @@ mod operations;
 mod pair;
 mod parts;
 mod queries;
+mod same;
 mod show;
 mod words;
 
@@ -79,7 +82,7 @@ fn answer(line: &[u8]) {
 fn results(line: &[u8]) {
     let kind = words::place(
         lines::field(line, 0),
-        b"book short room pair fits page again parts",
+        b"book short room pair fits page again parts same",
     );
     match kind {
         0 => operations::book(line),
@@ -90,6 +93,7 @@ fn results(line: &[u8]) {
         5 => queries::results(line),
         6 => again::results(line),
         7 => parts::results(line),
+        8 => same::results(line),
         _ => show::unknown(),
     }
 }

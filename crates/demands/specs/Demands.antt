@@ -2,7 +2,7 @@
 -- public operations name. That the code keeps to those contracts, is safe and ends is proved function by function; that `Demands` holds, in
 -- proofs/Laws/Demands.antt. Assumes nothing.
 use mathlib.Core.Path.{_≡_}
-use mathlib.Core.Bool.{true, false}
+use mathlib.Core.Bool.{Bool, true, false}
 use mathlib.Core.Logic.{_↔_}
 use mathlib.Core.List.{List, [], _∷_, _++_}
 use mathlib.Core.Option.{none, some}
@@ -14,6 +14,7 @@ use Rattle.masks.specs.Constraint.{admits, ill, trivial, written, minimise, joi
 use Rattle.masks.specs.Lists.{has, howMany}
 use Rattle.masks.specs.Outcome.{Outcome, refused, done, Answers}
 use Rattle.masks.specs.Joining.{joining}
+use Rattle.masks.specs.Set.{bitAt}
 use Rattle.masks.specs.declared.Way.the-variants.{Choice, Joint}
 use Rattle.masks.specs.declared.reply.Reply.{Reply}
 use Rattle.book.specs.Limits.{maxQueries, longest, longestTable, longestPlan, longestPage, shortest}
@@ -35,6 +36,7 @@ use Rattle.paging.specs.Run.{faulty, queries, judgeRun, encQu, queryFits, FitRu
 use Rattle.paging.specs.Page.{answer, accepts, AsPlan, paging, verdicts}
 use Rattle.printing.specs.Sheet.{line, printing}
 use Rattle.closing.specs.Close.{lacked, closing}
+use Rattle.depot.specs.Depot.{selfContained, imageLeft}
 use Rattle.tally.specs.declared.Tally.{Tally}
 use Rattle.tally.specs.Tallied.{Tallies}
 
@@ -231,7 +233,7 @@ abbrev pub Answer : ℕ → Type 0
 Answer n = (s r bytes : List ℕ) × (outcome (page s r) ≡ done 0 bytes) × (length bytes ≡ n)
 
 -- ---- Demand 3: any set of predicates replaced by what they need changes no need and no acceptance, and closing in parts gives the same bytes as closing at
--- once
+-- once; W10, "The depot wants the same sheet": of a self-contained set, nor do the orders change
 
 -- A call of `closing::close` with some buffer replied 0 and wrote t.
 pub record Closes (set : ℕ) (s t : List ℕ) : Type 0 where
@@ -250,6 +252,12 @@ pub record SameNeeds (s : List ℕ) (B : Book) (t : List ℕ) : Type 0 where
   pub needs : final closed ≡ final B
   pub accepted : (planning t ≡ refused 7 0) ↔ (planning s ≡ refused 7 0)
 
+-- W10: "the closed book's plan is the full plan without the chosen predicates' `CO` records, clause numbers moved down past the dropped clauses; and reply 7
+-- comes for both or neither": t is refused with 7 exactly when s is, and where s has a plan, t has what is left of it; the record of the query is the same
+pub record SamePlan (set : ℕ) (s : List ℕ) (B : Book) (t : List ℕ) : Type 0 where
+  pub seven : (planning t ≡ refused 7 0) ↔ (planning s ≡ refused 7 0)
+  pub left : planning s ≡ done 0 (image B) → planning t ≡ done 0 (imageLeft (bitAt set) B)
+
 -- Of the bytes of a valid book.
 pub record Demand3 (s : List ℕ) (B : Book) : Type 0 where
   -- a set with a predicate that the book lacks is refused with the lowest; any other is closed, and a buffer of 6,986 bytes always suffices
@@ -260,6 +268,8 @@ pub record Demand3 (s : List ℕ) (B : Book) : Type 0 where
   pub seven : (set : ℕ) {out : List ℕ} {r : Reply} {after : List ℕ} → Answers (closing set s) out r after → r .number ≡ 7 → ⊥
   -- no need and no acceptance changes
   pub same : (set : ℕ) (t : List ℕ) → Closes set s t → SameNeeds s B t
+  -- nor do the orders, "if the chosen predicates' clauses call only chosen predicates or predicates without clauses"
+  pub depot : (set : ℕ) (t : List ℕ) → Closes set s t → selfContained (bitAt set) (B .clauses) ≡ true → SamePlan set s B t
   -- one set and then another gives the same bytes as both at once, in either turn
   pub parts : (S R : ℕ) (t u v : List ℕ) → Closes S s t → Closes R t u → Closes (bitOr S R) s v → u ≡ v
   pub turned : (S R : ℕ) (t u v w : List ℕ) → Closes S s t → Closes R t u → Closes R s v → Closes S v w → u ≡ w
@@ -270,20 +280,25 @@ pub record Demand3 (s : List ℕ) (B : Book) : Type 0 where
   pub none· : (t : List ℕ) → Closes 0 s t → t ≡ s
   pub one : (set : ℕ) (t u : List ℕ) → Closes set s t → Closes set s u → t ≡ u
 
--- ---- Document 01's examples: "K1 to K12 are proved as one table under one statement.", W3's two, and books for W6 and W9. Where there are no numbers of predicates
--- and no query, the predicates without clauses come first, and the query reaches the patterns that are named.
+-- ---- Document 01's examples: "K1 to K12 are proved as one table under one statement.", W3's two, and books for W6, W9, W5 and W10. Where there are no numbers of
+-- predicates and no query, the predicates without clauses come first, and the query reaches the patterns that are named.
 
 pub data Example : Type 0 where
   -- the bytes of a valid book; its rounds and its table; its plan, or that it has none
   ofBook : (bytes : List ℕ) (rounds : ℕ) (table : List ℕ) (plan : Outcome) → Example
   -- the bytes of a book, and what is printed of it
   ofSheet : (bytes sheet : List ℕ) → Example
+  -- the bytes of a valid book, closed over a set; whether that is self-contained; the plan of the closed book, and what is left of the book's own
+  ofClosing : (bytes : List ℕ) (set : ℕ) (contained : Bool) (plan left : List ℕ) → Example
   -- two lists of masks of six positions, and their joint
   ofMasks : (first second joint : List ℕ) → Example
 
 abbrev pub Holds : Example → Type 0
 Holds (ofBook s k t p) = (checked (judge s) ≡ record { number = 0; value = 0; rounds = 0 }) × (outcome (analyse s) ≡ done k t) × (outcome (plan s) ≡ p)
 Holds (ofSheet s t) = outcome (sheet s) ≡ done 0 t
+Holds (ofClosing s set c p l) =
+    (B : Book) × (t : List ℕ) × (judge s ≡ book B) × (outcome (close set s) ≡ done 0 t) × (selfContained (bitAt set) (B .clauses) ≡ c) × (outcome (plan t) ≡ done 0 p)
+    × (imageLeft (bitAt set) B ≡ l)
 Holds (ofMasks x y z) = outcome (joint 6 x y) ≡ done 0 z
 
 abbrev pub EachHolds : List Example → Type 0
@@ -313,6 +328,18 @@ abbrev pub k1 : List ℕ
 k1 =
     PR (1 ∷ []) ++ PR (2 ∷ []) ++ PR (1 ∷ []) ++ PR (1 ∷ []) ++ MO (1 ∷ 1 ∷ 1 ∷ []) ++ MO (3 ∷ 1 ∷ 1 ∷ []) ++ CL (2 ∷ 0 ∷ []) ++ SG (3 ∷ 1 ∷ [])
     ++ SG (1 ∷ 0 ∷ 1 ∷ []) ++ QU ++ SG (2 ∷ 0 ∷ []) ++ SG (0 ∷ 0 ∷ [])
+
+-- m needs {1}: a(X) :- b(X) and b(X) :- m(X). The query a(255)
+abbrev pub k8 : List ℕ
+k8 =
+    PR (1 ∷ []) ++ PR (1 ∷ []) ++ PR (1 ∷ []) ++ MO (0 ∷ 1 ∷ 1 ∷ []) ++ CL (1 ∷ 0 ∷ []) ++ SG (2 ∷ 0 ∷ []) ++ CL (2 ∷ 0 ∷ []) ++ SG (0 ∷ 0 ∷ [])
+    ++ QU ++ SG (1 ∷ 255 ∷ [])
+
+-- dark(H) :- report(H) and lit(H) :- not dark(H), head(H). The query lit(H)
+abbrev pub dark : List ℕ
+dark =
+    PR (1 ∷ []) ++ PR (1 ∷ []) ++ PR (1 ∷ []) ++ PR (1 ∷ []) ++ CL (2 ∷ 0 ∷ []) ++ SG (1 ∷ 0 ∷ []) ++ CL (3 ∷ 0 ∷ []) ++ NG (2 ∷ 0 ∷ [])
+    ++ SG (0 ∷ 0 ∷ []) ++ QU ++ SG (3 ∷ 0 ∷ [])
 
 abbrev pub examples : List Example
 examples =
@@ -353,8 +380,7 @@ examples =
     1 (CN (0 ∷ 1 ∷ 1 ∷ 2 ∷ []) ++ CN (1 ∷ 1 ∷ 1 ∷ 2 ∷ []) ++ CN (2 ∷ 2 ∷ 1 ∷ 2 ∷ 3 ∷ []))
     (done 0 (QO (2 ∷ 0 ∷ 1 ∷ []) ++ CO (0 ∷ 1 ∷ 2 ∷ 0 ∷ 1 ∷ []) ++ CO (0 ∷ 2 ∷ 2 ∷ 1 ∷ 0 ∷ [])))
     -- "K8: a(X) :- b(X) and b(X) :- m(X), m {1}: 2 rounds, a and b both 1."
-    ∷ ofBook (PR (1 ∷ []) ++ PR (1 ∷ []) ++ PR (1 ∷ []) ++ MO (0 ∷ 1 ∷ 1 ∷ []) ++ CL (1 ∷ 0 ∷ []) ++ SG (2 ∷ 0 ∷ []) ++ CL (2 ∷ 0 ∷ []) ++ SG (0 ∷ 0 ∷ [])
-    ++ QU ++ SG (1 ∷ 255 ∷ []))
+    ∷ ofBook k8
     2 (CN (0 ∷ 1 ∷ 1 ∷ 1 ∷ []) ++ CN (1 ∷ 1 ∷ 1 ∷ 1 ∷ []) ++ CN (2 ∷ 1 ∷ 1 ∷ 1 ∷ []))
     (done 0 (QO (1 ∷ 0 ∷ []) ++ CO (0 ∷ 1 ∷ 1 ∷ 0 ∷ []) ++ CO (1 ∷ 1 ∷ 1 ∷ 0 ∷ [])))
     -- "K9: p(X) :- p(X), m(X), m {1}: trivial, 0 rounds, places 0 1."
@@ -402,8 +428,7 @@ examples =
     1 (CN (0 ∷ 1 ∷ 1 ∷ 1 ∷ []) ++ CN (1 ∷ 1 ∷ 0 ∷ 2 ∷ []) ++ CN (2 ∷ 1 ∷ 3 ∷ 1 ∷ []))
     (done 0 (QO (1 ∷ 0 ∷ []) ++ CO (0 ∷ 3 ∷ 2 ∷ 0 ∷ 1 ∷ [])))
     -- W9: "Not reported dark": lit(H) :- not dark(H), head(H) and dark(H) :- report(H): lit runs its second call first, and dark is reached under pattern 1
-    ∷ ofBook (PR (1 ∷ []) ++ PR (1 ∷ []) ++ PR (1 ∷ []) ++ PR (1 ∷ []) ++ CL (2 ∷ 0 ∷ []) ++ SG (1 ∷ 0 ∷ []) ++ CL (3 ∷ 0 ∷ []) ++ NG (2 ∷ 0 ∷ [])
-    ++ SG (0 ∷ 0 ∷ []) ++ QU ++ SG (3 ∷ 0 ∷ []))
+    ∷ ofBook dark
     0 (CN (0 ∷ 1 ∷ 0 ∷ 2 ∷ []) ++ CN (1 ∷ 1 ∷ 0 ∷ 2 ∷ []) ++ CN (2 ∷ 1 ∷ 0 ∷ 2 ∷ []) ++ CN (3 ∷ 1 ∷ 0 ∷ 2 ∷ []))
     (done 0 (QO (1 ∷ 0 ∷ []) ++ CO (0 ∷ 1 ∷ 1 ∷ 0 ∷ []) ++ CO (1 ∷ 0 ∷ 2 ∷ 1 ∷ 0 ∷ [])))
     -- a negated subgoal without variables can go first: the query not p(255), p(X)
@@ -433,6 +458,14 @@ examples =
     ∷ ofBook (PR (6 ∷ []) ++ QU)
     0 (CN (0 ∷ 1 ∷ 0 ∷ 64 ∷ []))
     (done 0 (QO (0 ∷ [])))
+    -- W10: the book of "Not reported dark", closed over dark: clause 0 is dropped, and clause 1, of lit, is 0 then
+    ∷ ofClosing dark 4 true
+    (QO (1 ∷ 0 ∷ []) ++ CO (0 ∷ 0 ∷ 2 ∷ 1 ∷ 0 ∷ []))
+    (QO (1 ∷ 0 ∷ []) ++ CO (0 ∷ 0 ∷ 2 ∷ 1 ∷ 0 ∷ []))
+    -- its condition is needed: K8, closed over a, whose clause calls b. Nothing else does: b is no longer reached, and what is left of the plan has a record of it
+    ∷ ofClosing k8 2 false
+    (QO (1 ∷ 0 ∷ []))
+    (QO (1 ∷ 0 ∷ []) ++ CO (0 ∷ 1 ∷ 1 ∷ 0 ∷ []))
     ∷ []
 
 -- ---- W5's bound is attained: there are books whose analysis takes as many rounds as it says

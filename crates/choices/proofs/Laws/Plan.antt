@@ -46,7 +46,7 @@ module _ (s : List ℕ) (B : Book) (valid : judge s ≡ book B) where
   well : WellFormed B
   well = judge-inv s B valid .1
 
-  planning-good : isSome (firstGood (final B) (B .query) nothing) ≡ true → planning s ≡ done 0 (image B)
+  pub planning-good : isSome (firstGood (final B) (B .query) nothing) ≡ true → planning s ≡ done 0 (image B)
   planning-good t = sym (on-book planned s B (sym valid)) ∙ planned-good B t
 
   planning-none : isSome (firstGood (final B) (B .query) nothing) ≡ false → planning s ≡ refused 7 0
@@ -63,17 +63,17 @@ module _ (s : List ℕ) (B : Book) (valid : judge s ≡ book B) where
     λ n. planning-none (false-of (λ t. n (orderable B well .1 t))),
   )
 
-  found : planning s ≡ done 0 (image B) → isSome (firstGood (final B) (B .query) nothing) ≡ true
-  found e = byBool (isSome (firstGood (final B) (B .query) nothing)) (λ t. t) (λ t. refused-done (sym (planning-none t) ∙ e))
+  pub plan-found : planning s ≡ done 0 (image B) → isSome (firstGood (final B) (B .query) nothing) ≡ true
+  plan-found e = byBool (isSome (firstGood (final B) (B .query) nothing)) (λ t. t) (λ t. refused-done (sym (planning-none t) ∙ e))
 
   -- and a plan exactly when one does
   pub plan-iff : (planning s ≡ done 0 (image B)) ↔ Orderable B
-  plan-iff = (λ e. orderable B well .1 (found e), λ x. planning-good (orderable B well .0 x))
+  plan-iff = (λ e. orderable B well .1 (plan-found e), λ x. planning-good (orderable B well .0 x))
 
   -- SOUND: the orders of the plan are a choice that does
   pub plan-sound : planning s ≡ done 0 (image B) → IsChoice B (chosen B) × WellModed B (chosen B)
   unfolding chosen
-  plan-sound e = (chosen-choice (final B) B, sound B well (found e))
+  plan-sound e = (chosen-choice (final B) B, sound B well (plan-found e))
 
 -- ---- what a plan has
 

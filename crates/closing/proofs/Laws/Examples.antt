@@ -13,7 +13,7 @@ use Rattle.book.proofs.Laws.Examples.{k1-book}
 use Rattle.tables.proofs.Laws.Examples.{compute, chain, several, joined}
 use Rattle.closing.specs.Close.{keptClauses, closedMode, closedModes, closeOver, close, lacked, closed, closing}
 
-compute-close : Unit {0}
+unfoldable pub compute-close : Unit {0}
 unfolding compute bitAt keptClauses closedMode closedModes closeOver lacked closed encode
 compute-close = tt
 

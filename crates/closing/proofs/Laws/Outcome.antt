@@ -19,7 +19,7 @@ use Rattle.book.specs.Answer.{ofJudged, onBook}
 use Rattle.closing.specs.Close.{closeOver, close, lacked, unlessLacked, closed, closing}
 use Rattle.masks.proofs.Laws.Outcome.{answers-number, answers-number-done, answers-bytes}
 use Rattle.masks.proofs.Laws.Set.{bitAt-zero, bitAt-or}
-use Rattle.book.proofs.Laws.Answer.{number-range, on-book}
+use Rattle.book.proofs.Laws.Answer.{number-range, book-injective, on-book}
 use Rattle.book.proofs.Laws.Trip.{judge-encode, judge-inv}
 use Rattle.closing.proofs.Laws.Lacked.{none-firstFrom, lacked-or}
 use Rattle.closing.proofs.Laws.Valid.{closed-well}
@@ -38,11 +38,11 @@ closed-has S B h = rw h
 -- ---- where closing is not refused
 
 -- the bytes are then a valid book that has each chosen predicate, and what comes of it is the closed book
-pub record Closed (S : ℕ) (s t : List ℕ) : Type 0 where
-  pub book· : Book
-  pub judged : judge s ≡ book book·
-  pub has : lacked S (length (book· .arities)) ≡ none
-  pub bytes : t ≡ encode (close S book·)
+record Closed (S : ℕ) (s t : List ℕ) : Type 0 where
+  book· : Book
+  judged : judge s ≡ book book·
+  has : lacked S (length (book· .arities)) ≡ none
+  bytes : t ≡ encode (close S book·)
 
 -- what closing comes to: a refusal, neither 0 nor 7, or the closed book
 abbrev Comes : ℕ → List ℕ → Outcome → Type 0
@@ -61,7 +61,7 @@ comes S s = go (judge s) refl
         tried none h = (refl, record { book· = B; judged = d; has = h; bytes = refl })
         tried (some p) h = (λ e. omega arith, λ e. omega arith)
 
-pub closing-done : (S : ℕ) (s t : List ℕ) → closing S s ≡ done 0 t → Closed S s t
+closing-done : (S : ℕ) (s t : List ℕ) → closing S s ≡ done 0 t → Closed S s t
 closing-done S s t e = subst (Comes S s) e (comes S s) .1
 
 module _ (S : ℕ) (s : List ℕ) (B : Book) (valid : judge s ≡ book B) where
@@ -69,9 +69,15 @@ module _ (S : ℕ) (s : List ℕ) (B : Book) (valid : judge s ≡ book B) where
   done-closing h = sym (on-book (closed S) s B (sym valid)) ∙ closed-has S B h
 
 -- what comes of it is a valid book
-pub closing-valid : (S : ℕ) (s t : List ℕ) (c : Closed S s t) → judge t ≡ book (close S (c .book·))
+closing-valid : (S : ℕ) (s t : List ℕ) (c : Closed S s t) → judge t ≡ book (close S (c .book·))
 closing-valid S s t c =
     rw (c .bytes) (judge-encode (close S (c .book·)) (closed-well (bitAt S) (c .book·) (judge-inv s (c .book·) (c .judged) .1)))
+
+-- that of the book that the bytes are, closed
+pub closing-book : (S : ℕ) (s t : List ℕ) (B : Book) → judge s ≡ book B → closing S s ≡ done 0 t → judge t ≡ book (close S B)
+closing-book S s t B valid e =
+    let c = closing-done S s t e in
+    closing-valid S s t c ∙ ap (λ (C : Book). book (close S C)) (book-injective (c .book·) B (sym (c .judged) ∙ valid))
 
 -- ---- closing in parts
 

@@ -18,7 +18,7 @@ use Rattle.book.specs.Limits.{maxQueries, longest, longestPage}
 use Rattle.book.specs.Book.{Call, Book}
 use Rattle.book.specs.Format.{fault, book, judge}
 use Rattle.book.specs.Encode.{run, encode, WellFormed}
-use Rattle.book.specs.Table.{Table, entry}
+use Rattle.book.specs.Table.{entry}
 use Rattle.book.specs.declared.fault.Fault.{Fault}
 use Rattle.reading.specs.Judged.{checked}
 use Rattle.ordering.specs.Adorn.{nothing, headBound}
@@ -34,12 +34,13 @@ use Rattle.paging.specs.Page.{answer, accepts, answers, verdicts}
 use Rattle.tally.specs.declared.Tally.{Tally}
 use Rattle.tally.specs.Tallied.{tallyFrom, zeroes, Tallies}
 use Rattle.closing.specs.Close.{closeOver, close, lacked, closed, closing}
+use Rattle.depot.specs.Depot.{selfContained}
 use Rattle.demands.specs.Demands as say
 use Rattle.masks.proofs.Laws.Logic.{byRange, clash}
 use Rattle.masks.proofs.Laws.Lists.{joined-at}
 use Rattle.masks.proofs.Laws.Counts.{howMany-cong, fitting-ill, fitting-trivial}
 use Rattle.masks.proofs.Laws.Outcome.{answers-unique, answers-kept, answers-rest, answers-zero, done-bytes}
-use Rattle.book.proofs.Laws.Answer.{number-range, book-injective, on-fault, on-book}
+use Rattle.book.proofs.Laws.Answer.{number-range, on-fault, on-book}
 use Rattle.book.proofs.Laws.Places.{fault-stands}
 use Rattle.book.proofs.Laws.Bound.{encode-length, judge-length}
 use Rattle.book.proofs.Laws.Examples.{shortest-book}
@@ -55,7 +56,7 @@ use Rattle.tables.proofs.Laws.Full.{step-joint}
 use Rattle.tables.proofs.Laws.Image.{count-few, table-length}
 use Rattle.tables.proofs.Laws.Rounds.{sameTable-true, true-sameTable, start-at, rounds-least, rounds-most, rounds-settled, final-proper, final-declared, bound-most}
 use Rattle.choices.proofs.Laws.Moded.{orderable}
-use Rattle.choices.proofs.Laws.Plan.{seven-none, seven-iff, plan-iff, plan-sound, plan-exact, plan-query-first, plan-first, plan-filled}
+use Rattle.choices.proofs.Laws.Plan.{seven-iff, plan-iff, plan-sound, plan-exact, plan-query-first, plan-first, plan-filled}
 use Rattle.choices.proofs.Laws.Rows.{rows-rise, plan-length}
 use Rattle.paging.proofs.Laws.Run.{query-well, well-query, run-read, run-inv, run-fault}
 use Rattle.paging.proofs.Laws.Faults.{run-number}
@@ -64,7 +65,8 @@ use Rattle.paging.proofs.Laws.Longest.{longest-page}
 use Rattle.tally.proofs.Laws.Tallied.{tally-accepted, tally-sum, tallies-kept, tallies-told}
 use Rattle.closing.proofs.Laws.Valid.{closed-well}
 use Rattle.closing.proofs.Laws.Final.{final-close}
-use Rattle.closing.proofs.Laws.Outcome.{closed-lacks, closing-done, closing-valid, done-closing, closing-twice, closing-turned, closing-again, closing-none, never-seven, closing-gave}
+use Rattle.closing.proofs.Laws.Outcome.{closed-lacks, closing-book, done-closing, closing-twice, closing-turned, closing-again, closing-none, never-seven, closing-gave}
+use Rattle.depot.proofs.Laws.Plan.{closing-seven, closing-plan}
 use Rattle.demands.proofs.Laws.Examples.{bench, attained}
 
 -- ---- demand 1
@@ -238,29 +240,22 @@ gave : (set : ℕ) (s t : List ℕ) → say.Closes set s t → closing set s ≡
 gave set s t c = closing-gave set s (c .out) (c .answers) (c .zero) ∙ ap (done 0) (c .bytes)
 
 module _ (s : List ℕ) (B : Book) (valid : judge s ≡ book B) where
-  -- the book that was closed is this one
-  closed-is : (set : ℕ) (t : List ℕ) → closing set s ≡ done 0 t → judge t ≡ book (close set B)
-  closed-is set t e =
-      let c = closing-done set s t e in
-      closing-valid set s t c ∙ ap (λ (C : Book). book (close set C)) (book-injective (c .book·) B (sym (c .judged) ∙ valid))
-
   same-needs : (set : ℕ) (t : List ℕ) → say.Closes set s t → say.SameNeeds s B t
   unfolding closeOver
   same-needs set t c =
-      let v = closed-is set t (gave set s t c) in
-      let f = final-close (bitAt set) B (judge-inv s B valid .1) in
-      let q : isSome (firstGood (final (close set B)) (B .query) nothing) ≡ isSome (firstGood (final B) (B .query) nothing) =
-      ap (λ (T : Table). isSome (firstGood T (B .query) nothing)) f in
+      let e = gave set s t c in
       record {
         closed = close set B;
-        valid = v;
+        valid = closing-book set s t B valid e;
         arities = refl;
-        needs = f;
-        accepted = (
-          λ e. seven-none s B valid .1 (sym q ∙ seven-none t (close set B) v .0 e),
-          λ e. seven-none t (close set B) v .1 (q ∙ seven-none s B valid .0 e),
-        );
+        needs = final-close (bitAt set) B (judge-inv s B valid .1);
+        accepted = closing-seven set s t B valid e;
       }
+
+  same-plan : (set : ℕ) (t : List ℕ) → say.Closes set s t → selfContained (bitAt set) (B .clauses) ≡ true → say.SamePlan set s B t
+  same-plan set t c inside =
+      let e = gave set s t c in
+      record { seven = closing-seven set s t B valid e; left = closing-plan set s t B valid e inside }
 
   room-enough : (set : ℕ) → lacked set (length (B .arities)) ≡ none → {out : List ℕ} {r : Reply} {after : List ℕ} → Answers (closing set s) out r after
       → longest ≤ length out → r .number ≡ 0
@@ -275,6 +270,7 @@ module _ (s : List ℕ) (B : Book) (valid : judge s ≡ book B) where
         closes = room-enough;
         seven = λ set a. never-seven set s _ a;
         same = same-needs;
+        depot = same-plan;
         parts = λ S R t u v x y z. done-bytes (sym (gave R t u y) ∙ closing-twice S R s t (gave S s t x) ∙ gave (bitOr S R) s v z);
         turned = λ S R t u v w x y z q. done-bytes (sym (gave R t u y) ∙ closing-turned S R s t v (gave S s t x) (gave R s v z) ∙ gave S v w q);
         refusals = λ S R t x. closing-twice S R s t (gave S s t x);
