@@ -1,8 +1,8 @@
 // agree N SEED: the library beside the C version on N inputs, random and damaged. Each input goes through every operation of both. The replies must be
 // the same in number, value and rounds, the outputs byte for byte, the tallies in both fields; the bytes before and after every buffer and tally, those of
-// the room behind an output, the whole room and the tally at a refusal, and the inputs must stay as they were. Each valid book is besides closed over a
-// self-contained set, and the library's plan of the closed book must be what is left of its plan of the book. Prints how often each reply came, and how often
-// clauses were dropped, or the first input that shows a difference.
+// the room behind an output, the whole room and the tally at a refusal, and the inputs must stay as they were. Each valid book is besides closed over
+// self-contained sets, and the library's plan of the closed book must be what is left of its plan of the book. Prints how often each reply came, and how many of
+// these plans there were, or the first input that shows a difference.
 #include <shodhvirup.h>
 #include <stdio.h>
 #include <stdlib.h>
@@ -115,14 +115,15 @@ static void fill_head(input *s, size_t at, unsigned arity, unsigned stand)
 }
 
 // A book. Most are small and keep the limits; `over` lets the counts go one above them, and `clash` lets `MO` records fall. In half of them most clauses
-// leave no cell empty, so that more can be ordered, in half of them predicates that have `MO` may have clauses, too, and half of them have negated subgoals.
+// leave no cell empty, so that more can be ordered, in half of them predicates that have `MO` may have clauses, too, half of them have negated subgoals, and
+// in a quarter of them a clause calls only predicates before its own, so that some of them can be closed without the others.
 static void make_book(input *s, int over, int clash)
 {
     static const unsigned sizes[] = {1, 2, 3, 4, 6, 10, 20, 64};
     unsigned arity[65], has[65];
     unsigned preds = over && pick(3) == 0 ? 64 + pick(2) : 1 + pick(sizes[pick(8)]);
     unsigned most = 1 + pick(6), variables = 1 + pick(pick(4) == 0 ? 16 : 5);
-    unsigned filled = pick(2), both = pick(2), negated = pick(2) == 0 ? 0 : 1 + pick(8), modes = pick(4), clauses = over && pick(3) == 0 ? 64 + pick(2) : pick(1 + 2 * preds > 64 ? 65 : 1 + 2 * preds);
+    unsigned filled = pick(2), both = pick(2), layered = pick(4) == 0, negated = pick(2) == 0 ? 0 : 1 + pick(8), modes = pick(4), clauses = over && pick(3) == 0 ? 64 + pick(2) : pick(1 + 2 * preds > 64 ? 65 : 1 + 2 * preds);
     s->length = 0;
     for (unsigned p = 0; p < preds; p++) {
         arity[p] = pick(most + 1);
@@ -146,7 +147,7 @@ static void make_book(input *s, int over, int clash)
             continue;
         size_t head = s->length + 3;
         add_call(s, "CL", p, arity[p], variables);
-        unsigned stand = add_body(s, over && pick(20) == 0 ? 9 : pick(2) == 0 ? 3 : 8, arity, preds, variables, negated);
+        unsigned stand = add_body(s, over && pick(20) == 0 ? 9 : pick(2) == 0 ? 3 : 8, arity, layered && p > 0 ? p : preds, variables, negated);
         if (filled && pick(16) != 0)
             fill_head(s, head, arity[p], stand);
     }
@@ -351,39 +352,49 @@ static void try(int op, const question *q)
 
 // ---- the plan of a closed book
 
-// Closed books, those of them with a plan, and those whose plan has both lost records and kept some besides the query's.
-static unsigned long long closed_books, closed_plans, parted_plans;
+// Closings tried, those with a plan, and those whose plan has both lost records and kept some besides the query's.
+static unsigned long long closings, closed_plans, parted_plans;
 
-// A valid book, closed over the least self-contained set that has the chosen predicates that there are.
-static void try_closed(question *q)
+// A valid book with its plan, closed over the least self-contained set that has the chosen predicates.
+static void close_over(const question *q, const uint8_t *full, shodh_reply f)
 {
-    static uint8_t closed[SHODH_BOOK_SIZE], full[SHODH_PLAN_SIZE], left[SHODH_PLAN_SIZE], plan[SHODH_PLAN_SIZE];
+    static uint8_t closed[SHODH_BOOK_SIZE], left[SHODH_PLAN_SIZE], plan[SHODH_PLAN_SIZE];
     const uint8_t *book = q->first.bytes;
-    size_t n = q->first.length, preds = 0, kept;
+    uint64_t set = left_contained(book, q->set);
+    shodh_reply c = shodh_close(book, q->first.length, set, closed, sizeof closed), p = shodh_plan(closed, (size_t)c.value, plan, sizeof plan);
     uint8_t numbers[64];
-    shodh_reply c, f, p;
+    size_t kept;
 
-    if (shodh_check(book, n).number != SHODH_DONE)
-        return;
-    while (book[3 * preds] == 'P')
-        preds++;
-    q->set = left_contained(book, preds == 64 ? q->set : q->set & (((uint64_t)1 << preds) - 1));
-    c = shodh_close(book, n, q->set, closed, sizeof closed);
-    if (c.number != SHODH_DONE)
-        fail(CLOSE, q, sizeof closed, "not closed");
-    f = shodh_plan(book, n, full, sizeof full);
-    p = shodh_plan(closed, (size_t)c.value, plan, sizeof plan);
-    closed_books++;
-    if (f.number != p.number)
-        fail(PLAN, q, sizeof plan, "7 for one of the book and the closed book");
+    closings++;
+    if (c.number != SHODH_DONE || p.number != f.number)
+        fail(CLOSE, q, sizeof closed, "the book is not closed, or 7 comes for one of its plans alone");
     if (f.number != SHODH_DONE)
         return;
-    left_numbers(book, q->set, numbers);
+    left_numbers(book, set, numbers);
     kept = left_plan(numbers, full, (size_t)f.value, left);
     if (p.value != kept || memcmp(plan, left, kept) != 0)
-        fail(PLAN, q, sizeof plan, "the closed book's plan is not what is left");
+        fail(CLOSE, q, sizeof closed, "the closed book's plan is not what is left");
     closed_plans++;
     parted_plans += kept < f.value && kept > 3 + (size_t)full[2];
+}
+
+// A valid book: the chosen predicates that there are, and each predicate by itself.
+static void try_closed(question *q)
+{
+    static uint8_t full[SHODH_PLAN_SIZE];
+    shodh_reply f = shodh_plan(q->first.bytes, q->first.length, full, sizeof full);
+    unsigned preds = 0, p;
+
+    if (f.number != SHODH_DONE && f.number != SHODH_UNORDERABLE)
+        return;
+    while (q->first.bytes[3 * preds] == 'P')
+        preds++;
+    q->set &= preds == 64 ? ~(uint64_t)0 : ((uint64_t)1 << preds) - 1;
+    close_over(q, full, f);
+    for (p = 0; p < preds; p++) {
+        q->set = (uint64_t)1 << p;
+        close_over(q, full, f);
+    }
 }
 
 static void make_masks(input *s, unsigned arity)
@@ -423,7 +434,6 @@ int main(int argc, char **argv)
             printf(" %10llu", replies[op][n]);
         printf("\n");
     }
-    printf("Closed over a self-contained set: %llu books, %llu with a plan, %llu of which lost records of clauses and kept some\n", closed_books, closed_plans,
-           parted_plans);
+    printf("%llu closings over a self-contained set, %llu with a plan, of which %llu lost records of clauses and kept some\n", closings, closed_plans, parted_plans);
     return 0;
 }

@@ -34,14 +34,14 @@ module _ (G : ℕ → Bool) where
   abbrev pub renamed : Asked → Asked
   renamed x = record { pred = movedDown G (x .pred); pattern = x .pattern }
 
-  pub called-renamed : (q b : ℕ) (xs : List Asked) → called q b xs ≡ true → called (movedDown G q) b (map renamed xs) ≡ true
+  called-renamed : (q b : ℕ) (xs : List Asked) → called q b xs ≡ true → called (movedDown G q) b (map renamed xs) ≡ true
   called-renamed q b [] t = t
   called-renamed q b (x ∷ xs) t =
       called-case (λ r c. called (movedDown G r) c (map renamed (x ∷ xs)) ≡ true) x xs q b t
       (called-first (renamed x) (map renamed xs))
       (λ u. or-right (eqb (movedDown G (x .pred)) (movedDown G q) && eqb (x .pattern) b) (called-renamed q b xs u))
 
-  pub renamed-called : (r b : ℕ) (xs : List Asked) → called r b (map renamed xs) ≡ true → (q : ℕ) × (movedDown G q ≡ r) × (called q b xs ≡ true)
+  renamed-called : (r b : ℕ) (xs : List Asked) → called r b (map renamed xs) ≡ true → (q : ℕ) × (movedDown G q ≡ r) × (called q b xs ≡ true)
   renamed-called r b [] t = absurd (false≢true t)
   renamed-called r b (x ∷ xs) t =
       called-case (λ v c. (q : ℕ) × (movedDown G q ≡ v) × (called q c (x ∷ xs) ≡ true)) (renamed x) (map renamed xs) r b t
@@ -151,7 +151,7 @@ module _ {G D : ℕ → Bool} {B : Book} {χ : Choice} {C : Book} {ψ : Choice} 
 
   -- the predicates of clauses that stay are reached under the same patterns
   module _ (w : WellFormed B) (ok : IsChoice B χ) (v : WellFormed C) (ok′ : IsChoice C ψ) where
-    pub reached-renumbered : (k a : ℕ) → k < n → D k ≡ false → marked (reached C ψ) (movedDown G (owner k)) a ≡ marked (reached B χ) (owner k) a
+    reached-renumbered : (k a : ℕ) → k < n → D k ≡ false → marked (reached C ψ) (movedDown G (owner k)) a ≡ marked (reached B χ) (owner k) a
     reached-renumbered k a l d =
         same (marked (reached C ψ) (movedDown G (owner k)) a) (marked (reached B χ) (owner k) a)
         (λ t.
@@ -170,8 +170,11 @@ module _ {G D : ℕ → Bool} {B : Book} {χ : Choice} {C : Book} {ψ : Choice} 
     rowHere p a k = cond (eqb (owner k) p) (rowAt χ k a ∷ []) []
 
     -- one clause
-    cell : (p a k : ℕ) → k < n
-        → cond (G p) [] (cond (g (movedDown G p) a) (cond (D k) [] (rowThere p a (movedDown D k))) []) ≡ cond (f p a) (rowsLeft D (rowHere p a k)) []
+    abbrev Cell : ℕ → ℕ → ℕ → Type 0
+    Cell p a k =
+        cond (G p) [] (cond (g (movedDown G p) a) (cond (D k) [] (rowThere p a (movedDown D k))) []) ≡ cond (f p a) (rowsLeft D (rowHere p a k)) []
+
+    cell : (p a k : ℕ) → k < n → Cell p a k
     unfolding rowsLeft
     cell p a k l =
         byBool (D k)
@@ -188,12 +191,13 @@ module _ {G D : ℕ → Bool} {B : Book} {χ : Choice} {C : Book} {ψ : Choice} 
         blank true c = refl
         blank false c = none-left c
 
+        -- it is gone
         gone : (b : Bool) → D k ≡ true → cond (f p a) (rowsLeft D (cond b (rowAt χ k a ∷ []) [])) [] ≡ []
         gone true u = rw u (none-left (f p a))
         gone false u = none-left (f p a)
 
-        stays : D k ≡ false → owner k ≡ p
-            → cond (G p) [] (cond (g (movedDown G p) a) (cond (D k) [] (rowThere p a (movedDown D k))) []) ≡ cond (f p a) (rowsLeft D (rowHere p a k)) []
+        -- it stays, and is of p
+        stays : D k ≡ false → owner k ≡ p → Cell p a k
         stays u q =
             let here : eqb (owner k) p ≡ true = eq-eqb (owner k) p q in
             let there : eqb (clause C (movedDown D k) .head .pred) (movedDown G p) ≡ true =
@@ -202,8 +206,8 @@ module _ {G D : ℕ → Bool} {B : Book} {χ : Choice} {C : Book} {ψ : Choice} 
             let told : g (movedDown G p) a ≡ f p a = ap (λ (i : ℕ). g (movedDown G i) a) (sym q) ∙ agree k a l u ∙ ap (λ (i : ℕ). f i a) q in
             rw (kept, told, u, there, here, m .order k a l u, u)
 
-        other : D k ≡ false → eqb (owner k) p ≡ false
-            → cond (G p) [] (cond (g (movedDown G p) a) (cond (D k) [] (rowThere p a (movedDown D k))) []) ≡ cond (f p a) (rowsLeft D (rowHere p a k)) []
+        -- it stays, and is of another predicate
+        other : D k ≡ false → eqb (owner k) p ≡ false → Cell p a k
         other u e =
             byBool (G p)
             (λ t. rw (t, e) (sym (none-left (f p a))))
@@ -226,7 +230,7 @@ module _ {G D : ℕ → Bool} {B : Book} {χ : Choice} {C : Book} {ψ : Choice} 
         ∙ ap (λ (l : List Row). cond (f p a) l []) (sym (left-joined D (rowHere p a) n))
         ∙ sym (left-cond D (f p a) (joined (rowHere p a) n))
 
-    pub under-renumbered : rowsUnder C ψ g ≡ rowsLeft D (rowsUnder B χ f)
+    under-renumbered : rowsUnder C ψ g ≡ rowsLeft D (rowsUnder B χ f)
     unfolding rowsUnder
     under-renumbered =
         let there : ℕ → ℕ → List Row = λ p a. cond (g p a) (rowsFor C ψ p a) [] in
