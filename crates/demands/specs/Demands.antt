@@ -34,9 +34,9 @@ use Rattle.choices.specs.Choice.{clause, IsChoice, Reaches, WellModed, Orderabl
 use Rattle.choices.specs.Plan.{Row, rowKey, chosen, planRows, image, planning}
 use Rattle.paging.specs.Run.{faulty, queries, judgeRun, encQu, queryFits, FitRun}
 use Rattle.paging.specs.Page.{answer, accepts, AsPlan, paging, verdicts}
-use Rattle.printing.specs.Sheet.{line, printing}
+use Rattle.printing.specs.Sheet.{line, constraintLines, roundsLine, printing}
 use Rattle.closing.specs.Close.{lacked, closing}
-use Rattle.depot.specs.Depot.{selfContained, imageLeft}
+use Rattle.depot.specs.Depot.{selfContained, imageLeft, orderLinesLeft}
 use Rattle.tally.specs.declared.Tally.{Tally}
 use Rattle.tally.specs.Tallied.{Tallies}
 
@@ -252,11 +252,15 @@ pub record SameNeeds (s : List ℕ) (B : Book) (t : List ℕ) : Type 0 where
   pub needs : final closed ≡ final B
   pub accepted : (planning t ≡ refused 7 0) ↔ (planning s ≡ refused 7 0)
 
--- W10: "the closed book's plan is the full plan without the chosen predicates' `CO` records, clause numbers moved down past the dropped clauses; and reply 7
--- comes for both or neither": t is refused with 7 exactly when s is, and where s has a plan, t has what is left of it; the record of the query is the same
-pub record SamePlan (set : ℕ) (s : List ℕ) (B : Book) (t : List ℕ) : Type 0 where
+-- W10, "The depot wants the same sheet": t has what is left of the orders of s, "the full plan without the chosen predicates' `CO` records, clause numbers moved
+-- down past the dropped clauses", the record of the query as it was.
+pub record SameOrders (set : ℕ) (s : List ℕ) (B : Book) (t : List ℕ) : Type 0 where
+  -- "reply 7 comes for both or neither"
   pub seven : (planning t ≡ refused 7 0) ↔ (planning s ≡ refused 7 0)
+  -- where s has a plan, that of t is what is left of it
   pub left : planning s ≡ done 0 (image B) → planning t ≡ done 0 (imageLeft (bitAt set) B)
+  -- so on the sheets: the `C` lines are the same, the `R` line is that of the book that t is, and the `Q` and `O` lines are those that are left
+  pub printed : (C : Book) → judge t ≡ book C → outcome (sheet t) ≡ done 0 (constraintLines B ++ (roundsLine C ++ orderLinesLeft (bitAt set) B))
 
 -- Of the bytes of a valid book.
 pub record Demand3 (s : List ℕ) (B : Book) : Type 0 where
@@ -269,7 +273,7 @@ pub record Demand3 (s : List ℕ) (B : Book) : Type 0 where
   -- no need and no acceptance changes
   pub same : (set : ℕ) (t : List ℕ) → Closes set s t → SameNeeds s B t
   -- nor do the orders, "if the chosen predicates' clauses call only chosen predicates or predicates without clauses"
-  pub depot : (set : ℕ) (t : List ℕ) → Closes set s t → selfContained (bitAt set) (B .clauses) ≡ true → SamePlan set s B t
+  pub depot : (set : ℕ) (t : List ℕ) → Closes set s t → selfContained (bitAt set) (B .clauses) ≡ true → SameOrders set s B t
   -- one set and then another gives the same bytes as both at once, in either turn
   pub parts : (S R : ℕ) (t u v : List ℕ) → Closes S s t → Closes R t u → Closes (bitOr S R) s v → u ≡ v
   pub turned : (S R : ℕ) (t u v w : List ℕ) → Closes S s t → Closes R t u → Closes R s v → Closes S v w → u ≡ w

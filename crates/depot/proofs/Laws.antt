@@ -2,3 +2,4 @@
 pub mod Examples
 pub mod Kept
 pub mod Plan
+pub mod Sheet

@@ -67,6 +67,7 @@ use Rattle.closing.proofs.Laws.Valid.{closed-well}
 use Rattle.closing.proofs.Laws.Final.{final-close}
 use Rattle.closing.proofs.Laws.Outcome.{closed-lacks, closing-book, done-closing, closing-twice, closing-turned, closing-again, closing-none, never-seven, closing-gave}
 use Rattle.depot.proofs.Laws.Plan.{closing-seven, closing-plan}
+use Rattle.depot.proofs.Laws.Sheet.{closing-sheet}
 use Rattle.demands.proofs.Laws.Examples.{bench, attained}
 
 -- ---- demand 1
@@ -252,10 +253,14 @@ module _ (s : List ℕ) (B : Book) (valid : judge s ≡ book B) where
         accepted = closing-seven set s t B valid e;
       }
 
-  same-plan : (set : ℕ) (t : List ℕ) → say.Closes set s t → selfContained (bitAt set) (B .clauses) ≡ true → say.SamePlan set s B t
-  same-plan set t c inside =
+  same-orders : (set : ℕ) (t : List ℕ) → say.Closes set s t → selfContained (bitAt set) (B .clauses) ≡ true → say.SameOrders set s B t
+  same-orders set t c inside =
       let e = gave set s t c in
-      record { seven = closing-seven set s t B valid e; left = closing-plan set s t B valid e inside }
+      record {
+        seven = closing-seven set s t B valid e;
+        left = closing-plan set s t B valid e inside;
+        printed = λ C v. ap (done 0) (closing-sheet set s t B valid e inside C v);
+      }
 
   room-enough : (set : ℕ) → lacked set (length (B .arities)) ≡ none → {out : List ℕ} {r : Reply} {after : List ℕ} → Answers (closing set s) out r after
       → longest ≤ length out → r .number ≡ 0
@@ -270,7 +275,7 @@ module _ (s : List ℕ) (B : Book) (valid : judge s ≡ book B) where
         closes = room-enough;
         seven = λ set a. never-seven set s _ a;
         same = same-needs;
-        depot = same-plan;
+        depot = same-orders;
         parts = λ S R t u v x y z. done-bytes (sym (gave R t u y) ∙ closing-twice S R s t (gave S s t x) ∙ gave (bitOr S R) s v z);
         turned = λ S R t u v w x y z q. done-bytes (sym (gave R t u y) ∙ closing-turned S R s t v (gave S s t x) (gave R s v z) ∙ gave S v w q);
         refusals = λ S R t x. closing-twice S R s t (gave S s t x);

@@ -12,10 +12,10 @@ use Rattle.choices.proofs.Laws.Examples.{compute-plan}
 use Rattle.closing.specs.Close.{close}
 use Rattle.closing.proofs.Laws.Examples.{compute-close}
 use Rattle.renumbering.proofs.Laws.Examples.{compute-left}
-use Rattle.depot.specs.Depot.{callsInside, selfContained, dropped, imageLeft}
+use Rattle.depot.specs.Depot.{callsInside, selfContained, dropped, planLeft, imageLeft}
 
 unfoldable pub compute-depot : Unit {0}
-unfolding compute-plan compute-close compute-left callsInside selfContained dropped imageLeft
+unfolding compute-plan compute-close compute-left callsInside selfContained dropped planLeft imageLeft
 compute-depot = tt
 
 -- ---- the condition: of a(X) :- b(X) and b(X) :- m(X), where a is predicate 0, b 1 and m 2

@@ -21,7 +21,7 @@ use Rattle.choices.specs.Choice.{clause, queryCalls, clauseCalls}
 use Rattle.choices.specs.Plan.{Row, orStanding, firstChoice, chosen, planRows, encQuery, encRow, image, planning}
 use Rattle.closing.specs.Close.{closeOver, close, closing}
 use Rattle.renumbering.specs.Left.{movedDown}
-use Rattle.depot.specs.Depot.{callsInside, selfContained, dropped, imageLeft}
+use Rattle.depot.specs.Depot.{callsInside, selfContained, dropped, planLeft, imageLeft}
 use Rattle.masks.proofs.Laws.Logic.{clash, or-case}
 use Rattle.masks.proofs.Laws.Lists.{all-at}
 use Rattle.book.proofs.Laws.Trip.{judge-inv}
@@ -62,7 +62,7 @@ module _ (S : ℕ → Bool) (B : Book) (w : WellFormed B) where
   unfolding closeOver dropped clause
   clauses-stay = kept-length S _ (B .clauses)
 
-  query-order : chosen C .forQuery ≡ chosen B .forQuery
+  pub query-order : chosen (closeOver S B) .forQuery ≡ chosen B .forQuery
   unfolding chosen firstChoice closeOver
   query-order = ap (λ (T : Table). orStanding (length (B .query)) (firstGood T (B .query) nothing)) (final-close S B w)
 
@@ -118,11 +118,13 @@ module _ (S : ℕ → Bool) (B : Book) (w : WellFormed B) where
           apart = λ k a b i l d r h e t. calls-apart k a b i l d h e t;
         }
 
-    pub image-left : image C ≡ imageLeft S B
-    unfolding image planRows imageLeft chosen
-    image-left =
-        ap₂ (λ (σ : List ℕ) (rows : List Row). encQuery σ ++ run encRow rows) query-order
-        (rows-renumbered closed-renumbers w (chosen-choice (final B) B) v (chosen-choice (final C) C))
+    pub plan-left : planRows (closeOver S B) ≡ planLeft S B
+    unfolding planRows planLeft chosen
+    plan-left = rows-renumbered closed-renumbers w (chosen-choice (final B) B) v (chosen-choice (final C) C)
+
+    image-left : image C ≡ imageLeft S B
+    unfolding image imageLeft
+    image-left = ap₂ (λ (σ : List ℕ) (rows : List Row). encQuery σ ++ run encRow rows) query-order plan-left
 
 -- ---- of bytes
 

@@ -1,7 +1,7 @@
 -- No sheet is longer than 164,584 bytes. A field of a number below 100 has at most three bytes, so a line has at most three times the bytes of the record
 -- that it comes from; the longest image of a table has 1,600 and the longest plan 53,259. The rounds are at most 4,096, and their line has at most seven.
 -- Assumes nothing.
-use mathlib.Core.Path.{_≡_, refl}
+use mathlib.Core.Path.{_≡_, refl, ap, _∙_}
 use mathlib.Core.Logic.{inl, inr}
 use mathlib.Core.List.{List, [], _∷_, _++_}
 use Prim.Native.Nat.{ℕ, zero, suc, _+_, _*_, _/_, _%_, _^_, _≤_, _<_}
@@ -9,6 +9,7 @@ use native.Mathlib.Nat.{pow-suc}
 use native.Mathlib.Omega.{arith}
 use lib.Dec.{ltb}
 use lib.ListN.{length, getD, take, length-append, length-take}
+use lib.Seq.{take-all}
 use borrow.Author.Tests.{lt-ltb, leb-true}
 use Rattle.masks.specs.Lists.{joined}
 use Rattle.book.specs.Limits.{longest, maxPredicates, maxSubgoals, longestSheet}
@@ -28,6 +29,7 @@ use Rattle.masks.proofs.Laws.Logic.{byBool}
 use Rattle.masks.proofs.Laws.Constraint.{inRange-at}
 use Rattle.book.proofs.Laws.Answer.{number-range}
 use Rattle.book.proofs.Laws.Places.{fault-place}
+use Rattle.book.proofs.Laws.Bound.{judge-length}
 use Rattle.book.proofs.Laws.Trip.{judge-inv}
 use Rattle.ordering.proofs.Laws.Orders.{in-at}
 use Rattle.tables.proofs.Laws.Sums.{sum-le, sum-times, length-joined}
@@ -201,3 +203,10 @@ judged-length s h = go (judge s) refl
 pub sheet-length : (s : List ℕ) → length (sheet s) ≤ longestSheet
 unfolding sheet
 sheet-length s = judged-length (take (suc longest) s) (omega (arith, length-take (suc longest) s))
+
+-- a book is never cut
+pub sheet-book : (s : List ℕ) (B : Book) → judge s ≡ book B → sheet s ≡ bookSheet B
+unfolding sheet
+sheet-book s B e =
+    let whole : take (suc longest) s ≡ s = take-all (suc longest) s (omega (arith, judge-length s B e .1)) in
+    ap (λ (t : List ℕ). judgedSheet (judge t)) whole ∙ ap judgedSheet e
