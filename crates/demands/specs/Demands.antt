@@ -233,7 +233,7 @@ abbrev pub Answer : ℕ → Type 0
 Answer n = (s r bytes : List ℕ) × (outcome (page s r) ≡ done 0 bytes) × (length bytes ≡ n)
 
 -- ---- Demand 3: any set of predicates replaced by what they need changes no need and no acceptance, and closing in parts gives the same bytes as closing at
--- once; W10, "The depot wants the same sheet": of a self-contained set, nor do the orders change
+-- once; W10, "The depot wants the same sheet": a self-contained set changes no order either
 
 -- A call of `closing::close` with some buffer replied 0 and wrote t.
 pub record Closes (set : ℕ) (s t : List ℕ) : Type 0 where
@@ -252,8 +252,8 @@ pub record SameNeeds (s : List ℕ) (B : Book) (t : List ℕ) : Type 0 where
   pub needs : final closed ≡ final B
   pub accepted : (planning t ≡ refused 7 0) ↔ (planning s ≡ refused 7 0)
 
--- W10, "The depot wants the same sheet": t has what is left of the orders of s, "the full plan without the chosen predicates' `CO` records, clause numbers moved
--- down past the dropped clauses", the record of the query as it was.
+-- W10: t has what is left of the orders of s, "the full plan without the chosen predicates' `CO` records, clause numbers moved down past the dropped clauses";
+-- the record of the query is as it was.
 pub record SameOrders (set : ℕ) (s : List ℕ) (B : Book) (t : List ℕ) : Type 0 where
   -- "reply 7 comes for both or neither"
   pub seven : (planning t ≡ refused 7 0) ↔ (planning s ≡ refused 7 0)

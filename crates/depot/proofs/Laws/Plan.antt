@@ -62,6 +62,7 @@ module _ (S : ℕ → Bool) (B : Book) (w : WellFormed B) where
   unfolding closeOver dropped clause
   clauses-stay = kept-length S _ (B .clauses)
 
+  -- the query has its order, and so its calls
   pub query-order : chosen (closeOver S B) .forQuery ≡ chosen B .forQuery
   unfolding chosen firstChoice closeOver
   query-order = ap (λ (T : Table). orStanding (length (B .query)) (firstGood T (B .query) nothing)) (final-close S B w)
@@ -72,9 +73,12 @@ module _ (S : ℕ → Bool) (B : Book) (w : WellFormed B) where
 
   -- ---- a clause that is dropped
 
+  -- q is chosen, or has no clauses
+  abbrev inside : ℕ → Bool
+  inside q = S q || not (defined (B .clauses) q)
+
   module _ (s : selfContained S (B .clauses) ≡ true) where
-    body-inside : (k : ℕ) → k < length (B .clauses) → dropped S B k ≡ true
-        → all (λ (g : Call). S (g .pred) || not (defined (B .clauses) (g .pred))) (clause B k .body) ≡ true
+    body-inside : (k : ℕ) → k < length (B .clauses) → dropped S B k ≡ true → all (λ (g : Call). inside (g .pred)) (clause B k .body) ≡ true
     unfolding selfContained callsInside dropped clause
     body-inside k l d =
         or-case (not (dropped S B k)) (callsInside S (B .clauses) (clause B k))
@@ -82,16 +86,17 @@ module _ (S : ℕ → Bool) (B : Book) (w : WellFormed B) where
         (λ t. clash (rw d at t) refl)
         (λ t. t)
 
+    -- calls no predicate of a clause that stays
     calls-apart : (k a b i : ℕ) → k < length (B .clauses) → dropped S B k ≡ true → i < length (B .clauses) → dropped S B i ≡ false
         → called (clause B i .head .pred) b (clauseCalls B (chosen B) k a) ≡ true → ⊥
     unfolding chosen clauseCalls dropped clause at
     calls-apart k a b i l d h e t =
-        let inside : (S (clause B i .head .pred) || not (defined (B .clauses) (clause B i .head .pred))) ≡ true =
-        asks-each (λ q c. (S q || not (defined (B .clauses) q)) ≡ true) (clause B k .body) (headBound (clause B k .head .args) a) (chosen B .forClause k a)
-        (λ p c m. all-at (λ (g : Call). S (g .pred) || not (defined (B .clauses) (g .pred))) _ (clause B k .body) p
-        (chosen-choice (final B) B .clause· k a l .below p m) (body-inside k l d))
-        (clause B i .head .pred) b t in
-        clash (rw (e, defined-at _ (B .clauses) i h) at inside) refl
+        let owner : ℕ = clause B i .head .pred in
+        let t′ : inside owner ≡ true =
+        asks-each (λ q c. inside q ≡ true) (clause B k .body) (headBound (clause B k .head .args) a) (chosen B .forClause k a)
+        (λ p c m. all-at (λ (g : Call). inside (g .pred)) _ (clause B k .body) p (chosen-choice (final B) B .clause· k a l .below p m) (body-inside k l d))
+        owner b t in
+        clash (rw (e, defined-at _ (B .clauses) i h) at t′) refl
 
     -- ---- so the closed book is the book with its dropped clauses gone
 
