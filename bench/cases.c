@@ -422,7 +422,7 @@ static void closed_plan(char **field)
     full = *try_in(ROOM, PLAN, &b, 0);
     other = *try_in(ROOM, PLAN, &c, 0);
     show_answer(&full, 1);
-    show_bytes(c.bytes, c.length);
+    show_answer(&closed, 0);
     show_answer(&other, 1);
     left_numbers(b.bytes, set, numbers);
     if (full.reply.number != other.reply.number || left_plan(numbers, full.out, written(full.reply), left) != written(other.reply) ||

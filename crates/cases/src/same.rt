@@ -29,25 +29,24 @@ pub fn results(line: &[u8]) {
         show::spoiled(r, &out);
         return;
     }
-    let k = lines::clip(show::written(r), &out);
-    compare(bytes, set, &out[..k]);
-}
-
-// A book and what closing it over a set gave.
-fn compare(bytes: &[u8], set: u64, closed: &[u8]) {
     let mut full = show::fresh();
     let f = plan::plan(bytes, &mut full);
     show::reply(f, 1);
     show::output(f, &full);
-    lines::show_bytes(closed);
-    let mut left = show::fresh();
-    let l = plan::plan(closed, &mut left);
-    show::reply(l, 1);
-    show::output(l, &left);
+    show::output(r, &out);
+    let k = lines::clip(show::written(r), &out);
     let m = lines::clip(show::written(f), &full);
-    let n = lines::clip(show::written(l), &left);
-    let same = f.number == l.number && is_left(&left[..n], &full[..m], &numbers(bytes, set));
-    if !same {
+    show_left(&out[..k], f.number, &full[..m], &numbers(bytes, set));
+}
+
+// The plan of a closed book, and whether it is another than what is left of the full one, whose reply's number is given.
+fn show_left(closed: &[u8], number: u32, full: &[u8], numbers: &[u8; MAX_CLAUSES]) {
+    let mut out = show::fresh();
+    let r = plan::plan(closed, &mut out);
+    show::reply(r, 1);
+    show::output(r, &out);
+    let k = lines::clip(show::written(r), &out);
+    if r.number != number || !is_left(&out[..k], full, numbers) {
         io::write_all(STDOUT_FILENO, b" differs");
     }
 }
