@@ -65,21 +65,36 @@ void left_numbers(const uint8_t *book, uint64_t set, uint8_t *numbers)
             numbers[k] = next++;
 }
 
+// the length of a record: `QO`, n, n places, or `CO`, clause, pattern, n, n places
+static size_t size_of(const uint8_t *record)
+{
+    return record[0] == 'Q' ? 3 + (size_t)record[2] : 5 + (size_t)record[4];
+}
+
 size_t left_plan(const uint8_t *numbers, const uint8_t *plan, size_t length, uint8_t *out)
 {
-    size_t at, size, written = 0;
+    size_t at, written = 0;
 
-    for (at = 0; at < length; at += size) {
+    for (at = 0; at < length; at += size_of(plan + at)) {
         const uint8_t *record = plan + at;
         int query = record[0] == 'Q';
 
-        size = query ? 3 + (size_t)record[2] : 5 + (size_t)record[4];
         if (!query && numbers[record[2]] == LEFT_DROPPED)
             continue;
-        memcpy(out + written, record, size);
+        memcpy(out + written, record, size_of(record));
         if (!query)
             out[written + 2] = numbers[record[2]];
-        written += size;
+        written += size_of(record);
     }
     return written;
+}
+
+int left_has(const uint8_t *left, size_t left_length, const uint8_t *plan, size_t length)
+{
+    size_t at = 0, of;
+
+    for (of = 0; of < left_length && at < length; of += size_of(left + of))
+        if (size_of(left + of) == size_of(plan + at) && memcmp(left + of, plan + at, size_of(plan + at)) == 0)
+            at += size_of(plan + at);
+    return at == length;
 }

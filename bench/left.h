@@ -17,4 +17,7 @@ void left_numbers(const uint8_t *book, uint64_t set, uint8_t *numbers);
 // at most the plan's length
 size_t left_plan(const uint8_t *numbers, const uint8_t *plan, size_t length, uint8_t *out);
 
+// each record of a plan is one of what is left, in the same turn
+int left_has(const uint8_t *left, size_t left_length, const uint8_t *plan, size_t length);
+
 #endif

@@ -123,10 +123,10 @@ shodh_reply shodh_plan(const uint8_t *book, size_t length, uint8_t *out, size_t 
  * as it was. Bit p of the set chooses predicate p. The result is a book with the same needs, accepted and refused as the first one is; closing in parts
  * gives the same bytes as closing at once, and the empty set gives back the book.
  *
- * The plan of the result. Where every call, negated or not, in the clauses of the chosen predicates is of a chosen predicate or of one without clauses,
- * it is the plan of the book without the `CO` records of the clauses that are gone, and with the numbers of the other clauses less by as many as are gone
- * before them. A set is made so by adding each predicate with clauses that such a clause calls, until none is new. With another set, a predicate that only
- * dropped clauses called is not reached any more, and has no `CO` record.
+ * The plan of the result. No order is another than it was: each of its `CO` records is one of the book's plan, with the number of its clause less by as many
+ * as are gone before it, and its `QO` record is the same. Where every call, negated or not, in the clauses of the chosen predicates is of a chosen predicate
+ * or of one without clauses, no record is missing but those of the clauses that are gone. A set is made so by adding each predicate with clauses that such a
+ * clause calls, until none is new. With another set, a predicate that only dropped clauses called is not reached any more, and its records are missing, too.
  * Room: SHODH_BOOK_SIZE. Replies: 0; 1 to 6; 8; 9. */
 shodh_reply shodh_close(const uint8_t *book, size_t length, uint64_t set, uint8_t *out, size_t room);
 

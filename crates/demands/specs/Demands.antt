@@ -36,7 +36,7 @@ use Rattle.paging.specs.Run.{faulty, queries, judgeRun, encQu, queryFits, FitRu
 use Rattle.paging.specs.Page.{answer, accepts, AsPlan, paging, verdicts}
 use Rattle.printing.specs.Sheet.{line, constraintLines, roundsLine, printing}
 use Rattle.closing.specs.Close.{lacked, closing}
-use Rattle.depot.specs.Depot.{selfContained, imageLeft, orderLinesLeft}
+use Rattle.depot.specs.Depot.{selfContained, planLeft, imageLeft, orderLinesLeft}
 use Rattle.tally.specs.declared.Tally.{Tally}
 use Rattle.tally.specs.Tallied.{Tallies}
 
@@ -233,7 +233,7 @@ abbrev pub Answer : ℕ → Type 0
 Answer n = (s r bytes : List ℕ) × (outcome (page s r) ≡ done 0 bytes) × (length bytes ≡ n)
 
 -- ---- Demand 3: any set of predicates replaced by what they need changes no need and no acceptance, and closing in parts gives the same bytes as closing at
--- once; W10, "The depot wants the same sheet": a self-contained set changes no order either
+-- once; W10, "The depot wants the same sheet": no order changes either, and of a self-contained set none is missing
 
 -- A call of `closing::close` with some buffer replied 0 and wrote t.
 pub record Closes (set : ℕ) (s t : List ℕ) : Type 0 where
@@ -272,7 +272,10 @@ pub record Demand3 (s : List ℕ) (B : Book) : Type 0 where
   pub seven : (set : ℕ) {out : List ℕ} {r : Reply} {after : List ℕ} → Answers (closing set s) out r after → r .number ≡ 7 → ⊥
   -- no need and no acceptance changes
   pub same : (set : ℕ) (t : List ℕ) → Closes set s t → SameNeeds s B t
-  -- nor do the orders, "if the chosen predicates' clauses call only chosen predicates or predicates without clauses"
+  -- nor does an order: of the book C that t is, the query has the order that it had, and each row of the plan is one of those that are left
+  pub orders : (set : ℕ) (t : List ℕ) (C : Book) → Closes set s t → judge t ≡ book C
+      → (chosen C .forQuery ≡ chosen B .forQuery) × ((r : Row) → In r (planRows C) → In r (planLeft (bitAt set) B))
+  -- and all of those are there, "if the chosen predicates' clauses call only chosen predicates or predicates without clauses"
   pub depot : (set : ℕ) (t : List ℕ) → Closes set s t → selfContained (bitAt set) (B .clauses) ≡ true → SameOrders set s B t
   -- one set and then another gives the same bytes as both at once, in either turn
   pub parts : (S R : ℕ) (t u v : List ℕ) → Closes S s t → Closes R t u → Closes (bitOr S R) s v → u ≡ v

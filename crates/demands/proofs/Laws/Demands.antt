@@ -66,7 +66,7 @@ use Rattle.tally.proofs.Laws.Tallied.{tally-accepted, tally-sum, tallies-kept, 
 use Rattle.closing.proofs.Laws.Valid.{closed-well}
 use Rattle.closing.proofs.Laws.Final.{final-close}
 use Rattle.closing.proofs.Laws.Outcome.{closed-lacks, closing-book, done-closing, closing-twice, closing-turned, closing-again, closing-none, never-seven, closing-gave}
-use Rattle.depot.proofs.Laws.Plan.{closing-seven, closing-plan}
+use Rattle.depot.proofs.Laws.Plan.{closing-seven, closing-orders, closing-plan}
 use Rattle.depot.proofs.Laws.Sheet.{closing-sheet}
 use Rattle.demands.proofs.Laws.Examples.{bench, attained}
 
@@ -275,6 +275,7 @@ module _ (s : List ℕ) (B : Book) (valid : judge s ≡ book B) where
         closes = room-enough;
         seven = λ set a. never-seven set s _ a;
         same = same-needs;
+        orders = λ set t C c. closing-orders set s t B valid (gave set s t c) C;
         depot = same-orders;
         parts = λ S R t u v x y z. done-bytes (sym (gave R t u y) ∙ closing-twice S R s t (gave S s t x) ∙ gave (bitOr S R) s v z);
         turned = λ S R t u v w x y z q. done-bytes (sym (gave R t u y) ∙ closing-turned S R s t v (gave S s t x) (gave R s v z) ∙ gave S v w q);

@@ -1,8 +1,9 @@
--- A book and one that has some of its predicates and clauses, numbered anew in the old order: what a choice reaches there, and the rows of its plan. A
--- clause that stays is reached there as it is here, since no clause that is gone and reached calls its predicate; so each cell of the one plan is what is
--- left of the cell of the other. Assumes nothing.
-use mathlib.Core.Path.{_≡_, refl, sym, ap, _∙_, subst}
+-- A book and one that has some of its predicates and clauses, numbered anew in the old order: what a choice reaches there, and the rows of its plan. What is
+-- reached there is reached here, in the same order, so each row there is one that is left of those here. And a clause that stays is reached there as it is here
+-- where no clause that is gone and reached calls its predicate; then each cell of the one plan is what is left of the cell of the other. Assumes nothing.
+use mathlib.Core.Path.{_≡_, refl, sym, ap, ap₂, _∙_, subst}
 use mathlib.Core.Bool.{Bool, true, false, cond, _&&_, false≢true}
+use mathlib.Core.Logic.{inl, inr}
 use mathlib.Core.List.{List, [], _∷_, _++_, map}
 use Prim.Native.Nat.{ℕ, zero, suc, _<_}
 use lib.Dec.{eqb}
@@ -14,6 +15,7 @@ use Rattle.book.specs.Book.{Clause, Book}
 use Rattle.book.specs.Encode.{WellFormed}
 use Rattle.book.specs.Table.{Table}
 use Rattle.ordering.specs.Adorn.{headBound}
+use Rattle.ordering.specs.Orders.{In}
 use Rattle.ordering.specs.Good.{firstGood}
 use Rattle.ordering.specs.Asks.{Asked, asks, called}
 use Rattle.tables.specs.Table.{final}
@@ -24,8 +26,9 @@ use Rattle.renumbering.specs.Left.{movedDown, newRow, rowsLeft}
 use Rattle.masks.proofs.Laws.Logic.{byBool, same, or-right}
 use Rattle.masks.proofs.Laws.Lists.{joined-cong}
 use Rattle.ordering.proofs.Laws.Asks.{called-case, called-first}
+use Rattle.tables.proofs.Laws.Valid.{clause-own}
 use Rattle.choices.proofs.Laws.Reached.{reached-iff}
-use Rattle.choices.proofs.Laws.Rows.{rowAt}
+use Rattle.choices.proofs.Laws.Rows.{rowAt, rows-out, rows-in}
 use Rattle.renumbering.proofs.Laws.Numbers.{joined-moved, moved-lt, moved-inj, moved-back}
 
 -- ---- calls under new numbers
@@ -69,6 +72,14 @@ module _ (D : ℕ → Bool) where
   left-cond true l = refl
   left-cond false l = refl
 
+  -- a row of a clause that stays is left
+  left-in : (r : Row) → D (r .clause·) ≡ false → (rs : List Row) → In r rs → In (newRow D r) (rowsLeft D rs)
+  unfolding rowsLeft
+  left-in r u [] i = i
+  left-in r u (q ∷ rs) (inl e) = rw (← e, u) (inl refl)
+  left-in r u (q ∷ rs) (inr i) =
+      byBool (D (q .clause·)) (λ t. rw t (left-in r u rs i)) (λ t. rw t (inr (left-in r u rs i)))
+
 -- a test outside of a join, or inside
 cond-joined : (b : Bool) (f : ℕ → List Row) (n : ℕ) → cond b (joined f n) [] ≡ joined (λ k. cond b (f k) []) n
 cond-joined true f n = refl
@@ -109,9 +120,12 @@ pub record Renumbers (G D : ℕ → Bool) (B : Book) (χ : Choice) (C : Book) (�
   pub headStays : (k : ℕ) → k < length (B .clauses) → D k ≡ false → G (clause B k .head .pred) ≡ false
   pub callStays : (k a q b : ℕ) → k < length (B .clauses) → D k ≡ false → called q b (clauseCalls B χ k a) ≡ true → G q ≡ false
   pub queryStays : (q b : ℕ) → called q b (queryCalls B χ) ≡ true → G q ≡ false
-  -- a clause that is gone, and reached, calls no predicate of a clause that stays
-  pub apart : (k a b i : ℕ) → k < length (B .clauses) → D k ≡ true → Reaches B χ (clause B k .head .pred) a → i < length (B .clauses) → D i ≡ false
-      → called (clause B i .head .pred) b (clauseCalls B χ k a) ≡ true → ⊥
+
+-- a clause that is gone, and reached, calls no predicate of a clause that stays
+abbrev pub Apart : (ℕ → Bool) → Book → Choice → Type 0
+Apart D B χ =
+    (k a b i : ℕ) → k < length (B .clauses) → D k ≡ true → Reaches B χ (clause B k .head .pred) a → i < length (B .clauses) → D i ≡ false
+    → called (clause B i .head .pred) b (clauseCalls B χ k a) ≡ true → ⊥
 
 module _ {G D : ℕ → Bool} {B : Book} {χ : Choice} {C : Book} {ψ : Choice} (m : Renumbers G D B χ C ψ) where
   abbrev n : ℕ
@@ -122,18 +136,6 @@ module _ {G D : ℕ → Bool} {B : Book} {χ : Choice} {C : Book} {ψ : Choice} 
   owner k = clause B k .head .pred
 
   -- ---- what is reached
-
-  to-renumbered : {q b : ℕ} → Reaches B χ q b → (i : ℕ) → i < n → D i ≡ false → owner i ≡ q → Reaches C ψ (movedDown G q) b
-  to-renumbered (by-query {q} {b} t) i h d e =
-      by-query (ap (called (movedDown G q) b) (m .query·) ∙ called-renamed G q b (queryCalls B χ) t)
-  to-renumbered (by-clause {a} {q} {b} k l r t) i h d e =
-      byBool (D k)
-      (λ u. absurd (m .apart k a b i l u r h d (ap (λ (v : ℕ). called v b (clauseCalls B χ k a)) e ∙ t)))
-      (λ u.
-      let l′ : movedDown D k < length (C .clauses) = rw (m .clauses·) (moved-lt D k n l u) in
-      by-clause (movedDown D k) l′
-      (subst (λ (p : ℕ). Reaches C ψ p a) (sym (m .head· k l u)) (to-renumbered r k l u refl))
-      (ap (called (movedDown G q) b) (m .calls k a l u) ∙ called-renamed G q b (clauseCalls B χ k a) t))
 
   from-renumbered : {q b : ℕ} → Reaches C ψ q b → (r : ℕ) × (movedDown G r ≡ q) × (G r ≡ false) × Reaches B χ r b
   from-renumbered (by-query {q} {b} t) =
@@ -149,15 +151,23 @@ module _ {G D : ℕ → Bool} {B : Book} {χ : Choice} {C : Book} {ψ : Choice} 
       let (r, e, v) = renamed-called G q b (clauseCalls B χ k a) c in
       (r, e, m .callStays k a r b h u v, by-clause k h (subst (λ (i : ℕ). Reaches B χ i a) o z) v)
 
-  -- the predicates of clauses that stay are reached under the same patterns
-  module _ (w : WellFormed B) (ok : IsChoice B χ) (v : WellFormed C) (ok′ : IsChoice C ψ) where
-    reached-renumbered : (k a : ℕ) → k < n → D k ≡ false → marked (reached C ψ) (movedDown G (owner k)) a ≡ marked (reached B χ) (owner k) a
-    reached-renumbered k a l d =
-        same (marked (reached C ψ) (movedDown G (owner k)) a) (marked (reached B χ) (owner k) a)
-        (λ t.
-        let (r, e, g, z) = from-renumbered (reached-iff C ψ v ok′ (movedDown G (owner k)) a .0 t) in
-        reached-iff B χ w ok (owner k) a .1 (subst (λ (i : ℕ). Reaches B χ i a) (moved-inj G r (owner k) g (m .headStays k l d) e) z))
-        (λ t. reached-iff C ψ v ok′ (movedDown G (owner k)) a .1 (to-renumbered (reached-iff B χ w ok (owner k) a .0 t) k l d refl))
+  -- of the predicate of a clause that stays
+  owner-reached : (k a : ℕ) → k < n → D k ≡ false → Reaches C ψ (movedDown G (owner k)) a → Reaches B χ (owner k) a
+  owner-reached k a l d t =
+      let (r, e, g, z) = from-renumbered t in
+      subst (λ (i : ℕ). Reaches B χ i a) (moved-inj G r (owner k) g (m .headStays k l d) e) z
+
+  to-renumbered : Apart D B χ → {q b : ℕ} → Reaches B χ q b → (i : ℕ) → i < n → D i ≡ false → owner i ≡ q → Reaches C ψ (movedDown G q) b
+  to-renumbered apart (by-query {q} {b} t) i h d e =
+      by-query (ap (called (movedDown G q) b) (m .query·) ∙ called-renamed G q b (queryCalls B χ) t)
+  to-renumbered apart (by-clause {a} {q} {b} k l r t) i h d e =
+      byBool (D k)
+      (λ u. absurd (apart k a b i l u r h d (ap (λ (v : ℕ). called v b (clauseCalls B χ k a)) e ∙ t)))
+      (λ u.
+      let l′ : movedDown D k < length (C .clauses) = rw (m .clauses·) (moved-lt D k n l u) in
+      by-clause (movedDown D k) l′
+      (subst (λ (p : ℕ). Reaches C ψ p a) (sym (m .head· k l u)) (to-renumbered apart r k l u refl))
+      (ap (called (movedDown G q) b) (m .calls k a l u) ∙ called-renamed G q b (clauseCalls B χ k a) t))
 
   -- ---- rows, under patterns that f tells here and g there
 
@@ -245,8 +255,35 @@ module _ {G D : ℕ → Bool} {B : Book} {χ : Choice} {C : Book} {ψ : Choice} 
         ∙ sym (left-joined D (λ p. joined (here p) allPatterns) (length (B .arities))
         ∙ joined-cong (λ p. rowsLeft D (joined (here p) allPatterns)) left (length (B .arities)) (λ p _. left-joined D (here p) allPatterns))
 
-  -- RENUMBERED: the plan there is what is left of the plan here
+  -- ---- the plans
+
   module _ (w : WellFormed B) (ok : IsChoice B χ) (v : WellFormed C) (ok′ : IsChoice C ψ) where
-    pub rows-renumbered : rowsOf C ψ ≡ rowsLeft D (rowsOf B χ)
+    -- each row there is one that is left of those here
+    pub rows-within : (r : Row) → In r (rowsOf C ψ) → In r (rowsLeft D (rowsOf B χ))
+    unfolding rowsOf clause
+    rows-within r i =
+        let (l, t, e, h) = rows-out C ψ (marked (reached C ψ)) r i in
+        let a : ℕ = r .pattern in
+        let (k, lk, u, x) = moved-back D n (r .clause·) (rw (m .clauses·) at l) in
+        let here : Reaches B χ (owner k) a =
+        owner-reached k a lk u
+        (subst (λ (p : ℕ). Reaches C ψ p a) (ap (λ (j : ℕ). clause C j .head .pred) (sym x) ∙ m .head· k lk u)
+        (reached-iff C ψ v ok′ (clause C (r .clause·) .head .pred) a .0 t)) in
+        let is : newRow D (rowAt χ k a) ≡ r =
+        ap₂ (λ (j : ℕ) (σ : List ℕ). record { clause· = j; pattern = a; places = σ }) x
+        (sym (m .order k a lk u) ∙ ap (λ (j : ℕ). ψ .forClause j a) x ∙ sym e) in
+        subst (λ (q : Row). In q (rowsLeft D (rowsUnder B χ (marked (reached B χ))))) is
+        (left-in D (rowAt χ k a) u (rowsUnder B χ (marked (reached B χ)))
+        (rows-in B χ (marked (reached B χ)) k a lk (clause-own B w _ k lk) h (reached-iff B χ w ok (owner k) a .1 here)))
+
+    -- the predicates of clauses that stay are reached under the same patterns
+    reached-renumbered : Apart D B χ → (k a : ℕ) → k < n → D k ≡ false → marked (reached C ψ) (movedDown G (owner k)) a ≡ marked (reached B χ) (owner k) a
+    reached-renumbered apart k a l d =
+        same (marked (reached C ψ) (movedDown G (owner k)) a) (marked (reached B χ) (owner k) a)
+        (λ t. reached-iff B χ w ok (owner k) a .1 (owner-reached k a l d (reached-iff C ψ v ok′ (movedDown G (owner k)) a .0 t)))
+        (λ t. reached-iff C ψ v ok′ (movedDown G (owner k)) a .1 (to-renumbered apart (reached-iff B χ w ok (owner k) a .0 t) k l d refl))
+
+    -- RENUMBERED: the plan there is what is left of the plan here
+    pub rows-renumbered : Apart D B χ → rowsOf C ψ ≡ rowsLeft D (rowsOf B χ)
     unfolding rowsOf
-    rows-renumbered = under-renumbered (marked (reached B χ)) (marked (reached C ψ)) (reached-renumbered w ok v ok′)
+    rows-renumbered apart = under-renumbered (marked (reached B χ)) (marked (reached C ψ)) (reached-renumbered apart)
