@@ -5,9 +5,9 @@ use Rattle.book.specs.Book.{Book}
 use Rattle.book.specs.Format.{number, Judged, fault, book, judge}
 
 -- "the first fault found is given", with its number and place; a valid book gets what the operation makes of it
-abbrev pub ofJudged : (Book → Outcome) → Judged → Outcome
-ofJudged made (fault f at) = refused (number f) at
-ofJudged made (book B) = made B
+abbrev pub of_judged : (Book → Outcome) → Judged → Outcome
+of_judged made (fault f at) = refused (number f) at
+of_judged made (book B) = made B
 
-unfoldable pub onBook : (Book → Outcome) → List ℕ → Outcome
-onBook made s = ofJudged made (judge s)
+unfoldable pub on_book : (Book → Outcome) → List ℕ → Outcome
+on_book made s = of_judged made (judge s)

@@ -14,15 +14,15 @@ pub record Call : Type 0 where
   pub args : List ℕ
 
 -- the subgoal of a predicate and its arguments, negated or not
-abbrev pub subgoalOf : Bool → Head → Call
-subgoalOf negated h = record { negated = negated; pred = h.pred; args = h.args }
+abbrev pub subgoal_of : Bool → Head → Call
+subgoal_of negated h = record { negated = negated; pred = h.pred; args = h.args }
 
 -- the head and the call that say nothing, for places where there is none
-abbrev pub noHead : Head
-noHead = record { pred = 0; args = [] }
+abbrev pub no_head : Head
+no_head = record { pred = 0; args = [] }
 
-abbrev pub noCall : Call
-noCall = subgoalOf false noHead
+abbrev pub no_call : Call
+no_call = subgoal_of false no_head
 
 -- "MO: predicate, n, n masks; n alternatives", in the order given
 pub record Mode : Type 0 where
@@ -35,8 +35,8 @@ pub record Clause : Type 0 where
   pub body : List Call
 
 -- the clause that says nothing
-abbrev pub noClause : Clause
-noClause = record { head = noHead; body = [] }
+abbrev pub no_clause : Clause
+no_clause = record { head = no_head; body = [] }
 
 -- the arity of each predicate, "numbered from 0"; modes, clauses and the subgoals of the query in the order given
 pub record Book : Type 0 where
@@ -46,5 +46,5 @@ pub record Book : Type 0 where
   pub query : List Call
 
 -- W1: "that query in place of the book's own"
-abbrev pub withQuery : Book → List Call → Book
-withQuery B q = record { arities = B.arities; modes = B.modes; clauses = B.clauses; query = q }
+abbrev pub with_query : Book → List Call → Book
+with_query B q = record { arities = B.arities; modes = B.modes; clauses = B.clauses; query = q }

@@ -1,10 +1,10 @@
 -- The bytes of a book, and the books that have bytes. Every definition computes. Assumes nothing.
 use Rattle.std.specs.Prelude.{◌≡◌, Bool, true, cond, ◌&&◌, List, [], ◌∷◌, ◌++◌, ℕ, suc, ◌^◌, eqb, leb, length, get_or}
-use Rattle.masks.specs.Limits.{maxArity, maxMasks}
+use Rattle.masks.specs.Limits.{max_arity, max_masks}
 use Rattle.masks.specs.Lists.{all}
-use Rattle.book.specs.Limits.{maxPredicates, maxClauses, maxSubgoals}
+use Rattle.book.specs.Limits.{max_predicates, max_clauses, max_subgoals}
 use Rattle.book.specs.Book.{Head, Call, Mode, Clause, Book}
-use Rattle.book.specs.Format.{spelling, allows, argumentIn}
+use Rattle.book.specs.Format.{spelling, allows, argument_in}
 use Rattle.book.specs.declared.mark.Mark.TheVariants.{Pr, Mo, Cl, Sg, Ng, Qu}
 use Rattle.book.specs.declared.range.Range.{Range}
 use Rattle.book.specs.declared.range.Range.TheVariants.{Below, AtMost, NoWildcard}
@@ -36,48 +36,48 @@ run f [] = []
 run f (x ∷ xs) = f x ++ run f xs
 
 -- "PR: arity"
-abbrev pub encPredicate : ℕ → List ℕ
-encPredicate a = PR (a ∷ [])
+abbrev pub enc_predicate : ℕ → List ℕ
+enc_predicate a = PR (a ∷ [])
 
 -- "MO: predicate, n, n masks"
-abbrev pub encMode : Mode → List ℕ
-encMode m = MO (m.pred ∷ length m.masks ∷ m.masks)
+abbrev pub enc_mode : Mode → List ℕ
+enc_mode m = MO (m.pred ∷ length m.masks ∷ m.masks)
 
 -- "predicate, one argument per position"
-abbrev pub encHead : Head → List ℕ
-encHead h = h.pred ∷ h.args
+abbrev pub enc_head : Head → List ℕ
+enc_head h = h.pred ∷ h.args
 
 -- "SG", or "NG" with the same fields
-abbrev pub encSubgoal : Call → List ℕ
-encSubgoal c = cond c.negated (NG (c.pred ∷ c.args)) (SG (c.pred ∷ c.args))
+abbrev pub enc_subgoal : Call → List ℕ
+enc_subgoal c = cond c.negated (NG (c.pred ∷ c.args)) (SG (c.pred ∷ c.args))
 
 -- "CL", then its subgoals
-abbrev pub encClause : Clause → List ℕ
-encClause c = CL (encHead c.head ++ run encSubgoal c.body)
+abbrev pub enc_clause : Clause → List ℕ
+enc_clause c = CL (enc_head c.head ++ run enc_subgoal c.body)
 
 -- "all PR, then all MO, then clauses, then one QU"
 unfoldable pub encode : Book → List ℕ
 encode b =
-    run encPredicate b.arities
-    ++ (run encMode b.modes ++ (run encClause b.clauses ++ (QU ++ run encSubgoal b.query)))
+    run enc_predicate b.arities
+    ++ (run enc_mode b.modes ++ (run enc_clause b.clauses ++ (QU ++ run enc_subgoal b.query)))
 
 -- ---- the books that keep to the limits
 
 -- a predicate of the book, and as many arguments as its arity, each in its range
-abbrev pub fieldsFit : Range → List ℕ → ℕ → List ℕ → Bool
-fieldsFit r ar p args = allows (Below (length ar)) p && (eqb (length args) (get_or ar p 0) && all (allows r) args)
+abbrev pub fields_fit : Range → List ℕ → ℕ → List ℕ → Bool
+fields_fit r ar p args = allows (Below (length ar)) p && (eqb (length args) (get_or ar p 0) && all (allows r) args)
 
-abbrev pub headFits : List ℕ → Head → Bool
-headFits ar h = fieldsFit NoWildcard ar h.pred h.args
+abbrev pub head_fits : List ℕ → Head → Bool
+head_fits ar h = fields_fit NoWildcard ar h.pred h.args
 
-abbrev pub callFits : List ℕ → Call → Bool
-callFits ar c = fieldsFit (argumentIn c.negated) ar c.pred c.args
+abbrev pub call_fits : List ℕ → Call → Bool
+call_fits ar c = fields_fit (argument_in c.negated) ar c.pred c.args
 
 -- a predicate of the book, at most 20 alternatives, each a mask of its positions
-abbrev pub modeFits : List ℕ → Mode → Bool
-modeFits ar m =
+abbrev pub mode_fits : List ℕ → Mode → Bool
+mode_fits ar m =
     allows (Below (length ar)) m.pred
-    && (allows (AtMost maxMasks) (length m.masks) && all (allows (Below (2 ^ get_or ar m.pred 0))) m.masks)
+    && (allows (AtMost max_masks) (length m.masks) && all (allows (Below (2 ^ get_or ar m.pred 0))) m.masks)
 
 -- "MO records rise strictly by predicate", none below b
 abbrev pub rises : ℕ → List Mode → Bool
@@ -85,15 +85,15 @@ rises b [] = true
 rises b (m ∷ ms) = leb b m.pred && rises (suc m.pred) ms
 
 -- a head, and at most 8 subgoals
-abbrev pub clauseFits : List ℕ → Clause → Bool
-clauseFits ar c = headFits ar c.head && (leb (length c.body) maxSubgoals && all (callFits ar) c.body)
+abbrev pub clause_fits : List ℕ → Clause → Bool
+clause_fits ar c = head_fits ar c.head && (leb (length c.body) max_subgoals && all (call_fits ar) c.body)
 
 pub record WellFormed (b : Book) : Type 0 where
-  pub fewPredicates : leb (length b.arities) maxPredicates ≡ true
-  pub aritiesFit : all (allows (AtMost maxArity)) b.arities ≡ true
-  pub modesFit : all (modeFits b.arities) b.modes ≡ true
-  pub modesRise : rises 0 b.modes ≡ true
-  pub fewClauses : leb (length b.clauses) maxClauses ≡ true
-  pub clausesFit : all (clauseFits b.arities) b.clauses ≡ true
-  pub fewAsked : leb (length b.query) maxSubgoals ≡ true
-  pub queryFits : all (callFits b.arities) b.query ≡ true
+  pub few_predicates : leb (length b.arities) max_predicates ≡ true
+  pub arities_fit : all (allows (AtMost max_arity)) b.arities ≡ true
+  pub modes_fit : all (mode_fits b.arities) b.modes ≡ true
+  pub modes_rise : rises 0 b.modes ≡ true
+  pub few_clauses : leb (length b.clauses) max_clauses ≡ true
+  pub clauses_fit : all (clause_fits b.arities) b.clauses ≡ true
+  pub few_asked : leb (length b.query) max_subgoals ≡ true
+  pub query_fits : all (call_fits b.arities) b.query ≡ true

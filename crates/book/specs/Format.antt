@@ -2,9 +2,9 @@
 -- ground for 6, which W6 takes away, with W9's sixth mark, and with the turns of W1's queries. It is recursion on the bytes that are left, so that a place is
 -- said by how many bytes are left from it on; `judge` turns that into an offset, once. Every definition computes. Assumes nothing.
 use Rattle.std.specs.Prelude.{◌≡◌, ◌⊎◌, Bool, cond, ◌&&◌, ◌||◌, false, List, [], ◌∷◌, ◌++◌, ℕ, zero, suc, ◌-◌, ◌^◌, ◌≤◌, ◌<◌, eqb, ltb, leb, length, get_or, drop}
-use Rattle.masks.specs.Limits.{maxArity, maxMasks}
-use Rattle.book.specs.Limits.{maxPredicates, maxClauses, maxSubgoals}
-use Rattle.book.specs.Book.{Head, Call, subgoalOf, Mode, Clause, Book}
+use Rattle.masks.specs.Limits.{max_arity, max_masks}
+use Rattle.book.specs.Limits.{max_predicates, max_clauses, max_subgoals}
+use Rattle.book.specs.Book.{Head, Call, subgoal_of, Mode, Clause, Book}
 use Rattle.book.specs.declared.fault.Fault.{Fault}
 use Rattle.book.specs.declared.fault.Fault.TheVariants.{PastEnd, NoMark, OutOfTurn, OutOfRange, TooMany, Clash}
 use Rattle.book.specs.declared.mark.Mark.{Mark}
@@ -73,8 +73,8 @@ unmarked (x ∷ []) = Half
 unmarked (x ∷ y ∷ s) = Other
 
 -- what the bytes begin with
-unfoldable pub markAt : List ℕ → Mark
-markAt s =
+unfoldable pub mark_at : List ℕ → Mark
+mark_at s =
     cond (leads (spelling Pr) s) Pr
     (cond (leads (spelling Mo) s) Mo
     (cond (leads (spelling Cl) s) Cl
@@ -153,45 +153,45 @@ bytes r zero acc s = got acc s
 bytes r (suc k) acc s = and_then (byte r s) (λ x t. bytes r k (acc ++ (x ∷ [])) t)
 
 -- a record of the run, its end, or a fault
-abbrev pub onTurn : {A : Type 0} → Turn → Got A → A → List ℕ → Got A
-onTurn Mine more a s = more
-onTurn Over more a s = got a s
-onTurn (No f) more a s = wrong f s
+abbrev pub on_turn : {A : Type 0} → Turn → Got A → A → List ℕ → Got A
+on_turn Mine more a s = more
+on_turn Over more a s = got a s
+on_turn (No f) more a s = wrong f s
 
 -- "in turn (3), not one too many (5)": a run of records, at most `room` of them, after those of acc
 unfoldable pub many : {A : Type 0} → Phase → (List A → List ℕ → Got A) → ℕ → List A → List ℕ → Got (List A)
-many p item zero acc s = onTurn (turn p (markAt s)) (wrong TooMany s) acc s
+many p item zero acc s = on_turn (turn p (mark_at s)) (wrong TooMany s) acc s
 many p item (suc room) acc s =
     let more = and_then (item acc s) (λ a t. many p item room (acc ++ (a ∷ [])) t) in
-    onTurn (turn p (markAt s)) more acc s
+    on_turn (turn p (mark_at s)) more acc s
 
 -- ---- the records; those before are acc
 
 -- "PR: arity"
 unfoldable pub predicate : List ℕ → List ℕ → Got ℕ
-predicate acc s = byte (AtMost maxArity) (drop 2 s)
+predicate acc s = byte (AtMost max_arity) (drop 2 s)
 
 -- "MO: predicate, n, n masks", and "MO records rise strictly by predicate": the least predicate that the next may name
-unfoldable pub lowFrom : ℕ → List Mode → ℕ
-lowFrom b [] = b
-lowFrom b (m ∷ ms) = lowFrom (suc m.pred) ms
+unfoldable pub low_from : ℕ → List Mode → ℕ
+low_from b [] = b
+low_from b (m ∷ ms) = low_from (suc m.pred) ms
 
 abbrev pub low : List Mode → ℕ
-low ms = lowFrom 0 ms
+low ms = low_from 0 ms
 
 -- "n, n masks", each one of so many patterns
 unfoldable pub masks : ℕ → List ℕ → Got (List ℕ)
-masks patterns s = and_then (byte (AtMost maxMasks) s) (λ n t. bytes (Below patterns) n [] t)
+masks patterns s = and_then (byte (AtMost max_masks) s) (λ n t. bytes (Below patterns) n [] t)
 
 -- "6: MO not rising", tried last
-unfoldable pub modeFields : List ℕ → ℕ → List ℕ → Got Mode
-modeFields ar b s =
+unfoldable pub mode_fields : List ℕ → ℕ → List ℕ → Got Mode
+mode_fields ar b s =
     and_then (byte (Below (length ar)) s) (λ p t.
     and_then (masks (2 ^ get_or ar p 0) t) (λ ms u.
     cond (leb b p) (got (record { pred = p; masks = ms }) u) (wrong Clash s)))
 
 unfoldable pub mode : List ℕ → List Mode → List ℕ → Got Mode
-mode ar acc s = modeFields ar (low acc) (drop 2 s)
+mode ar acc s = mode_fields ar (low acc) (drop 2 s)
 
 -- "predicate, one argument per position"
 unfoldable pub fields : Range → List ℕ → List ℕ → Got Head
@@ -201,25 +201,25 @@ fields r ar s =
     got (record { pred = p; args = args }) u))
 
 -- W9: "254 in an `NG` is 4"
-abbrev pub argumentIn : Bool → Range
-argumentIn negated = cond negated NoWildcard Argument
+abbrev pub argument_in : Bool → Range
+argument_in negated = cond negated NoWildcard Argument
 
 -- "SG: the next subgoal of the clause or query just begun", or NG, which "counts as a subgoal"
 unfoldable pub subgoal : List ℕ → List Call → List ℕ → Got Call
 subgoal ar acc s =
     let negated : Bool = leads (spelling Ng) s in
-    and_then (fields (argumentIn negated) ar (drop 2 s)) (λ h t. got (subgoalOf negated h) t)
+    and_then (fields (argument_in negated) ar (drop 2 s)) (λ h t. got (subgoal_of negated h) t)
 
 -- "CL: a clause head", and the subgoals of the clause. W6: "A predicate may have both MO and clauses", so nothing else is asked of its predicate
 unfoldable pub clause : List ℕ → List Clause → List ℕ → Got Clause
 clause ar acc s =
     and_then (fields NoWildcard ar (drop 2 s)) (λ h t.
-    and_then (many Body (subgoal ar) maxSubgoals [] t) (λ body u.
+    and_then (many Body (subgoal ar) max_subgoals [] t) (λ body u.
     got (record { head = h; body = body }) u))
 
 -- "QU: the query", and its subgoals: the book's own, or one of a page
 unfoldable pub query : Phase → List ℕ → List ℕ → Got (List Call)
-query p ar s = many p (subgoal ar) maxSubgoals [] (drop 2 s)
+query p ar s = many p (subgoal ar) max_subgoals [] (drop 2 s)
 
 -- ---- the book
 
@@ -227,13 +227,13 @@ query p ar s = many p (subgoal ar) maxSubgoals [] (drop 2 s)
 -- fault. The clauses end at QU.
 unfoldable pub rules : List ℕ → List ℕ → Got Book
 rules ar s =
-    and_then (many Modes (mode ar) (suc maxPredicates) [] s) (λ ms t.
-    and_then (many Clauses (clause ar) maxClauses [] t) (λ cs u.
+    and_then (many Modes (mode ar) (suc max_predicates) [] s) (λ ms t.
+    and_then (many Clauses (clause ar) max_clauses [] t) (λ cs u.
     and_then (query Query ar u) (λ q v.
     got (record { arities = ar; modes = ms; clauses = cs; query = q }) v)))
 
-unfoldable pub readBook : List ℕ → Got Book
-readBook s = and_then (many Predicates predicate maxPredicates [] s) (λ ar t. rules ar t)
+unfoldable pub read_book : List ℕ → Got Book
+read_book s = and_then (many Predicates predicate max_predicates [] s) (λ ar t. rules ar t)
 
 -- a fault and its offset, or the book
 pub data Judged : Type 0 where
@@ -246,4 +246,4 @@ judged s (got b t) = book b
 
 -- "Records are judged from the left and the first fault found is given."
 unfoldable pub judge : List ℕ → Judged
-judge s = judged s (readBook s)
+judge s = judged s (read_book s)

@@ -2,34 +2,34 @@
 // above it the number of its arguments, above that six arguments, one byte each. The number takes the three lowest bits of its byte; the bit above them is
 // set where a subgoal is negated, and the other four say nothing. Stores go through a slice, whose length the proof knows.
 ghost use Rattle.std.specs.Prelude.{◌≡◌, ◌<◌, ◌≤◌, min, length, get_or};
-ghost use Rattle.masks.specs.Limits.{maxArity};
-ghost use Rattle.book.specs.Limits.{maxClauses};
-ghost use Rattle.book.specs.Book.{noCall};
-ghost use Rattle.book.specs.Held.{headIn, call_in, clauseAt, StoredClause};
+ghost use Rattle.masks.specs.Limits.{max_arity};
+ghost use Rattle.book.specs.Limits.{max_clauses};
+ghost use Rattle.book.specs.Book.{no_call};
+ghost use Rattle.book.specs.Held.{head_in, call_in, clause_at, StoredClause};
 
 use crate::limits::{CLAUSE_SIZE, MAX_SUBGOALS, RULES_SIZE};
 use masks::limits::MAX_ARGUMENTS;
 
 // The head of clause k of an array.
 pub fn head_at(rules: &[u64; RULES_SIZE], k: usize) -> u64
-    requires { k ≤ maxClauses }
-    ensures { headIn result ≡ (clauseAt rules.now k).head }
+    requires { k ≤ max_clauses }
+    ensures { head_in result ≡ (clause_at rules.now k).head }
 {
     rules[k * CLAUSE_SIZE + 1]
 }
 
 // How many subgoals clause k of an array has.
 pub fn subgoals_at(rules: &[u64; RULES_SIZE], k: usize) -> usize
-    requires { k ≤ maxClauses }
-    ensures { result ≡ length (clauseAt rules.now k).body }
+    requires { k ≤ max_clauses }
+    ensures { result ≡ length (clause_at rules.now k).body }
 {
     held(rules[k * CLAUSE_SIZE], MAX_SUBGOALS)
 }
 
 // Subgoal j of clause k of an array.
 pub fn subgoal_at(rules: &[u64; RULES_SIZE], k: usize, j: usize) -> u64
-    requires { (k ≤ maxClauses) × (j < length (clauseAt rules.now k).body) }
-    ensures { call_in result ≡ get_or (clauseAt rules.now k).body j noCall }
+    requires { (k ≤ max_clauses) × (j < length (clause_at rules.now k).body) }
+    ensures { call_in result ≡ get_or (clause_at rules.now k).body j no_call }
 {
     rules[k * CLAUSE_SIZE + 2 + j]
 }
@@ -51,7 +51,7 @@ pub fn negated(call: u64) -> bool
 // How many arguments a call has. A number above six means six.
 pub fn arguments(call: u64) -> usize
     ensures value { result ≡ length (call_in call).args }
-    ensures upper_bound { result ≤ maxArity }
+    ensures upper_bound { result ≤ max_arity }
 {
     held((call >> 8) % 8, MAX_ARGUMENTS)
 }
@@ -74,8 +74,8 @@ pub fn held(n: u64, room: usize) -> usize
 
 // Copies clause `from` of an array over clause `to`.
 pub fn move_clause(rules: &mut [u64; RULES_SIZE], from: usize, to: usize)
-    requires { (from ≤ maxClauses) × (to ≤ maxClauses) }
-    ensures { StoredClause rules.old rules.new to (clauseAt rules.old from) }
+    requires { (from ≤ max_clauses) × (to ≤ max_clauses) }
+    ensures { StoredClause rules.old rules.new to (clause_at rules.old from) }
 {
     if from != to {
         let words: &mut [u64] = rules;

@@ -1,10 +1,10 @@
 // The modes of predicates, in the array that holds those of a book. It is read and written through a slice, whose length the proof
 // knows.
 ghost use Rattle.std.specs.Prelude.{◌≡◌, ◌<◌, ◌≤◌, length};
-ghost use Rattle.masks.specs.Limits.{maxMasks};
+ghost use Rattle.masks.specs.Limits.{max_masks};
 ghost use Rattle.masks.specs.Set.{members};
-ghost use Rattle.book.specs.Limits.{maxPredicates};
-ghost use Rattle.book.specs.Held.{hasIn, masksIn, modeBytes, HaveMode, StoredMode};
+ghost use Rattle.book.specs.Limits.{max_predicates};
+ghost use Rattle.book.specs.Held.{has_in, masks_in, mode_bytes, HaveMode, StoredMode};
 
 use crate::clause::held;
 use crate::limits::{MODE_SIZE, MODES_SIZE, PREDICATES};
@@ -13,8 +13,8 @@ use masks::limits::MAX_MASKS;
 
 // Predicate p has `MO`.
 pub fn has_mode(modes: &[u8; MODES_SIZE], p: u8) -> bool
-    requires { p < maxPredicates }
-    ensures { result ≡ hasIn (modeBytes modes.now p) }
+    requires { p < max_predicates }
+    ensures { result ≡ has_in (mode_bytes modes.now p) }
 {
     let at = p as usize * MODE_SIZE;
     modes[at] != 0
@@ -37,8 +37,8 @@ pub fn with_mode(modes: &[u8; MODES_SIZE]) -> u64
 
 // The masks of predicate p where they stand, as given; where it has no `MO`, they say nothing.
 pub fn masks_at(modes: &[u8; MODES_SIZE], p: u8) -> &[u8]
-    requires { p < maxPredicates }
-    ensures { result.now ≡ masksIn (modeBytes modes.now p) }
+    requires { p < max_predicates }
+    ensures { result.now ≡ masks_in (mode_bytes modes.now p) }
 {
     let bytes: &[u8] = modes;
     let at = p as usize * MODE_SIZE;
@@ -49,7 +49,7 @@ pub fn masks_at(modes: &[u8; MODES_SIZE], p: u8) -> &[u8]
 
 // Gives predicate p `MO` with the masks of a set.
 pub fn put_mode(modes: &mut [u8; MODES_SIZE], p: u8, masks: u64)
-    requires { (p < maxPredicates) × (length (members masks) ≤ maxMasks) }
+    requires { (p < max_predicates) × (length (members masks) ≤ max_masks) }
     ensures { StoredMode modes.old modes.new p (members masks) }
 {
     let at = p as usize * MODE_SIZE;

@@ -1,6 +1,6 @@
 // What a call is lent, and what is printed of its reply. Every print begins with a space.
 ghost use Rattle.std.specs.Prelude.{◌≡◌, suc, length};
-ghost use Rattle.book.specs.Limits.{longestSheet};
+ghost use Rattle.book.specs.Limits.{longest_sheet};
 
 use book::limits::LONGEST_SHEET;
 use libc::STDOUT_FILENO;
@@ -21,7 +21,7 @@ pub const OLD: u8 = 238;
 
 // A room before a call.
 pub fn fresh() -> [u8; ROOM]
-    ensures { suc longestSheet ≡ length result }
+    ensures { suc longest_sheet ≡ length result }
 {
     [OLD; ROOM]
 }

@@ -1,14 +1,14 @@
 -- What a book is refused with once it is read, and what closing does to the modes and clauses that the code holds. Assumes nothing.
 use Rattle.std.specs.Prelude.{◌≡◌, Bool, true, cond, List, [], ◌∷◌, ℕ, ◌≤◌, ◌<◌, length}
 use Rattle.std.proofs.Math.Option.{none, some}
-use Rattle.masks.specs.Limits.{maxMasks}
+use Rattle.masks.specs.Limits.{max_masks}
 use Rattle.masks.specs.declared.reply.Reply.{Reply}
-use Rattle.book.specs.Limits.{maxPredicates, maxClauses}
+use Rattle.book.specs.Limits.{max_predicates, max_clauses}
 use Rattle.book.specs.Book.{Mode}
-use Rattle.book.specs.Held.{modeAt, clauseAt, clausesOf}
-use Rattle.book.specs.Table.{entryIn}
+use Rattle.book.specs.Held.{mode_at, clause_at, clauses_of}
+use Rattle.book.specs.Table.{entry_in}
 use Rattle.reading.specs.declared.Reading.{Reading}
-use Rattle.closing.specs.Close.{keptClauses, lacked}
+use Rattle.closing.specs.Close.{kept_clauses, lacked}
 
 -- a book that is read is refused with its fault, or with 8 and the lowest chosen number that it lacks; else the number is 0
 pub record Lacking (b : Reading) (set : ℕ) (r : Reply) : Type 0 where
@@ -18,17 +18,17 @@ pub record Lacking (b : Reading) (set : ℕ) (r : Reply) : Type 0 where
 
 -- each chosen predicate has at most 20 masks in the table
 abbrev pub Few : (ℕ → Bool) → List ℕ → Type 0
-Few chosen table = (p : ℕ) → p < maxPredicates → chosen p ≡ true → length (entryIn table p) ≤ maxMasks
+Few chosen table = (p : ℕ) → p < max_predicates → chosen p ≡ true → length (entry_in table p) ≤ max_masks
 
 -- each chosen predicate has now MO with its constraint in the table, and the others are as they were
-abbrev pub closedAt : (ℕ → Bool) → List ℕ → List ℕ → ℕ → List Mode
-closedAt chosen table modes p = cond (chosen p) (record { pred = p; masks = entryIn table p } ∷ []) (modeAt modes p)
+abbrev pub closed_at : (ℕ → Bool) → List ℕ → List ℕ → ℕ → List Mode
+closed_at chosen table modes p = cond (chosen p) (record { pred = p; masks = entry_in table p } ∷ []) (mode_at modes p)
 
 abbrev pub ModesClosed : (ℕ → Bool) → List ℕ → List ℕ → List ℕ → Type 0
-ModesClosed chosen table modes after = (p : ℕ) → p < maxPredicates → modeAt after p ≡ closedAt chosen table modes p
+ModesClosed chosen table modes after = (p : ℕ) → p < max_predicates → mode_at after p ≡ closed_at chosen table modes p
 
 -- of the first n clauses those that stay are now the first k, and the query is as it was
 pub record ClausesKept (chosen : ℕ → Bool) (rules : List ℕ) (n : ℕ) (after : List ℕ) (k : ℕ) : Type 0 where
   pub few : k ≤ n
-  pub is : clausesOf after k ≡ keptClauses chosen (clausesOf rules n)
-  pub query : clauseAt after maxClauses ≡ clauseAt rules maxClauses
+  pub is : clauses_of after k ≡ kept_clauses chosen (clauses_of rules n)
+  pub query : clause_at after max_clauses ≡ clause_at rules max_clauses

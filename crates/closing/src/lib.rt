@@ -3,7 +3,7 @@
 ghost use Rattle.std.specs.Prelude.{◌+◌, ◌≤◌};
 ghost use Rattle.masks.specs.Outcome.{Answers};
 ghost use Rattle.masks.specs.Set.{bit_at, Holds};
-ghost use Rattle.book.specs.Limits.{maxClauses};
+ghost use Rattle.book.specs.Limits.{max_clauses};
 ghost use Rattle.book.specs.Sets.{Known};
 ghost use Rattle.closing.specs.Close.{closing};
 ghost use Rattle.closing.specs.Held.{Lacking, Few, ModesClosed, ClausesKept};
@@ -103,7 +103,7 @@ fn close_modes(modes: &mut [u8; MODES_SIZE], set: u64, table: &[u64; MAX_PREDICA
 
 // Drops the clauses of the chosen predicates, so that the others stand from the start on; how many they are.
 fn keep_clauses(rules: &mut [u64; RULES_SIZE], clauses: u8, set: u64) -> u8
-    requires { (clauses ≤ maxClauses) × Known rules.old clauses }
+    requires { (clauses ≤ max_clauses) × Known rules.old clauses }
     ensures { ClausesKept (bit_at set) rules.old clauses rules.new result }
 {
     let mut n: u8 = 0;

@@ -6,7 +6,7 @@ use Rattle.book.specs.Book.{Call}
 use Rattle.book.specs.Table.{Table}
 use Rattle.ordering.specs.Orders.{count}
 use Rattle.ordering.specs.Adorn.{Bound}
-use Rattle.ordering.specs.Good.{readyAt, after_at, goodFrom, ran}
+use Rattle.ordering.specs.Good.{ready_at, after_at, good_from, ran}
 use Rattle.lanes.specs.Lanes.{lane}
 use Rattle.lanes.specs.declared.Pass.{Pass}
 
@@ -27,7 +27,7 @@ module _ {B : Type 0} (ready : B → ℕ → Bool) (after : B → ℕ → B) whe
 
 -- the place p is ready, and taking it changes nothing: it is taken already
 pub record Taken (T : Table) (body : List Call) (b : Bound) (p : ℕ) : Type 0 where
-  pub ready· : readyAt T body b p ≡ true
+  pub ready· : ready_at T body b p ≡ true
   pub still : after_at body b p ≡ b
 
 -- a word for each subgoal, with lanes in which it is taken
@@ -40,6 +40,6 @@ RanIn a body before after = lane a after ≡ ran body (lane a before) (count 0 (
 
 -- one pass over a body in each lane: the variables bound after it, the lanes in which each subgoal was ready in its turn, and whether any was taken
 pub record Passed (T : Table) (body : List Call) (before after : List ℕ) (r : Pass) : Type 0 where
-  pub lanes : EachLane (λ a. lane a after ≡ visits (readyAt T body) (after_at body) (lane a before) (count 0 (length body)))
-  pub good : EachLane (λ a. bit_at r.good a ≡ goodFrom T body (lane a before) (count 0 (length body)))
+  pub lanes : EachLane (λ a. lane a after ≡ visits (ready_at T body) (after_at body) (lane a before) (count 0 (length body)))
+  pub good : EachLane (λ a. bit_at r.good a ≡ good_from T body (lane a before) (count 0 (length body)))
   pub still : r.moved ≡ false → after ≡ before

@@ -3,12 +3,12 @@ ghost use Rattle.std.specs.Prelude.{◌≡◌, true, ◌<◌, ◌≤◌};
 ghost use Rattle.masks.specs.Lists.{all};
 ghost use Rattle.masks.specs.Set.{bit_at};
 ghost use Rattle.masks.specs.Patterns.{EachLane, Agrees};
-ghost use Rattle.book.specs.Limits.{maxPredicates, maxClauses};
-ghost use Rattle.book.specs.Held.{headIn, call_in, clauseAt};
-ghost use Rattle.book.specs.Table.{tableIn};
+ghost use Rattle.book.specs.Limits.{max_predicates, max_clauses};
+ghost use Rattle.book.specs.Held.{head_in, call_in, clause_at};
+ghost use Rattle.book.specs.Table.{table_in};
 ghost use Rattle.book.specs.Sets.{callable};
-ghost use Rattle.ordering.specs.Adorn.{isBound, patternOf, headBound, ready};
-ghost use Rattle.ordering.specs.Good.{firstGood, is_some, goodClause};
+ghost use Rattle.ordering.specs.Adorn.{is_bound, pattern_of, head_bound, ready};
+ghost use Rattle.ordering.specs.Good.{first_good, is_some, good_clause};
 ghost use Rattle.lanes.specs.Lanes.{lane, Binds};
 ghost use Rattle.lanes.specs.Passes.{Passed, Placed, RanIn};
 
@@ -31,8 +31,8 @@ pub fn good_lanes<'a>(
     k: usize,
     table: &'a [u64; MAX_PREDICATES],
 ) -> u64
-    requires { (k ≤ maxClauses) × (callable (clauseAt rules.now k).body ≡ true) }
-    ensures { EachLane (λ a. bit_at result a ≡ goodClause (tableIn table.now maxPredicates) (clauseAt rules.now k) a) }
+    requires { (k ≤ max_clauses) × (callable (clause_at rules.now k).body ≡ true) }
+    ensures { EachLane (λ a. bit_at result a ≡ good_clause (table_in table.now max_predicates) (clause_at rules.now k) a) }
 {
     let head = head_at(rules, k);
     let mut vars = head_lanes(head);
@@ -50,9 +50,9 @@ fn body_lanes<'a>(
     table: &'a [u64; MAX_PREDICATES],
     vars: &mut [u64; VARIABLES],
 ) -> u64
-    requires { (k ≤ maxClauses) × (callable (clauseAt rules.now k).body ≡ true) }
-    ensures each_lane { EachLane (λ a. bit_at result a ≡ is_some (firstGood (tableIn table.now maxPredicates) (clauseAt rules.now k).body (lane a vars.old))) }
-    ensures each_lane_2 { EachLane (λ a. bit_at result a ≡ true → RanIn a (clauseAt rules.now k).body vars.old vars.new) }
+    requires { (k ≤ max_clauses) × (callable (clause_at rules.now k).body ≡ true) }
+    ensures each_lane { EachLane (λ a. bit_at result a ≡ is_some (first_good (table_in table.now max_predicates) (clause_at rules.now k).body (lane a vars.old))) }
+    ensures each_lane_2 { EachLane (λ a. bit_at result a ≡ true → RanIn a (clause_at rules.now k).body vars.old vars.new) }
 {
     let n = subgoals_at(rules, k);
     let mut placed = [0u64; MAX_SUBGOALS];
@@ -74,9 +74,9 @@ fn one_pass<'a>(
     vars: &mut [u64; VARIABLES],
     placed: &mut [u64; MAX_SUBGOALS],
 ) -> Pass
-    requires { (k ≤ maxClauses) × (callable (clauseAt rules.now k).body ≡ true) × Placed (tableIn table.now maxPredicates) (clauseAt rules.now k).body vars.old placed.old }
-    ensures passed { Passed (tableIn table.now maxPredicates) (clauseAt rules.now k).body vars.old vars.new result }
-    ensures placed { Placed (tableIn table.now maxPredicates) (clauseAt rules.now k).body vars.new placed.new }
+    requires { (k ≤ max_clauses) × (callable (clause_at rules.now k).body ≡ true) × Placed (table_in table.now max_predicates) (clause_at rules.now k).body vars.old placed.old }
+    ensures passed { Passed (table_in table.now max_predicates) (clause_at rules.now k).body vars.old vars.new result }
+    ensures placed { Placed (table_in table.now max_predicates) (clause_at rules.now k).body vars.new placed.new }
 {
     let words: &mut [u64] = placed;
     let n = subgoals_at(rules, k);
@@ -103,7 +103,7 @@ fn one_pass<'a>(
 
 // What is bound at the start: lane a is for head pattern a.
 fn head_lanes(head: u64) -> [u64; VARIABLES]
-    ensures { EachLane (λ a. lane a result ≡ headBound (headIn head).args a) }
+    ensures { EachLane (λ a. lane a result ≡ head_bound (head_in head).args a) }
 {
     let n = arguments(head);
     let mut vars = [0u64; VARIABLES];
@@ -121,8 +121,8 @@ fn head_lanes(head: u64) -> [u64; VARIABLES]
 
 // The lanes in which the call can be made: its pattern fits and, where it is negated, every argument is bound.
 fn ready_lanes(s: u64, table: &[u64; MAX_PREDICATES], vars: &[u64; VARIABLES]) -> u64
-    requires { (call_in s).pred < maxPredicates }
-    ensures { EachLane (λ a. bit_at result a ≡ ready (tableIn table.now maxPredicates) (lane a vars.now) (call_in s)) }
+    requires { (call_in s).pred < max_predicates }
+    ensures { EachLane (λ a. bit_at result a ≡ ready (table_in table.now max_predicates) (lane a vars.now) (call_in s)) }
 {
     let words = pattern_lanes(s, vars);
     let p = predicate(s) as usize;
@@ -135,7 +135,7 @@ fn ready_lanes(s: u64, table: &[u64; MAX_PREDICATES], vars: &[u64; VARIABLES]) -
 
 // Word i: the lanes whose pattern has bit i.
 fn pattern_lanes(s: u64, vars: &[u64; VARIABLES]) -> [u64; MAX_ARGUMENTS]
-    ensures { EachLane (λ a. Agrees result a (patternOf (lane a vars.now) (call_in s).args)) }
+    ensures { EachLane (λ a. Agrees result a (pattern_of (lane a vars.now) (call_in s).args)) }
 {
     let n = arguments(s);
     let mut words = [0u64; MAX_ARGUMENTS];
@@ -149,7 +149,7 @@ fn pattern_lanes(s: u64, vars: &[u64; VARIABLES]) -> [u64; MAX_ARGUMENTS]
 
 // The lanes in which an argument is bound.
 fn arg_lanes(v: u8, vars: &[u64; VARIABLES]) -> u64
-    ensures { EachLane (λ a. bit_at result a ≡ isBound (lane a vars.now) v) }
+    ensures { EachLane (λ a. bit_at result a ≡ is_bound (lane a vars.now) v) }
 {
     if v == LITERAL {
         return ALL;
@@ -163,7 +163,7 @@ fn arg_lanes(v: u8, vars: &[u64; VARIABLES]) -> u64
 
 // The lanes in which every argument of a head or a call is bound.
 fn filled_lanes(call: u64, vars: &[u64; VARIABLES]) -> u64
-    ensures { EachLane (λ a. bit_at result a ≡ all (isBound (lane a vars.now)) (headIn call).args) }
+    ensures { EachLane (λ a. bit_at result a ≡ all (is_bound (lane a vars.now)) (head_in call).args) }
 {
     let n = arguments(call);
     let mut filled = ALL;

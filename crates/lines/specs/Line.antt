@@ -23,6 +23,6 @@ starts_with (w ∷ word) [] = false
 starts_with (w ∷ word) (x ∷ line) = cond (eqb w x) (starts_with word line) false
 
 -- the part of a line before the first ` = `, or all
-abbrev pub inputsOf : List ℕ → List ℕ
-inputsOf [] = []
-inputsOf (x ∷ line) = cond (starts_with (32 ∷ 61 ∷ 32 ∷ []) (x ∷ line)) [] (x ∷ inputsOf line)
+abbrev pub inputs_of : List ℕ → List ℕ
+inputs_of [] = []
+inputs_of (x ∷ line) = cond (starts_with (32 ∷ 61 ∷ 32 ∷ []) (x ∷ line)) [] (x ∷ inputs_of line)

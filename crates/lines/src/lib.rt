@@ -2,8 +2,8 @@
 // two a byte, or as `-` where there are none.
 ghost use Rattle.std.specs.Prelude.{◌≡◌, ◌+◌, ◌≤◌, min, length, take, drop};
 ghost use Rattle.io.specs.Counts.{IsPrefixLen};
-ghost use Rattle.lines.specs.Line.{before, field_of, starts_with, inputsOf};
-ghost use Rattle.lines.specs.Hex.{digitOf, numberFrom, bytes_of};
+ghost use Rattle.lines.specs.Line.{before, field_of, starts_with, inputs_of};
+ghost use Rattle.lines.specs.Hex.{digit_of, number_from, bytes_of};
 
 use libc::STDOUT_FILENO;
 
@@ -31,7 +31,7 @@ pub fn field_bytes(line: &[u8], k: usize, to: &mut [u8]) -> usize
 
 // The number that field k of a line has in hexadecimal digits; only the first 16 count.
 pub fn field_hex(line: &[u8], k: usize) -> u64
-    ensures { result ≡ numberFrom 16 0 (take 16 (field_of k line.now)) }
+    ensures { result ≡ number_from 16 0 (take 16 (field_of k line.now)) }
 {
     hex_number(field(line, k))
 }
@@ -39,7 +39,7 @@ pub fn field_hex(line: &[u8], k: usize) -> u64
 // The number that field k of a line has in decimal digits; above the most it counts as the most.
 pub fn field_number(line: &[u8], k: usize, most: usize) -> usize
     requires { most ≤ 1000000000 }
-    ensures { result ≡ min most (numberFrom 10 0 (field_of k line.now)) }
+    ensures { result ≡ min most (number_from 10 0 (field_of k line.now)) }
 {
     decimal(field(line, k), most)
 }
@@ -54,7 +54,7 @@ pub fn begins(line: &[u8], word: &[u8]) -> bool
 
 // The part of a line before its results: before the first ` = `, or all of it.
 pub fn inputs(line: &[u8]) -> &[u8]
-    ensures { result.now ≡ inputsOf line.now }
+    ensures { result.now ≡ inputs_of line.now }
 {
     let end = results_at(line);
     &line[..end]
@@ -132,7 +132,7 @@ fn unhex(word: &[u8], to: &mut [u8]) -> usize
 
 // The number of a word of hexadecimal digits; only the first 16 count.
 fn hex_number(word: &[u8]) -> u64
-    ensures { result ≡ numberFrom 16 0 (take 16 word.now) }
+    ensures { result ≡ number_from 16 0 (take 16 word.now) }
 {
     let mut n: u64 = 0;
     let mut i: usize = 0;
@@ -149,7 +149,7 @@ fn hex_number(word: &[u8]) -> u64
 // The number of a word of decimal digits; above the most it counts as the most.
 fn decimal(word: &[u8], most: usize) -> usize
     requires { most ≤ 1000000000 }
-    ensures { result ≡ min most (numberFrom 10 0 word.now) }
+    ensures { result ≡ min most (number_from 10 0 word.now) }
 {
     let mut n: usize = 0;
     let mut i: usize = 0;
@@ -162,7 +162,7 @@ fn decimal(word: &[u8], most: usize) -> usize
 
 // The value of a hexadecimal digit; any other byte counts as 0.
 fn digit(x: u8) -> u8
-    ensures value { result ≡ digitOf x }
+    ensures value { result ≡ digit_of x }
     ensures upper_bound { result ≤ 15 }
 {
     if x < b'0' {
@@ -190,7 +190,7 @@ fn least(m: usize, n: usize) -> usize
 // Where the first ` = ` of a line stands, or its end.
 fn results_at(line: &[u8]) -> usize
     ensures prefix_len { IsPrefixLen result line.now }
-    ensures value { result ≡ length (inputsOf line.now) }
+    ensures value { result ≡ length (inputs_of line.now) }
 {
     let mut i: usize = 0;
     while i < line.len() {

@@ -1,9 +1,9 @@
 -- Constraints: lists of masks. Every definition computes. Assumes nothing.
 use Rattle.std.specs.Prelude.{Bool, true, false, not, ◌&&◌, List, [], ◌∷◌, ◌++◌, map, ℕ, ◌^◌, eqb, ltb}
 use Rattle.std.specs.Int.Bits.{bit_or}
-use Rattle.masks.specs.Limits.{allPatterns}
+use Rattle.masks.specs.Limits.{all_patterns}
 use Rattle.masks.specs.Mask.{within}
-use Rattle.masks.specs.Lists.{any, all, anyBelow, below, howMany, has, ascending, pairwise}
+use Rattle.masks.specs.Lists.{any, all, any_below, below, how_many, has, ascending, pairwise}
 
 -- ---- a pattern and a constraint
 
@@ -13,7 +13,7 @@ admits c a = any (λ m. within m a) c
 
 -- W5: "how many patterns each final constraint admits": of the patterns of an arity
 abbrev pub fitting : ℕ → List ℕ → ℕ
-fitting arity c = howMany (admits c) (2 ^ arity)
+fitting arity c = how_many (admits c) (2 ^ arity)
 
 -- "One with MO and n = 0 has no alternative: it is ill"; "Mask 0 is an alternative that asks for nothing": trivial
 abbrev pub ill : List ℕ
@@ -47,7 +47,7 @@ drops f m k = f k && (within k m && not (eqb k m))
 
 -- m is a mask of the set, and none drops it
 unfoldable pub least : (ℕ → Bool) → ℕ → ℕ → Bool
-least f n m = f m && not (anyBelow (drops f m) n)
+least f n m = f m && not (any_below (drops f m) n)
 
 -- those masks, ascending
 unfoldable pub written : (ℕ → Bool) → ℕ → List ℕ
@@ -55,14 +55,14 @@ written f n = below (least f n) n
 
 -- "Table 0: each MO as given and minimised": the written form of masks given in any order, with repeats
 unfoldable pub minimise : List ℕ → List ℕ
-minimise c = written (has c) allPatterns
+minimise c = written (has c) all_patterns
 
 -- two lists of masks are the same
-abbrev pub sameMasks : List ℕ → List ℕ → Bool
-sameMasks [] [] = true
-sameMasks [] (y ∷ ys) = false
-sameMasks (x ∷ xs) [] = false
-sameMasks (x ∷ xs) (y ∷ ys) = eqb x y && sameMasks xs ys
+abbrev pub same_masks : List ℕ → List ℕ → Bool
+same_masks [] [] = true
+same_masks [] (y ∷ ys) = false
+same_masks (x ∷ xs) [] = false
+same_masks (x ∷ xs) (y ∷ ys) = eqb x y && same_masks xs ys
 
 -- ---- "Two constraints of one arity are combined in two ways (definitions 4.13 and 5.1)"
 

@@ -2,15 +2,15 @@
 -- or a mask out of range is 4, a list over 20 is 5, with the value 0; tried as arity, first list's length, its masks, the second's, then 9."
 -- Assumes nothing.
 use Rattle.std.specs.Prelude.{cond, List, ℕ, zero, suc, ◌^◌, ltb, length}
-use Rattle.masks.specs.Limits.{maxArity, maxMasks}
+use Rattle.masks.specs.Limits.{max_arity, max_masks}
 use Rattle.masks.specs.Constraint.{in_range, choice, joint}
 use Rattle.masks.specs.Outcome.{Outcome, refused, done}
 use Rattle.masks.specs.declared.Way.{Way}
 use Rattle.masks.specs.declared.Way.TheVariants.{Choice, Joint}
 
 -- the fault of one list at so many patterns, or 0
-unfoldable pub listFault : ℕ → List ℕ → ℕ
-listFault limit l = cond (ltb maxMasks (length l)) 5 (cond (in_range limit l) 0 4)
+unfoldable pub list_fault : ℕ → List ℕ → ℕ
+list_fault limit l = cond (ltb max_masks (length l)) 5 (cond (in_range limit l) 0 4)
 
 -- of two trials, the fault found first; 0 is none
 abbrev pub or_else : ℕ → ℕ → ℕ
@@ -19,7 +19,7 @@ or_else (suc f) g = suc f
 
 -- "tried as arity, first list's length, its masks, the second's": the first fault of all, or 0
 unfoldable pub fault : ℕ → List ℕ → List ℕ → ℕ
-fault arity x y = cond (ltb maxArity arity) 4 (or_else (listFault (2 ^ arity) x) (listFault (2 ^ arity) y))
+fault arity x y = cond (ltb max_arity arity) 4 (or_else (list_fault (2 ^ arity) x) (list_fault (2 ^ arity) y))
 
 -- "combined in two ways"
 abbrev pub combined : Way → List ℕ → List ℕ → List ℕ

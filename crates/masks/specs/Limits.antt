@@ -2,13 +2,13 @@
 use Rattle.std.specs.Prelude.{ℕ}
 
 -- the positions of a predicate
-abbrev pub maxArity : ℕ
-maxArity = 6
+abbrev pub max_arity : ℕ
+max_arity = 6
 
 -- the masks of a constraint
-abbrev pub maxMasks : ℕ
-maxMasks = 20
+abbrev pub max_masks : ℕ
+max_masks = 20
 
 -- the patterns of six positions, 2 ^ 6: every mask is below this
-abbrev pub allPatterns : ℕ
-allPatterns = 64
+abbrev pub all_patterns : ℕ
+all_patterns = 64

@@ -23,9 +23,9 @@ joined f zero = []
 joined f (suc n) = joined f n ++ f n
 
 -- p holds of some number below n
-abbrev pub anyBelow : (ℕ → Bool) → ℕ → Bool
-anyBelow p zero = false
-anyBelow p (suc n) = anyBelow p n || p n
+abbrev pub any_below : (ℕ → Bool) → ℕ → Bool
+any_below p zero = false
+any_below p (suc n) = any_below p n || p n
 
 -- the numbers below n of which p holds, ascending
 abbrev pub below : (ℕ → Bool) → ℕ → List ℕ
@@ -33,8 +33,8 @@ below p zero = []
 below p (suc n) = below p n ++ cond (p n) (n ∷ []) []
 
 -- how many they are
-unfoldable pub howMany : (ℕ → Bool) → ℕ → ℕ
-howMany p n = length (below p n)
+unfoldable pub how_many : (ℕ → Bool) → ℕ → ℕ
+how_many p n = length (below p n)
 
 -- x is an element
 abbrev pub has : List ℕ → ℕ → Bool

@@ -9,13 +9,13 @@ pub data Outcome : Type 0 where
 
 -- "9: the output is shorter than needed; bytes needed". "0: done; bytes written; the analysis also gives its rounds (0 at any refusal)": what a
 -- result of n bytes and so many rounds is answered with in a room of so many bytes
-unfoldable pub inRoom : (n rounds room : ℕ) → Reply
-inRoom n rounds room = cond (ltb room n) (record { number = 9; value = n; rounds = 0 }) (record { number = 0; value = n; rounds = rounds })
+unfoldable pub in_room : (n rounds room : ℕ) → Reply
+in_room n rounds room = cond (ltb room n) (record { number = 9; value = n; rounds = 0 }) (record { number = 0; value = n; rounds = rounds })
 
 -- what an outcome is answered with, in a room of so many bytes
 unfoldable pub reply : Outcome → ℕ → Reply
 reply (refused number value) room = record { number = number; value = value; rounds = 0 }
-reply (done rounds bytes) room = inRoom (length bytes) rounds room
+reply (done rounds bytes) room = in_room (length bytes) rounds room
 
 -- "On a refusal no output byte changes. On success the output is written from its start and the bytes after it stay."
 unfoldable pub left : Outcome → List ℕ → List ℕ

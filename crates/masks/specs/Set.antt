@@ -1,6 +1,6 @@
 -- A set of masks, held in a word of 64 bits. Assumes nothing.
 use Rattle.std.specs.Prelude.{Bool, List, ◌≡◌, ℕ, zero, suc, ◌/◌, ◌%◌, eqb}
-use Rattle.masks.specs.Limits.{allPatterns}
+use Rattle.masks.specs.Limits.{all_patterns}
 use Rattle.masks.specs.Lists.{below}
 
 -- mask m is in the set where bit m of the word is set
@@ -14,4 +14,4 @@ Holds word f = (m : ℕ) → bit_at word m ≡ f m
 
 -- its members, rising: a constraint in written form is held as the set of its masks
 unfoldable pub members : ℕ → List ℕ
-members word = below (bit_at word) allPatterns
+members word = below (bit_at word) all_patterns

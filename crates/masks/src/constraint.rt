@@ -4,8 +4,8 @@
 ghost use Rattle.std.specs.Prelude.{◌≡◌, true, ◌||◌, map, ◌+◌, ◌<◌, ◌≤◌, ◌^◌, length};
 ghost use Rattle.std.specs.Int.Bits.{bit_or};
 ghost use Rattle.std.proofs.lemmas.List.Edits.{sets};
-ghost use Rattle.masks.specs.Limits.{maxArity, allPatterns};
-ghost use Rattle.masks.specs.Lists.{has, howMany};
+ghost use Rattle.masks.specs.Limits.{max_arity, all_patterns};
+ghost use Rattle.masks.specs.Lists.{has, how_many};
 ghost use Rattle.masks.specs.Constraint.{admits, in_range, written, minimise};
 ghost use Rattle.masks.specs.Set.{bit_at, Holds, members};
 
@@ -26,7 +26,7 @@ pub fn fits(masks: &[u8], pattern: u8) -> bool
 
 // The masks of a list in any order, with repeats, in written form.
 pub fn minimised(masks: &[u8]) -> u64
-    requires { in_range allPatterns masks.now ≡ true }
+    requires { in_range all_patterns masks.now ≡ true }
     ensures { members result ≡ minimise masks.now }
 {
     written(with_unions(0, 0, masks))
@@ -35,7 +35,7 @@ pub fn minimised(masks: &[u8]) -> u64
 // The masks of a set in written form: "a mask is dropped at the first other one contained in it". They are taken from the lowest up. Where any other is
 // contained in a mask, so is one that is kept, and that one is smaller: so it is enough to look among those kept so far.
 pub fn written(set: u64) -> u64
-    ensures { members result ≡ written (bit_at set) allPatterns }
+    ensures { members result ≡ written (bit_at set) all_patterns }
 {
     let mut kept: u64 = 0;
     let mut rest = set;
@@ -57,7 +57,7 @@ pub fn written(set: u64) -> u64
 
 // The same for what a round leaves, a set of up to 64 patterns. The lowest that is left contains no other, and with it goes all that contains it.
 pub fn least(set: u64) -> u64
-    ensures { members result ≡ written (bit_at set) allPatterns }
+    ensures { members result ≡ written (bit_at set) all_patterns }
 {
     let mut kept: u64 = 0;
     let mut rest = set;
@@ -72,7 +72,7 @@ pub fn least(set: u64) -> u64
 // How many masks a set has.
 pub fn count(set: u64) -> usize
     ensures value { result ≡ length (members set) }
-    ensures upper_bound { result ≤ allPatterns }
+    ensures upper_bound { result ≤ all_patterns }
 {
     u64::count_ones(set) as usize
 }
@@ -95,7 +95,7 @@ pub fn put_masks(out: &mut [u8], at: usize, set: u64) -> usize
 
 // A set of masks, and besides them the union of m with each mask of a list.
 pub fn with_unions(set: u64, m: u8, masks: &[u8]) -> u64
-    requires { (m < allPatterns) × (in_range allPatterns masks.now ≡ true) }
+    requires { (m < all_patterns) × (in_range all_patterns masks.now ≡ true) }
     ensures { Holds result (λ k. bit_at set k || has (map (bit_or m) masks.now) k) }
 {
     let mut all = set;
@@ -109,7 +109,7 @@ pub fn with_unions(set: u64, m: u8, masks: &[u8]) -> u64
 
 // A set with one more member, also where it is a set of other numbers below 64.
 pub fn with_member(set: u64, m: u8) -> u64
-    requires { m < allPatterns }
+    requires { m < all_patterns }
     ensures { result ≡ bit_or set (2 ^ m) }
 {
     set | (1u64 << m)
@@ -117,7 +117,7 @@ pub fn with_member(set: u64, m: u8) -> u64
 
 // A number below 64 is a member of a set.
 pub fn has_member(set: u64, m: u8) -> bool
-    requires { m < allPatterns }
+    requires { m < all_patterns }
     ensures { result ≡ bit_at set m }
 {
     (set >> m) % 2 == 1
@@ -125,7 +125,7 @@ pub fn has_member(set: u64, m: u8) -> bool
 
 // How many patterns an arity has.
 pub fn patterns(arity: u8) -> u8
-    requires { arity ≤ maxArity }
+    requires { arity ≤ max_arity }
     ensures { result ≡ 2 ^ arity }
 {
     1u8 << arity
@@ -133,8 +133,8 @@ pub fn patterns(arity: u8) -> u8
 
 // How many patterns of an arity a set of patterns has: the lanes from 2 to the power of the arity on are left out.
 pub fn fitting(set: u64, arity: u8) -> u8
-    requires { arity ≤ maxArity }
-    ensures { result ≡ howMany (bit_at set) (2 ^ arity) }
+    requires { arity ≤ max_arity }
+    ensures { result ≡ how_many (bit_at set) (2 ^ arity) }
 {
     let lanes = ALL >> (64 - patterns(arity));
     count(set & lanes) as u8

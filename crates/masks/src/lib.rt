@@ -7,11 +7,11 @@ pub mod patterns;
 pub mod reply;
 
 ghost use Rattle.std.specs.Prelude.{◌≡◌, true};
-ghost use Rattle.masks.specs.Limits.{allPatterns};
+ghost use Rattle.masks.specs.Limits.{all_patterns};
 ghost use Rattle.masks.specs.Constraint.{in_range, choice, joint};
 ghost use Rattle.masks.specs.Set.{members};
 ghost use Rattle.masks.specs.Outcome.{Answers};
-ghost use Rattle.masks.specs.Joining.{listFault, fault, combined, joining};
+ghost use Rattle.masks.specs.Joining.{list_fault, fault, combined, joining};
 
 use crate::limits::{MAX_ARITY, MAX_MASKS};
 use crate::reply::Reply;
@@ -70,7 +70,7 @@ fn first_fault(arity: u8, first: &[u8], second: &[u8]) -> u32
 
 // The fault of one list: too long (5), or a mask that is no pattern (4), else 0.
 fn list_fault(masks: &[u8], limit: u8) -> u32
-    ensures { result ≡ listFault limit masks.now }
+    ensures { result ≡ list_fault limit masks.now }
 {
     if MAX_MASKS < masks.len() {
         return 5;
@@ -87,7 +87,7 @@ fn list_fault(masks: &[u8], limit: u8) -> u32
 
 // Two lists of masks, in any order, combined one way or the other.
 fn combine(way: Way, first: &[u8], second: &[u8]) -> u64
-    requires { (in_range allPatterns first.now ≡ true) × (in_range allPatterns second.now ≡ true) }
+    requires { (in_range all_patterns first.now ≡ true) × (in_range all_patterns second.now ≡ true) }
     ensures { members result ≡ combined way first.now second.now }
 {
     match way {
@@ -98,7 +98,7 @@ fn combine(way: Way, first: &[u8], second: &[u8]) -> u64
 
 // The choice: the masks of both.
 fn choice_of(first: &[u8], second: &[u8]) -> u64
-    requires { (in_range allPatterns first.now ≡ true) × (in_range allPatterns second.now ≡ true) }
+    requires { (in_range all_patterns first.now ≡ true) × (in_range all_patterns second.now ≡ true) }
     ensures { members result ≡ choice first.now second.now }
 {
     let set = constraint::with_unions(0, 0, first);
@@ -107,7 +107,7 @@ fn choice_of(first: &[u8], second: &[u8]) -> u64
 
 // The joint: the union of each mask of one with each of the other.
 fn joint_of(first: &[u8], second: &[u8]) -> u64
-    requires { (in_range allPatterns first.now ≡ true) × (in_range allPatterns second.now ≡ true) }
+    requires { (in_range all_patterns first.now ≡ true) × (in_range all_patterns second.now ≡ true) }
     ensures { members result ≡ joint first.now second.now }
 {
     let mut set: u64 = 0;

@@ -1,7 +1,7 @@
 // Patterns, all 64 at once. A set of patterns is held in a word as a set of masks is: pattern a is in it where bit a is set. Where a word speaks of 64
 // things side by side, each with a pattern of its own, bit a is lane a.
 ghost use Rattle.std.specs.Prelude.{◌≡◌, ℕ, ◌<◌};
-ghost use Rattle.masks.specs.Limits.{allPatterns};
+ghost use Rattle.masks.specs.Limits.{all_patterns};
 ghost use Rattle.masks.specs.Mask.{within};
 ghost use Rattle.masks.specs.Constraint.{admits};
 ghost use Rattle.masks.specs.Set.{bit_at, members};
@@ -45,7 +45,7 @@ pub fn fit_lanes(masks: u64, words: &[u64; MAX_ARGUMENTS]) -> u64
 
 // The lanes whose pattern has all the bits of the mask. Each turn takes the lowest bit that is left.
 pub fn mask_lanes(mask: u8, words: &[u64; MAX_ARGUMENTS]) -> u64
-    requires { mask < allPatterns }
+    requires { mask < all_patterns }
     ensures { EachLane (λ a. (p : ℕ) → Agrees words.now a p → bit_at result a ≡ within mask p) }
 {
     let mut w = ALL;

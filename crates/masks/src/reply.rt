@@ -1,6 +1,6 @@
 // What every operation answers, also to C: document 01, "Replies".
 ghost use Rattle.std.specs.Prelude.{◌≡◌};
-ghost use Rattle.masks.specs.Outcome.{inRoom};
+ghost use Rattle.masks.specs.Outcome.{in_room};
 
 // The number of the reply and its value; the rounds are the analysis's own, and 0 elsewhere and at any refusal.
 #[repr(C)]
@@ -25,7 +25,7 @@ impl Reply {
 
     // The reply of an operation whose result has n bytes and took so many rounds, in a room of so many bytes: 9 where that is too short, else 0.
     pub fn in_room(n: usize, rounds: u64, room: usize) -> Reply
-        ensures { result ≡ inRoom n rounds room }
+        ensures { result ≡ in_room n rounds room }
     {
         if room < n {
             return Reply::refused(9, n as u64);

@@ -1,11 +1,11 @@
 // Who calls whom: sets made once, before the first round.
 ghost use Rattle.std.specs.Prelude.{◌≡◌, true, ◌<◌, ◌≤◌, get_or};
 ghost use Rattle.masks.specs.Set.{bit_at, Holds};
-ghost use Rattle.book.specs.Limits.{maxPredicates, maxClauses};
-ghost use Rattle.book.specs.Held.{clauseAt, clausesOf};
+ghost use Rattle.book.specs.Limits.{max_predicates, max_clauses};
+ghost use Rattle.book.specs.Held.{clause_at, clauses_of};
 ghost use Rattle.book.specs.Sets.{callable, Known, Cleared, Owns};
 ghost use Rattle.tables.specs.Table.{defined};
-ghost use Rattle.needs.specs.Sets.{someIn, Calling, Added};
+ghost use Rattle.needs.specs.Sets.{some_in, Calling, Added};
 
 use book::clause::{head_at, predicate, subgoal_at, subgoals_at};
 use book::limits::{MAX_PREDICATES, RULES_SIZE};
@@ -13,9 +13,9 @@ use masks::constraint::with_member;
 
 // The clauses of each predicate, as sets in words that are empty yet: clause k is in it where bit k is set. The predicates that have any.
 pub fn own_clauses(clauses: u8, rules: &[u64; RULES_SIZE], own: &mut [u64; MAX_PREDICATES]) -> u64
-    requires { (clauses ≤ maxClauses) × Known rules.now clauses × Cleared own.old }
+    requires { (clauses ≤ max_clauses) × Known rules.now clauses × Cleared own.old }
     ensures owns { Owns rules.now clauses own.new }
-    ensures holds { Holds result (defined (clausesOf rules.now clauses)) }
+    ensures holds { Holds result (defined (clauses_of rules.now clauses)) }
 {
     let words: &mut [u64] = own;
     let mut heads: u64 = 0;
@@ -32,7 +32,7 @@ pub fn own_clauses(clauses: u8, rules: &[u64; RULES_SIZE], own: &mut [u64; MAX_P
 
 // The predicates that call each predicate, as sets in words that are empty yet.
 pub fn put_callers(clauses: u8, rules: &[u64; RULES_SIZE], callers: &mut [u64; MAX_PREDICATES])
-    requires { (clauses ≤ maxClauses) × Known rules.now clauses × Cleared callers.old }
+    requires { (clauses ≤ max_clauses) × Known rules.now clauses × Cleared callers.old }
     ensures { Calling rules.now clauses callers.new }
 {
     let mut k: u8 = 0;
@@ -44,7 +44,7 @@ pub fn put_callers(clauses: u8, rules: &[u64; RULES_SIZE], callers: &mut [u64; M
 
 // Clause k is of a predicate that calls those of its subgoals.
 fn add_caller(rules: &[u64; RULES_SIZE], k: usize, callers: &mut [u64; MAX_PREDICATES])
-    requires { (k ≤ maxClauses) × ((clauseAt rules.now k).head.pred < maxPredicates) × (callable (clauseAt rules.now k).body ≡ true) }
+    requires { (k ≤ max_clauses) × ((clause_at rules.now k).head.pred < max_predicates) × (callable (clause_at rules.now k).body ≡ true) }
     ensures { Added rules.now k callers.old callers.new }
 {
     let words: &mut [u64] = callers;
@@ -60,7 +60,7 @@ fn add_caller(rules: &[u64; RULES_SIZE], k: usize, callers: &mut [u64; MAX_PREDI
 
 // The predicates that call one of a set.
 pub fn calling(callers: &[u64; MAX_PREDICATES], called: u64) -> u64
-    ensures { Holds result (λ p. someIn called (λ q. bit_at (get_or callers.now q 0) p) maxPredicates) }
+    ensures { Holds result (λ p. some_in called (λ q. bit_at (get_or callers.now q 0) p) max_predicates) }
 {
     let mut set: u64 = 0;
     let mut rest = called;

@@ -1,6 +1,6 @@
 // One round of the analysis.
 ghost use Rattle.std.specs.Prelude.{◌≡◌, length};
-ghost use Rattle.book.specs.Limits.{maxPredicates};
+ghost use Rattle.book.specs.Limits.{max_predicates};
 ghost use Rattle.book.specs.Sets.{Callable};
 ghost use Rattle.needs.specs.Round.{Stays, Ready, Rounds, Compares, Renewed};
 
@@ -65,7 +65,7 @@ fn good_patterns<'a>(
 
 // Two tables have the same entries, all 64.
 fn same(old: &[u64; MAX_PREDICATES], new: &[u64]) -> bool
-    requires { length new.now ≡ maxPredicates }
+    requires { length new.now ≡ max_predicates }
     ensures { Compares old.now new.now result }
 {
     let mut differ: u64 = 0;

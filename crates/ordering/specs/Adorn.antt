@@ -26,35 +26,35 @@ abbrev pub literal : ℕ
 literal = 255
 
 -- "a literal or a bound variable gives a bound position, anything else a free one"; "A wildcard is always free"
-unfoldable pub isBound : Bound → ℕ → Bool
-isBound b v = cond (eqb v literal) true (cond (ltb v variables) (get_or b v false) false)
+unfoldable pub is_bound : Bound → ℕ → Bool
+is_bound b v = cond (eqb v literal) true (cond (ltb v variables) (get_or b v false) false)
 
 abbrev pub bit : Bool → ℕ
 bit true = 1
 bit false = 0
 
 -- "A binding pattern is a mask: bit set for bound": bit i is set where argument i is bound
-unfoldable pub patternOf : Bound → List ℕ → ℕ
-patternOf b [] = 0
-patternOf b (v ∷ vs) = patternOf b vs * 2 + bit (isBound b v)
+unfoldable pub pattern_of : Bound → List ℕ → ℕ
+pattern_of b [] = 0
+pattern_of b (v ∷ vs) = pattern_of b vs * 2 + bit (is_bound b v)
 
 -- ---- what becomes bound
 
 -- a variable is bound from now on; a literal is none, and a wildcard "binds nothing"
-unfoldable pub bindVar : Bound → ℕ → Bound
-bindVar b v = cond (ltb v variables) (set b v true) b
+unfoldable pub bind_var : Bound → ℕ → Bound
+bind_var b v = cond (ltb v variables) (set b v true) b
 
-unfoldable pub bindAll : Bound → List ℕ → Bound
-bindAll b [] = b
-bindAll b (v ∷ vs) = bindAll (bindVar b v) vs
+unfoldable pub bind_all : Bound → List ℕ → Bound
+bind_all b [] = b
+bind_all b (v ∷ vs) = bind_all (bind_var b v) vs
 
 -- "variables at bound head positions start as bound": bit i of the pattern is that of position i
-unfoldable pub bindHead : Bound → List ℕ → ℕ → Bound
-bindHead b [] a = b
-bindHead b (v ∷ vs) a = bindHead (cond (eqb (a % 2) 1) (bindVar b v) b) vs (a / 2)
+unfoldable pub bind_head : Bound → List ℕ → ℕ → Bound
+bind_head b [] a = b
+bind_head b (v ∷ vs) a = bind_head (cond (eqb (a % 2) 1) (bind_var b v) b) vs (a / 2)
 
-unfoldable pub headBound : List ℕ → ℕ → Bound
-headBound head a = bindHead nothing head a
+unfoldable pub head_bound : List ℕ → ℕ → Bound
+head_bound head a = bind_head nothing head a
 
 -- ---- a subgoal in its turn
 
@@ -64,12 +64,12 @@ binds s v = not s.negated && (ltb v variables && has s.args v)
 
 -- W9, of a negated subgoal: "every variable in it must be bound already". Its other arguments are literals, which are bound: "254 in an `NG` is 4"
 unfoldable pub known : Bound → Call → Bool
-known b s = not s.negated || all (isBound b) s.args
+known b s = not s.negated || all (is_bound b) s.args
 
 -- its pattern fits the constraint of its predicate, and W9's rule holds
 unfoldable pub ready : Table → Bound → Call → Bool
-ready T b s = admits (entry T s.pred) (patternOf b s.args) && known b s
+ready T b s = admits (entry T s.pred) (pattern_of b s.args) && known b s
 
 -- "After the whole subgoal all its variables become bound"; W9: "It binds nothing"
 unfoldable pub after : Bound → Call → Bound
-after b s = cond s.negated b (bindAll b s.args)
+after b s = cond s.negated b (bind_all b s.args)

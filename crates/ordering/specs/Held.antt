@@ -4,9 +4,9 @@ use Rattle.std.proofs.Math.Option.{Option, none, some}
 use Rattle.std.specs.Int.Bits.{bit_or}
 use Rattle.masks.specs.Lists.{values}
 use Rattle.masks.specs.Set.{bit_at}
-use Rattle.book.specs.Limits.{maxSubgoals}
+use Rattle.book.specs.Limits.{max_subgoals}
 use Rattle.book.specs.Book.{Call}
-use Rattle.ordering.specs.Adorn.{variables, Bound, bit, patternOf}
+use Rattle.ordering.specs.Adorn.{variables, Bound, bit, pattern_of}
 use Rattle.ordering.specs.Orders.{find, count}
 use Rattle.ordering.specs.Good.{at}
 use Rattle.ordering.specs.declared.Order.{Order}
@@ -18,22 +18,22 @@ abbrev pub order_of : Order → Option (List ℕ)
 order_of o = cond o.found (some (take o.n o.places)) none
 
 -- the places of an order, if there is one
-abbrev pub orNone : Option (List ℕ) → List ℕ
-orNone none = []
-orNone (some σ) = σ
+abbrev pub or_none : Option (List ℕ) → List ℕ
+or_none none = []
+or_none (some σ) = σ
 
 abbrev pub places_of : Order → List ℕ
-places_of o = orNone (order_of o)
+places_of o = or_none (order_of o)
 
 -- the patterns beside them
-abbrev pub patternsOf : Order → List ℕ
-patternsOf o = take (length (places_of o)) o.patterns
+abbrev pub patterns_of : Order → List ℕ
+patterns_of o = take (length (places_of o)) o.patterns
 
 -- ---- what is bound, in a word
 
 -- variable v is bound where bit v is set
-unfoldable pub boundOf : ℕ → Bound
-boundOf word = values (bit_at word) variables
+unfoldable pub bound_of : ℕ → Bound
+bound_of word = values (bit_at word) variables
 
 -- inside an order bit 31 is set, for literals, and bit 30 is not, for wildcards: an argument x, 0 to 15, 254 or 255, is bound where bit x % 32 is set
 pub record Marked (word : ℕ) : Type 0 where
@@ -46,19 +46,19 @@ marks word [] = 0
 marks word (x ∷ xs) = marks word xs * 2 + bit (bit_at word (x % 32))
 
 -- the word with these bits set
-unfoldable pub withMarks : ℕ → List ℕ → ℕ
-withMarks word [] = word
-withMarks word (x ∷ xs) = withMarks (bit_or word (2 ^ (x % 32))) xs
+unfoldable pub with_marks : ℕ → List ℕ → ℕ
+with_marks word [] = word
+with_marks word (x ∷ xs) = with_marks (bit_or word (2 ^ (x % 32))) xs
 
 -- ---- a turn
 
 -- the first place of a word that passes, or the most that there can be
-abbrev pub foundOr : ℕ → Option ℕ → ℕ
-foundOr n none = n
-foundOr n (some p) = p
+abbrev pub found_or : ℕ → Option ℕ → ℕ
+found_or n none = n
+found_or n (some p) = p
 
 unfoldable pub picked : ℕ → (ℕ → Bool) → ℕ
-picked left passes = foundOr maxSubgoals (find (λ p. bit_at left p && passes p) (count 0 maxSubgoals))
+picked left passes = found_or max_subgoals (find (λ p. bit_at left p && passes p) (count 0 max_subgoals))
 
 -- a subgoal whose pattern is a member of its predicate's set can run; a negated one where that is the greatest, with every argument bound
 abbrev pub can_run : ℕ → Call → ℕ → Bool
@@ -66,4 +66,4 @@ can_run word s a = bit_at word a && (not s.negated || eqb (a + 1) (2 ^ length s.
 
 -- the pattern is that of the subgoal at the place, where there is one
 abbrev pub PatternAt : List Call → Bound → ℕ → ℕ → Type 0
-PatternAt body b p a = p < length body → a ≡ patternOf b (at body p).args
+PatternAt body b p a = p < length body → a ≡ pattern_of b (at body p).args

@@ -56,10 +56,10 @@ each f [] = []
 each f (x ∷ l) = f x ++ each f l
 
 -- all rearrangements of rem, which has n elements: for each x in turn, x and then each rearrangement of the others
-unfoldable pub ordersOf : ℕ → List ℕ → List (List ℕ)
+unfoldable pub orders_of : ℕ → List ℕ → List (List ℕ)
 unfolding each
-ordersOf zero rem = [] ∷ []
-ordersOf (suc n) rem = each (λ x. map (λ σ. x ∷ σ) (ordersOf n (without x rem))) rem
+orders_of zero rem = [] ∷ []
+orders_of (suc n) rem = each (λ x. map (λ σ. x ∷ σ) (orders_of n (without x rem))) rem
 
 -- i, i+1, .. : n of them
 unfoldable pub count : ℕ → ℕ → List ℕ
@@ -67,4 +67,4 @@ count i zero = []
 count i (suc n) = i ∷ count (suc i) n
 
 unfoldable pub orders : ℕ → List (List ℕ)
-orders n = ordersOf n (count 0 n)
+orders n = orders_of n (count 0 n)

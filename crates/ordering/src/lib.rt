@@ -7,16 +7,16 @@ ghost use Rattle.std.specs.Prelude.{◌≡◌, true, ◌≤◌, ◌<◌, ◌^◌
 ghost use Rattle.std.proofs.Math.Option.{none};
 ghost use Rattle.masks.specs.Lists.{all, values};
 ghost use Rattle.masks.specs.Set.{bit_at};
-ghost use Rattle.book.specs.Limits.{maxPredicates, maxClauses, maxSubgoals};
+ghost use Rattle.book.specs.Limits.{max_predicates, max_clauses, max_subgoals};
 ghost use Rattle.book.specs.Format.{allows};
 ghost use Rattle.book.specs.declared.range.Range.TheVariants.{Argument};
-ghost use Rattle.book.specs.Held.{byte_of, headIn, call_in, clauseAt};
-ghost use Rattle.book.specs.Table.{tableIn, Full};
+ghost use Rattle.book.specs.Held.{byte_of, head_in, call_in, clause_at};
+ghost use Rattle.book.specs.Table.{table_in, Full};
 ghost use Rattle.book.specs.Sets.{callable};
-ghost use Rattle.ordering.specs.Adorn.{bit, patternOf, bindVar, headBound, after};
-ghost use Rattle.ordering.specs.Good.{readyAt, firstGood};
-ghost use Rattle.ordering.specs.Asks.{patternsIn};
-ghost use Rattle.ordering.specs.Held.{order_of, places_of, patternsOf, boundOf, Marked, marks, withMarks, picked, can_run, PatternAt};
+ghost use Rattle.ordering.specs.Adorn.{bit, pattern_of, bind_var, head_bound, after};
+ghost use Rattle.ordering.specs.Good.{ready_at, first_good};
+ghost use Rattle.ordering.specs.Asks.{patterns_in};
+ghost use Rattle.ordering.specs.Held.{order_of, places_of, patterns_of, bound_of, Marked, marks, with_marks, picked, can_run, PatternAt};
 
 use book::clause::{argument, arguments, negated, predicate, subgoal_at, subgoals_at};
 use book::limits::{LAST_VARIABLE, MAX_PREDICATES, MAX_SUBGOALS, RULES_SIZE};
@@ -54,9 +54,9 @@ pub fn first_order<'a>(
     table: &'a [u64; MAX_PREDICATES],
     bound: u16,
 ) -> Order
-    requires { (k ≤ maxClauses) × (callable (clauseAt rules.now k).body ≡ true) × Full table.now }
-    ensures result_value { order_of result ≡ firstGood (tableIn table.now maxPredicates) (clauseAt rules.now k).body (boundOf bound) }
-    ensures result_value_2 { patternsOf result ≡ patternsIn (clauseAt rules.now k).body (boundOf bound) (places_of result) }
+    requires { (k ≤ max_clauses) × (callable (clause_at rules.now k).body ≡ true) × Full table.now }
+    ensures result_value { order_of result ≡ first_good (table_in table.now max_predicates) (clause_at rules.now k).body (bound_of bound) }
+    ensures result_value_2 { patterns_of result ≡ patterns_in (clause_at rules.now k).body (bound_of bound) (places_of result) }
 {
     let n = subgoals_at(rules, k);
     let mut places = [0u8; MAX_SUBGOALS];
@@ -105,9 +105,9 @@ fn first_ready<'a>(
     bound: u32,
     left: u32,
 ) -> Pick
-    requires { (k ≤ maxClauses) × (callable (clauseAt rules.now k).body ≡ true) × Full table.now × Marked bound × (left < 2 ^ length (clauseAt rules.now k).body) }
-    ensures place_value { result.place ≡ picked left (readyAt (tableIn table.now maxPredicates) (clauseAt rules.now k).body (boundOf bound)) }
-    ensures pattern_at { PatternAt (clauseAt rules.now k).body (boundOf bound) result.place result.pattern }
+    requires { (k ≤ max_clauses) × (callable (clause_at rules.now k).body ≡ true) × Full table.now × Marked bound × (left < 2 ^ length (clause_at rules.now k).body) }
+    ensures place_value { result.place ≡ picked left (ready_at (table_in table.now max_predicates) (clause_at rules.now k).body (bound_of bound)) }
+    ensures pattern_at { PatternAt (clause_at rules.now k).body (bound_of bound) result.place result.pattern }
 {
     let mut rest = left;
     while rest != 0 {
@@ -145,7 +145,7 @@ fn can_run(set: u64, s: u64, a: u8) -> bool
 // How many places an order has: none where no order was found.
 pub fn order_length(o: Order) -> usize
     ensures value { result ≡ length (places_of o) }
-    ensures upper_bound { result ≤ maxSubgoals }
+    ensures upper_bound { result ≤ max_subgoals }
 {
     if !o.found {
         return 0;
@@ -156,7 +156,7 @@ pub fn order_length(o: Order) -> usize
 
 // What is bound under a head pattern: "variables at bound head positions start as bound". Bit i of the pattern is that of position i.
 pub fn head_bound(head: u64, pattern: u8) -> u16
-    ensures { boundOf result ≡ headBound (headIn head).args pattern }
+    ensures { bound_of result ≡ head_bound (head_in head).args pattern }
 {
     let n = arguments(head);
     let mut b: u16 = 0;
@@ -174,7 +174,7 @@ pub fn head_bound(head: u64, pattern: u8) -> u16
 
 // A variable is bound from now on; a literal is none, and a wildcard "binds nothing".
 fn bind_var(bound: u16, v: u8) -> u16
-    ensures { boundOf result ≡ bindVar (boundOf bound) v }
+    ensures { bound_of result ≡ bind_var (bound_of bound) v }
 {
     if v <= LAST_VARIABLE {
         bound | (1u16 << v)
@@ -186,7 +186,7 @@ fn bind_var(bound: u16, v: u8) -> u16
 // The pattern of a call, inside an order: bit i is set where argument i is bound. The bits behind the last argument are cut off.
 fn pattern(bound: u32, s: u64) -> u8
     requires { Marked bound × (all (allows Argument) (call_in s).args ≡ true) }
-    ensures { result ≡ patternOf (boundOf bound) (call_in s).args }
+    ensures { result ≡ pattern_of (bound_of bound) (call_in s).args }
 {
     let n = (s >> 8) % 8;
     let low = three_bits(bound, s >> 16);
@@ -218,7 +218,7 @@ fn bound_bit(bound: u32, arg: u64) -> u32
 // bound already.
 fn bind_all(bound: u32, s: u64) -> u32
     requires { Marked bound × (all (allows Argument) (call_in s).args ≡ true) }
-    ensures result_value { boundOf result ≡ after (boundOf bound) (call_in s) }
+    ensures result_value { bound_of result ≡ after (bound_of bound) (call_in s) }
     ensures marked { Marked result }
 {
     if negated(s) {
@@ -237,7 +237,7 @@ fn bind_all(bound: u32, s: u64) -> u32
 
 // Sets the bits of the three arguments in the lowest bytes of a word.
 fn bind_three(bound: u32, args: u64) -> u32
-    ensures { result ≡ withMarks bound (values (byte_of args) 3) }
+    ensures { result ≡ with_marks bound (values (byte_of args) 3) }
 {
     bound | power(args) | power(args >> 8) | power(args >> 16)
 }

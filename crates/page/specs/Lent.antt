@@ -1,21 +1,21 @@
 -- How a book and its final table are lent to what answers a page, and what is promised of the parts. Assumes nothing.
 use Rattle.std.specs.Prelude.{◌≡◌, List, map, ℕ, length, take, drop}
 use Rattle.masks.specs.declared.reply.Reply.{Reply}
-use Rattle.book.specs.Limits.{maxClauses}
+use Rattle.book.specs.Limits.{max_clauses}
 use Rattle.book.specs.Book.{Call, Book}
 use Rattle.book.specs.Format.{query}
 use Rattle.book.specs.Encode.{WellFormed}
-use Rattle.book.specs.Held.{clauseAt}
-use Rattle.book.specs.Table.{Table, tableIn, Admitted}
+use Rattle.book.specs.Held.{clause_at}
+use Rattle.book.specs.Table.{Table, table_in, Admitted}
 use Rattle.book.specs.declared.mark.Phase.TheVariants.{PageQuery}
 use Rattle.records.specs.declared.field.Found.{Found}
 use Rattle.records.specs.declared.field.Found.TheVariants.{Next, Bad}
 use Rattle.records.specs.Found.{Reads}
 use Rattle.tables.specs.Table.{final}
 use Rattle.tally.specs.declared.Tally.{Tally}
-use Rattle.tally.specs.Tallied.{tallyFrom, zeroes, Tallies}
-use Rattle.paging.specs.Run.{faulty, queries, judgeRun}
-use Rattle.paging.specs.Page.{accepts, answers, paged, verdictsOf}
+use Rattle.tally.specs.Tallied.{tally_from, zeroes, Tallies}
+use Rattle.paging.specs.Run.{faulty, queries, judge_run}
+use Rattle.paging.specs.Page.{accepts, answers, paged, verdicts_of}
 
 -- ---- what is lent
 
@@ -25,7 +25,7 @@ pub record Lent (B : Book) (preds : ℕ) (arities table : List ℕ) : Type 0 whe
   pub preds· : length B.arities ≡ preds
   pub arities· : B.arities ≡ take preds arities
   pub masks : List ℕ
-  pub final· : tableIn masks preds ≡ final B
+  pub final· : table_in masks preds ≡ final B
   pub admitted : Admitted masks table
 
 -- what is asked: there is such a book; and what is given, whatever that book is
@@ -34,7 +34,7 @@ SomeLent preds arities table = (B : Book) × Lent B preds arities table
 
 abbrev pub Gives : ℕ → List ℕ → List ℕ → List ℕ → List ℕ → Tally → Reply → List ℕ → Tally → Type 0
 Gives preds arities table run out old r after t =
-    (B : Book) → Lent B preds arities table → Tallies (paged B (judgeRun B.arities run)) (verdictsOf B (judgeRun B.arities run)) out old r after t
+    (B : Book) → Lent B preds arities table → Tallies (paged B (judge_run B.arities run)) (verdicts_of B (judge_run B.arities run)) out old r after t
 
 -- ---- the parts
 
@@ -42,18 +42,18 @@ Gives preds arities table run out old r after t =
 pub record QueryRead (ar run : List ℕ) (at : ℕ) (r : Found) (after : List ℕ) : Type 0 where
   pub goals : List Call
   pub reads : Reads run r (λ n. goals) (query PageQuery ar (drop at run))
-  pub stored : (end n : ℕ) → r ≡ Next end n → (clauseAt after maxClauses).body ≡ goals
+  pub stored : (end n : ℕ) → r ≡ Next end n → (clause_at after max_clauses).body ≡ goals
 
 -- the answers to queries stand at the front of an image, and are counted
 pub record Kept (T : Table) (qs : List (List Call)) (image : List ℕ) (size : ℕ) (t : Tally) : Type 0 where
   pub long : size ≡ length (answers T qs)
   pub bytes : take size image ≡ answers T qs
-  pub counted : t ≡ tallyFrom zeroes (map (accepts T) qs)
+  pub counted : t ≡ tally_from zeroes (map (accepts T) qs)
 
 -- a run's first fault, or its queries with their answers
 abbrev pub CameTo : List ℕ → List ℕ → Table → Found → List ℕ → ℕ → Tally → Type 0
-CameTo ar run T (Bad f at) image size t = judgeRun ar run ≡ faulty f at
-CameTo ar run T (Next at n) image size t = (qs : List (List Call)) × (judgeRun ar run ≡ queries qs) × Kept T qs image size t
+CameTo ar run T (Bad f at) image size t = judge_run ar run ≡ faulty f at
+CameTo ar run T (Next at n) image size t = (qs : List (List Call)) × (judge_run ar run ≡ queries qs) × Kept T qs image size t
 
 pub record RunAnswered (ar run : List ℕ) (T : Table) (g : Found) (image : List ℕ) (size : ℕ) (t : Tally) : Type 0 where
   pub comes : CameTo ar run T g image size t

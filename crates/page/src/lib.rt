@@ -2,9 +2,9 @@
 // final table as it is read, and its answer waits in an image of a page's full length; only a run without a fault, whose answers have room, is copied to the
 // output. The tally goes through by value, and is lent to one step for each query.
 ghost use Rattle.std.specs.Prelude.{◌≡◌, true, ◌+◌, ◌≤◌, length};
-ghost use Rattle.book.specs.Limits.{maxPredicates, maxClauses};
-ghost use Rattle.book.specs.Held.{clauseAt};
-ghost use Rattle.book.specs.Table.{tableIn, Full};
+ghost use Rattle.book.specs.Limits.{max_predicates, max_clauses};
+ghost use Rattle.book.specs.Held.{clause_at};
+ghost use Rattle.book.specs.Table.{table_in, Full};
 ghost use Rattle.book.specs.Sets.{callable};
 ghost use Rattle.records.specs.Found.{Arities};
 ghost use Rattle.ordering.specs.Held.{order_of};
@@ -123,7 +123,7 @@ fn answer_run<'a>(
     image: &mut [u8; LONGEST_PAGE],
 ) -> Answered
     requires { Arities ar.now × Full admits.now }
-    ensures { RunAnswered ar.now run.now (tableIn admits.now maxPredicates) result.found image.new result.size result.tally }
+    ensures { RunAnswered ar.now run.now (table_in admits.now max_predicates) result.found image.new result.size result.tally }
 {
     let bytes: &mut [u8] = image;
     let mut tally = Tally {
@@ -182,9 +182,9 @@ fn answer_query<'a>(
     out: &mut [u8],
     at: usize,
 ) -> Verdict
-    requires { (callable (clauseAt rules.now maxClauses).body ≡ true) × Full admits.now × (at + 12 ≤ length out.old) }
-    ensures wrote { Wrote out.old out.new at result.next (answer (tableIn admits.now maxPredicates) (clauseAt rules.now maxClauses).body) }
-    ensures accepted_value { (result.accepted ≡ accepts (tableIn admits.now maxPredicates) (clauseAt rules.now maxClauses).body) × (result.next ≤ at + 12) }
+    requires { (callable (clause_at rules.now max_clauses).body ≡ true) × Full admits.now × (at + 12 ≤ length out.old) }
+    ensures wrote { Wrote out.old out.new at result.next (answer (table_in admits.now max_predicates) (clause_at rules.now max_clauses).body) }
+    ensures accepted_value { (result.accepted ≡ accepts (table_in admits.now max_predicates) (clause_at rules.now max_clauses).body) × (result.next ≤ at + 12) }
 {
     let o = first_order(rules, MAX_CLAUSES, admits, 0);
     let next = put_answer(out, at, o);

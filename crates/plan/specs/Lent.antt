@@ -1,21 +1,21 @@
 -- How a book and its final table are lent, and what is promised of the parts of a plan. Assumes nothing.
 use Rattle.std.specs.Prelude.{◌≡◌, cond, List, [], ◌++◌, ℕ, ◌+◌, ◌*◌, ◌≤◌, ◌<◌, length, get_or}
-use Rattle.masks.specs.Limits.{allPatterns}
+use Rattle.masks.specs.Limits.{all_patterns}
 use Rattle.masks.specs.Lists.{joined}
 use Rattle.masks.specs.Outcome.{Answers}
 use Rattle.masks.specs.Set.{bit_at, members}
 use Rattle.masks.specs.declared.reply.Reply.{Reply}
-use Rattle.book.specs.Limits.{maxPredicates, maxClauses}
+use Rattle.book.specs.Limits.{max_predicates, max_clauses}
 use Rattle.book.specs.Book.{Book}
 use Rattle.book.specs.Encode.{WellFormed}
-use Rattle.book.specs.Held.{clauseAt, clausesOf}
-use Rattle.book.specs.Table.{tableIn, Admitted}
+use Rattle.book.specs.Held.{clause_at, clauses_of}
+use Rattle.book.specs.Table.{table_in, Admitted}
 use Rattle.book.specs.Sets.{Owns, Callable}
-use Rattle.ordering.specs.Adorn.{headBound}
-use Rattle.ordering.specs.Good.{firstGood}
-use Rattle.ordering.specs.Held.{orNone}
-use Rattle.tables.specs.Table.{sumBelow, final}
-use Rattle.choices.specs.Plan.{Row, encQuery, encRow, planned}
+use Rattle.ordering.specs.Adorn.{head_bound}
+use Rattle.ordering.specs.Good.{first_good}
+use Rattle.ordering.specs.Held.{or_none}
+use Rattle.tables.specs.Table.{sum_below, final}
+use Rattle.choices.specs.Plan.{Row, enc_query, enc_row, planned}
 
 -- ---- what is lent
 
@@ -23,12 +23,12 @@ use Rattle.choices.specs.Plan.{Row, encQuery, encRow, planned}
 pub record Lent (B : Book) (preds clauses : ℕ) (rules own table : List ℕ) : Type 0 where
   pub well : WellFormed B
   pub preds· : length B.arities ≡ preds
-  pub few : clauses ≤ maxClauses
-  pub clauses· : B.clauses ≡ clausesOf rules clauses
-  pub query· : B.query ≡ (clauseAt rules maxClauses).body
+  pub few : clauses ≤ max_clauses
+  pub clauses· : B.clauses ≡ clauses_of rules clauses
+  pub query· : B.query ≡ (clause_at rules max_clauses).body
   pub owns : Owns rules clauses own
   pub masks : List ℕ
-  pub final· : tableIn masks preds ≡ final B
+  pub final· : table_in masks preds ≡ final B
   pub admitted : Admitted masks table
 
 -- what is asked: there is such a book; and what is given, whatever that book is
@@ -40,7 +40,7 @@ Gives preds clauses rules own table out r after = (B : Book) → Lent B preds cl
 
 -- each predicate's clauses call predicates that there can be
 abbrev pub EachCallable : List ℕ → List ℕ → Type 0
-EachCallable rules own = (p : ℕ) → p < maxPredicates → Callable rules (get_or own p 0)
+EachCallable rules own = (p : ℕ) → p < max_predicates → Callable rules (get_or own p 0)
 
 -- ---- rows, of clauses in the array
 
@@ -50,28 +50,28 @@ row_by rules table k a =
     record {
       clause· = k;
       pattern = a;
-      places = orNone (firstGood (tableIn table maxPredicates) (clauseAt rules k).body (headBound (clauseAt rules k).head.args a));
+      places = or_none (first_good (table_in table max_predicates) (clause_at rules k).body (head_bound (clause_at rules k).head.args a));
     }
 
 -- of each clause of a set
-unfoldable pub clauseRows : List ℕ → List ℕ → ℕ → ℕ → List ℕ
-clauseRows rules table own a = joined (λ k. cond (bit_at own k) (encRow (row_by rules table k a)) []) maxClauses
+unfoldable pub clause_rows : List ℕ → List ℕ → ℕ → ℕ → List ℕ
+clause_rows rules table own a = joined (λ k. cond (bit_at own k) (enc_row (row_by rules table k a)) []) max_clauses
 
 -- under each pattern of a set
-unfoldable pub patternRows : List ℕ → List ℕ → ℕ → ℕ → List ℕ
-patternRows rules table own set = joined (λ a. cond (bit_at set a) (clauseRows rules table own a) []) allPatterns
+unfoldable pub pattern_rows : List ℕ → List ℕ → ℕ → ℕ → List ℕ
+pattern_rows rules table own set = joined (λ a. cond (bit_at set a) (clause_rows rules table own a) []) all_patterns
 
 -- the plan of the first preds predicates, with each one's clauses and reached patterns in words, and the query's order given
-unfoldable pub planBytes : List ℕ → ℕ → List ℕ → List ℕ → List ℕ → List ℕ → List ℕ
-planBytes σ preds rules table own words = encQuery σ ++ joined (λ p. patternRows rules table (get_or own p 0) (get_or words p 0)) preds
+unfoldable pub plan_bytes : List ℕ → ℕ → List ℕ → List ℕ → List ℕ → List ℕ → List ℕ
+plan_bytes σ preds rules table own words = enc_query σ ++ joined (λ p. pattern_rows rules table (get_or own p 0) (get_or words p 0)) preds
 
 -- ---- lengths, where each order has a place for each subgoal
 
 -- of a row of each clause of a set
-unfoldable pub rowsLength : List ℕ → ℕ → ℕ
-rowsLength rules own = sumBelow (λ k. cond (bit_at own k) (5 + length (clauseAt rules k).body) 0) maxClauses
+unfoldable pub rows_length : List ℕ → ℕ → ℕ
+rows_length rules own = sum_below (λ k. cond (bit_at own k) (5 + length (clause_at rules k).body) 0) max_clauses
 
 -- of the plan: those of each predicate, as often as it has patterns
-unfoldable pub planLength : ℕ → List ℕ → List ℕ → List ℕ → ℕ
-planLength preds rules own words =
-    3 + length (clauseAt rules maxClauses).body + sumBelow (λ p. rowsLength rules (get_or own p 0) * length (members (get_or words p 0))) preds
+unfoldable pub plan_length : ℕ → List ℕ → List ℕ → List ℕ → ℕ
+plan_length preds rules own words =
+    3 + length (clause_at rules max_clauses).body + sum_below (λ p. rows_length rules (get_or own p 0) * length (members (get_or words p 0))) preds

@@ -1,13 +1,13 @@
 // The image of a plan: its length first, then its bytes. Each predicate's clauses and its reached patterns are lent in words.
 ghost use Rattle.std.specs.Prelude.{◌≡◌, true, ◌∷◌, ◌+◌, ◌*◌, ◌<◌, ◌≤◌, length};
-ghost use Rattle.book.specs.Limits.{maxPredicates, maxClauses, maxSubgoals};
-ghost use Rattle.book.specs.Held.{clauseAt};
+ghost use Rattle.book.specs.Limits.{max_predicates, max_clauses, max_subgoals};
+ghost use Rattle.book.specs.Held.{clause_at};
 ghost use Rattle.book.specs.Table.{Full};
 ghost use Rattle.book.specs.Sets.{callable, Callable};
 ghost use Rattle.ordering.specs.Held.{places_of};
 ghost use Rattle.writing.specs.Wrote.{Room, Wrote};
-ghost use Rattle.choices.specs.Plan.{encQuery, encRow};
-ghost use Rattle.plan.specs.Lent.{EachCallable, row_by, clauseRows, patternRows, planBytes, rowsLength, planLength};
+ghost use Rattle.choices.specs.Plan.{enc_query, enc_row};
+ghost use Rattle.plan.specs.Lent.{EachCallable, row_by, clause_rows, pattern_rows, plan_bytes, rows_length, plan_length};
 
 use book::clause::{head_at, subgoals_at};
 use book::limits::{MAX_CLAUSES, MAX_PREDICATES, RULES_SIZE};
@@ -22,8 +22,8 @@ pub fn plan_length<'a>(
     own: &'a [u64; MAX_PREDICATES],
     reached: &'a [u64; MAX_PREDICATES],
 ) -> usize
-    requires { preds ≤ maxPredicates }
-    ensures { result ≡ planLength preds rules.now own.now reached.now }
+    requires { preds ≤ max_predicates }
+    ensures { result ≡ plan_length preds rules.now own.now reached.now }
 {
     let mut total = 3 + subgoals_at(rules, MAX_CLAUSES);
     let mut p: u8 = 0;
@@ -40,8 +40,8 @@ pub fn plan_length<'a>(
 
 // How many bytes a row of each clause of a set has, all together.
 fn rows_length(rules: &[u64; RULES_SIZE], own: u64) -> usize
-    ensures value { result ≡ rowsLength rules.now own }
-    ensures upper_bound { result ≤ maxClauses * (5 + maxSubgoals) }
+    ensures value { result ≡ rows_length rules.now own }
+    ensures upper_bound { result ≤ max_clauses * (5 + max_subgoals) }
 {
     let mut total: usize = 0;
     let mut rest = own;
@@ -63,8 +63,8 @@ pub fn put_plan<'a>(
     own: &'a [u64; MAX_PREDICATES],
     reached: &'a [u64; MAX_PREDICATES],
 ) -> usize
-    requires { (preds ≤ maxPredicates) × EachCallable rules.now own.now × Full table.now × Room out.old 0 (planBytes (places_of query) preds rules.now table.now own.now reached.now) }
-    ensures { Wrote out.old out.new 0 result (planBytes (places_of query) preds rules.now table.now own.now reached.now) }
+    requires { (preds ≤ max_predicates) × EachCallable rules.now own.now × Full table.now × Room out.old 0 (plan_bytes (places_of query) preds rules.now table.now own.now reached.now) }
+    ensures { Wrote out.old out.new 0 result (plan_bytes (places_of query) preds rules.now table.now own.now reached.now) }
 {
     let mut at = put_query(out, 0, query);
     let mut p: u8 = 0;
@@ -78,8 +78,8 @@ pub fn put_plan<'a>(
 
 // "`QO`, n, n places".
 pub fn put_query(out: &mut [u8], at: usize, o: Order) -> usize
-    requires { Room out.old at (encQuery (places_of o)) }
-    ensures { Wrote out.old out.new at result (encQuery (places_of o)) }
+    requires { Room out.old at (enc_query (places_of o)) }
+    ensures { Wrote out.old out.new at result (enc_query (places_of o)) }
 {
     let p = put_mark(out, at, b"QO");
     put_order(out, p, o)
@@ -94,8 +94,8 @@ fn put_patterns<'a>(
     own: u64,
     patterns: u64,
 ) -> usize
-    requires { Callable rules.now own × Full table.now × Room out.old at (patternRows rules.now table.now own patterns) }
-    ensures { Wrote out.old out.new at result (patternRows rules.now table.now own patterns) }
+    requires { Callable rules.now own × Full table.now × Room out.old at (pattern_rows rules.now table.now own patterns) }
+    ensures { Wrote out.old out.new at result (pattern_rows rules.now table.now own patterns) }
 {
     let mut p = at;
     let mut rest = patterns;
@@ -116,8 +116,8 @@ fn put_clauses<'a>(
     own: u64,
     a: u8,
 ) -> usize
-    requires { Callable rules.now own × Full table.now × Room out.old at (clauseRows rules.now table.now own a) }
-    ensures { Wrote out.old out.new at result (clauseRows rules.now table.now own a) }
+    requires { Callable rules.now own × Full table.now × Room out.old at (clause_rows rules.now table.now own a) }
+    ensures { Wrote out.old out.new at result (clause_rows rules.now table.now own a) }
 {
     let mut p = at;
     let mut rest = own;
@@ -138,8 +138,8 @@ fn put_row<'a>(
     k: u8,
     a: u8,
 ) -> usize
-    requires { (k < maxClauses) × (callable (clauseAt rules.now k).body ≡ true) × Full table.now × Room out.old at (encRow (row_by rules.now table.now k a)) }
-    ensures { Wrote out.old out.new at result (encRow (row_by rules.now table.now k a)) }
+    requires { (k < max_clauses) × (callable (clause_at rules.now k).body ≡ true) × Full table.now × Room out.old at (enc_row (row_by rules.now table.now k a)) }
+    ensures { Wrote out.old out.new at result (enc_row (row_by rules.now table.now k a)) }
 {
     let i = k as usize;
     let bound = head_bound(head_at(rules, i), a);

@@ -1,12 +1,12 @@
 // The patterns reached, by a work list: the predicates that have patterns not gone over yet. Any order of work gives the same patterns; here the lowest
 // predicate comes first. Patterns are marked in words, one for each predicate; sets of predicates and of clauses are words too.
 ghost use Rattle.std.specs.Prelude.{◌≡◌, true, ◌<◌, ◌≤◌, length, get_or};
-ghost use Rattle.book.specs.Limits.{maxPredicates, maxClauses};
-ghost use Rattle.book.specs.Held.{clauseAt};
-ghost use Rattle.book.specs.Table.{tableIn, Full};
+ghost use Rattle.book.specs.Limits.{max_predicates, max_clauses};
+ghost use Rattle.book.specs.Held.{clause_at};
+ghost use Rattle.book.specs.Table.{table_in, Full};
 ghost use Rattle.book.specs.Sets.{callable, Cleared, Owns, Known, Callable};
 ghost use Rattle.ordering.specs.Adorn.{nothing};
-ghost use Rattle.reach.specs.Marked.{Found, SomeFound, Marked, Marks, clausesBy, patternsBy, ReachedIn};
+ghost use Rattle.reach.specs.Marked.{Found, SomeFound, Marked, Marks, clauses_by, patterns_by, ReachedIn};
 
 use book::clause::{head_at, predicate, subgoal_at};
 use book::limits::{MAX_CLAUSES, MAX_PREDICATES, RULES_SIZE};
@@ -23,8 +23,8 @@ pub fn reach<'a>(
     query: Order,
     reached: &mut [u64; MAX_PREDICATES],
 )
-    requires clauses_le_max_clauses { (clauses ≤ maxClauses) × Known rules.now clauses × (callable (clauseAt rules.now maxClauses).body ≡ true) × Owns rules.now clauses own.now }
-    requires full { Full table.now × Found (tableIn table.now maxPredicates) (clauseAt rules.now maxClauses).body nothing query × Cleared reached.old }
+    requires clauses_le_max_clauses { (clauses ≤ max_clauses) × Known rules.now clauses × (callable (clause_at rules.now max_clauses).body ≡ true) × Owns rules.now clauses own.now }
+    requires full { Full table.now × Found (table_in table.now max_predicates) (clause_at rules.now max_clauses).body nothing query × Cleared reached.old }
     ensures { ReachedIn rules.now clauses table.now reached.new }
 {
     let mut gone = [0u64; MAX_PREDICATES];
@@ -48,7 +48,7 @@ fn mark_patterns<'a>(
     reached: &mut [u64; MAX_PREDICATES],
 ) -> u64
     requires { Callable rules.now own × Full table.now }
-    ensures { Marked reached.old reached.new result (patternsBy rules.now table.now own patterns) }
+    ensures { Marked reached.old reached.new result (patterns_by rules.now table.now own patterns) }
 {
     let mut names: u64 = 0;
     let mut rest = patterns;
@@ -70,7 +70,7 @@ fn mark_clauses<'a>(
     reached: &mut [u64; MAX_PREDICATES],
 ) -> u64
     requires { Callable rules.now own × Full table.now }
-    ensures { Marked reached.old reached.new result (clausesBy rules.now table.now own a) }
+    ensures { Marked reached.old reached.new result (clauses_by rules.now table.now own a) }
 {
     let mut names: u64 = 0;
     let mut rest = own;
@@ -92,9 +92,9 @@ fn mark_calls(
     o: Order,
     reached: &mut [u64; MAX_PREDICATES],
 ) -> u64
-    requires { (k ≤ maxClauses) × (callable (clauseAt rules.now k).body ≡ true) × SomeFound (clauseAt rules.now k).body o }
-    ensures marks { Marks (clauseAt rules.now k).body o reached.old reached.new result }
-    ensures reached_len { length reached.old ≡ maxPredicates }
+    requires { (k ≤ max_clauses) × (callable (clause_at rules.now k).body ≡ true) × SomeFound (clause_at rules.now k).body o }
+    ensures marks { Marks (clause_at rules.now k).body o reached.old reached.new result }
+    ensures reached_len { length reached.old ≡ max_predicates }
 {
     let words: &mut [u64] = reached;
     let n = order_length(o);
@@ -113,7 +113,7 @@ fn mark_calls(
 
 // The patterns of predicate p that are marked.
 fn word_at(words: &[u64; MAX_PREDICATES], p: usize) -> u64
-    requires { p < maxPredicates }
+    requires { p < max_predicates }
     ensures { result ≡ get_or words.now p 0 }
 {
     let all: &[u64] = words;

@@ -2,21 +2,21 @@
 use Rattle.std.specs.Prelude.{◌≡◌, List, [], ℕ, ◌≤◌, length, take}
 use Rattle.masks.specs.Set.{Holds}
 use Rattle.masks.specs.declared.reply.Reply.{Reply}
-use Rattle.book.specs.Limits.{maxPredicates, maxClauses}
+use Rattle.book.specs.Limits.{max_predicates, max_clauses}
 use Rattle.book.specs.Book.{Book}
 use Rattle.book.specs.Format.{number, Judged, fault, book, judge}
-use Rattle.book.specs.Held.{hasMode, modeAt, modesOf, bookIn}
+use Rattle.book.specs.Held.{has_mode, mode_at, modes_of, book_in}
 use Rattle.records.specs.declared.field.Found.{Found}
 use Rattle.records.specs.declared.field.Found.TheVariants.{Next, Bad}
 use Rattle.reading.specs.declared.Reading.{Reading}
 
 -- no predicate has MO
 abbrev pub NoModes : List ℕ → Type 0
-NoModes modes = (p : ℕ) → modeAt modes p ≡ []
+NoModes modes = (p : ℕ) → mode_at modes p ≡ []
 
 -- so many predicates are within the limits, and each has its place in an array of arities
 pub record Listed (n : ℕ) (arities : List ℕ) : Type 0 where
-  pub few : n ≤ maxPredicates
+  pub few : n ≤ max_predicates
   pub each : length (take n arities) ≡ n
 
 -- what reading a book comes to
@@ -41,7 +41,7 @@ pub record Judges (s : List ℕ) (r : Reading) : Type 0 where
 -- and into the arrays lent: where the reply is 0 they hold the book that the bytes are, and the set has the predicates that have MO
 pub record BookRead (s : List ℕ) (r : Reading) (arities modes rules : List ℕ) : Type 0 where
   pub judges : Judges s r
-  pub holds : r.reply.number ≡ 0 → judge s ≡ book (bookIn r.preds arities modes r.clauses rules)
+  pub holds : r.reply.number ≡ 0 → judge s ≡ book (book_in r.preds arities modes r.clauses rules)
   pub listed : Listed r.preds arities
-  pub few : r.clauses ≤ maxClauses
-  pub given : r.reply.number ≡ 0 → Holds r.with_mode (hasMode (modesOf modes maxPredicates))
+  pub few : r.clauses ≤ max_clauses
+  pub given : r.reply.number ≡ 0 → Holds r.with_mode (has_mode (modes_of modes max_predicates))

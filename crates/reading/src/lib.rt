@@ -2,7 +2,7 @@
 // and the runs of records; single records, their bytes and their marks are in the crate `records`. One pass from the left: each
 // byte is looked at once, and the bytes of a mark where a run ends again by what judges that end and by the run that follows.
 ghost use Rattle.std.specs.Prelude.{◌≡◌, [], ◌+◌, ◌≤◌, ◌<◌, length, take, drop};
-ghost use Rattle.book.specs.Limits.{maxPredicates, maxClauses};
+ghost use Rattle.book.specs.Limits.{max_predicates, max_clauses};
 ghost use Rattle.book.specs.Format as format;
 ghost use Rattle.records.specs.Found.{Reads, Arities, stops};
 ghost use Rattle.reading.specs.Judged.{NoModes, Listed, checked, AnswerTo, Judges, BookRead};
@@ -137,7 +137,7 @@ fn read_rules<'a>(
     modes: &mut [u8],
     rules: &mut [u64],
 ) -> FoundRules
-    requires { (from ≤ length s.now) × (preds ≤ maxPredicates) × Arities (take preds arities.now) × NoModes modes.old }
+    requires { (from ≤ length s.now) × (preds ≤ max_predicates) × Arities (take preds arities.now) × NoModes modes.old }
     ensures { ReadsRules preds arities.now s.now from result modes.old rules.old modes.new rules.new }
 {
     let bytes: &[u8] = arities;
@@ -171,7 +171,7 @@ fn read_rules<'a>(
 
 // "all `PR`": how many there are, and their arities.
 fn read_predicates(s: &[u8], arities: &mut [u8; MAX_PREDICATES]) -> FoundRun
-    ensures { Reads s.now result.found (λ _. take result.n arities.new) (format.many Phase.Predicates format.predicate maxPredicates [] s.now) × Listed result.n arities.new }
+    ensures { Reads s.now result.found (λ _. take result.n arities.new) (format.many Phase.Predicates format.predicate max_predicates [] s.now) × Listed result.n arities.new }
 {
     let bytes: &mut [u8] = arities;
     let mut at: usize = 0;
@@ -264,7 +264,7 @@ fn read_clauses(s: &[u8], ar: &[u8], from: usize, rules: &mut [u64]) -> FoundRun
 
 // The clause whose record is at a place, stored as clause k.
 fn read_clause(s: &[u8], ar: &[u8], at: usize, rules: &mut [u64], k: usize) -> Found
-    requires { (at + 2 ≤ length s.now) × Arities ar.now × (k < maxClauses) }
+    requires { (at + 2 ≤ length s.now) × Arities ar.now × (k < max_clauses) }
     ensures { ReadsClause ar.now s.now at k result rules.old rules.new }
 {
     let h = read_head(s, ar, at);
@@ -296,7 +296,7 @@ fn read_query<'a>(s: &'a [u8], ar: &'a [u8], at: usize, rules: &mut [u64]) -> Fo
 
 // The subgoals of a clause or of a query, from a place on, stored as those of clause k. What stands behind them is not judged here.
 pub fn read_body(s: &[u8], ar: &[u8], from: usize, rules: &mut [u64], k: usize) -> Found
-    requires { (from ≤ length s.now) × Arities ar.now × (k ≤ maxClauses) }
+    requires { (from ≤ length s.now) × Arities ar.now × (k ≤ max_clauses) }
     ensures { ReadsBody ar.now s.now from k result rules.old rules.new }
 {
     let base = k * CLAUSE_SIZE;

@@ -1,9 +1,9 @@
 -- What the reader's answers stand for. Assumes nothing.
 use Rattle.std.specs.Prelude.{◌≡◌, Bool, true, ◌||◌, List, ℕ, ◌-◌, ◌≤◌, length, drop}
-use Rattle.masks.specs.Limits.{maxArity}
+use Rattle.masks.specs.Limits.{max_arity}
 use Rattle.masks.specs.Lists.{all}
-use Rattle.book.specs.Limits.{maxPredicates}
-use Rattle.book.specs.Format.{spelling, leads, allows, Got, bad, got, onTurn, turn, markAt}
+use Rattle.book.specs.Limits.{max_predicates}
+use Rattle.book.specs.Format.{spelling, leads, allows, Got, bad, got, on_turn, turn, mark_at}
 use Rattle.book.specs.declared.mark.Mark.TheVariants.{Sg, Ng}
 use Rattle.book.specs.declared.mark.Phase.{Phase}
 use Rattle.book.specs.declared.range.Range.TheVariants.{AtMost}
@@ -26,13 +26,13 @@ pub record Reads {A : Type 0} (s : List ℕ) (r : Found) (f : ℕ → A) (g : Go
 
 -- a run that no further record of its own follows: its end, with the value a, or a fault
 abbrev pub stops : {A : Type 0} → Phase → A → List ℕ → Got A
-stops p a s = onTurn (turn p (markAt s)) (got a s) a s
+stops p a s = on_turn (turn p (mark_at s)) (got a s) a s
 
 -- a subgoal begins here, of either kind
-abbrev pub leadsSubgoal : List ℕ → Bool
-leadsSubgoal s = leads (spelling Sg) s || leads (spelling Ng) s
+abbrev pub leads_subgoal : List ℕ → Bool
+leads_subgoal s = leads (spelling Sg) s || leads (spelling Ng) s
 
 -- the arities of a book
 pub record Arities (ar : List ℕ) : Type 0 where
-  pub few : length ar ≤ maxPredicates
-  pub fit : all (allows (AtMost maxArity)) ar ≡ true
+  pub few : length ar ≤ max_predicates
+  pub fit : all (allows (AtMost max_arity)) ar ≡ true

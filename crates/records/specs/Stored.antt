@@ -2,10 +2,10 @@
 -- none, a store leaves it as it was. Assumes nothing.
 use Rattle.std.specs.Prelude.{◌≡◌, Bool, cond, List, [], ◌∷◌, ℕ, ◌*◌, ◌≤◌, eqb, length}
 use Rattle.std.proofs.lemmas.List.Edits.{sets}
-use Rattle.masks.specs.Limits.{maxMasks}
+use Rattle.masks.specs.Limits.{max_masks}
 use Rattle.book.specs.Book.{Head, Mode}
 use Rattle.book.specs.Format.{Got, got, and_then, bytes}
-use Rattle.book.specs.Held.{headIn, call_in, modeSize, modesSize, StoredMode}
+use Rattle.book.specs.Held.{head_in, call_in, mode_size, modes_size, StoredMode}
 use Rattle.book.specs.declared.range.Range.{Range}
 use Rattle.book.specs.declared.range.Range.TheVariants.{Argument, NoWildcard}
 use Rattle.records.specs.declared.field.Found.{Found}
@@ -16,8 +16,8 @@ use Rattle.records.specs.Found.{Reads}
 -- ---- a call
 
 -- the range of an argument that is a variable or a byte from the given one on: from 255 on there is no wildcard
-abbrev pub argumentFrom : ℕ → Range
-argumentFrom least = cond (eqb least 255) NoWildcard Argument
+abbrev pub argument_from : ℕ → Range
+argument_from least = cond (eqb least 255) NoWildcard Argument
 
 -- what follows the predicate p of a call: n arguments
 unfoldable pub arguments : Range → ℕ → ℕ → List ℕ → Got Head
@@ -25,7 +25,7 @@ arguments r p n s = and_then (bytes r n [] s) (λ args t. got (record { pred = p
 
 -- a predicate and its arguments are read into the word of a call, which says of itself whether it is negated
 pub record ReadsCall (s : List ℕ) (r : FoundCall) (negated : Bool) (g : Got Head) : Type 0 where
-  pub reads : Reads s r.found (λ n. headIn r.call) g
+  pub reads : Reads s r.found (λ n. head_in r.call) g
   pub sign : (at n : ℕ) → r.found ≡ Next at n → (call_in r.call).negated ≡ negated
 
 -- ---- bytes that are stored
@@ -40,11 +40,11 @@ pub record ReadsBytes (s : List ℕ) (r : Found) (start : ℕ) (before after : L
 pub record ReadsMasks (s : List ℕ) (r : Found) (p : ℕ) (before after : List ℕ) (g : Got (List ℕ)) : Type 0 where
   pub masks : List ℕ
   pub reads : Reads s r (λ n. masks) g
-  pub few : (at n : ℕ) → r ≡ Next at n → length masks ≤ maxMasks
-  pub stored : (at n : ℕ) → r ≡ Next at n → after ≡ sets before (p * modeSize) (1 ∷ length masks ∷ masks)
+  pub few : (at n : ℕ) → r ≡ Next at n → length masks ≤ max_masks
+  pub stored : (at n : ℕ) → r ≡ Next at n → after ≡ sets before (p * mode_size) (1 ∷ length masks ∷ masks)
 
 -- a mode is read, and stored where there is room for those of all predicates; the byte answered is its predicate
 pub record ReadsMode (s : List ℕ) (r : Found) (before after : List ℕ) (g : Got Mode) : Type 0 where
   pub masks : List ℕ
   pub reads : Reads s r (λ p. record { pred = p; masks = masks }) g
-  pub stored : (at p : ℕ) → r ≡ Next at p → length before ≡ modesSize → StoredMode before after p masks
+  pub stored : (at p : ℕ) → r ≡ Next at p → length before ≡ modes_size → StoredMode before after p masks

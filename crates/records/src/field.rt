@@ -1,11 +1,11 @@
 // The fields of records, byte by byte from the left, and the records that are not runs of others: a predicate, a mode, a subgoal, a head. A call is read into
 // the word that holds it, and a mode into the array that is lent for all.
 ghost use Rattle.std.specs.Prelude.{◌≡◌, ◌||◌, [], ◌+◌, ◌*◌, ◌^◌, ◌≤◌, ◌<◌, leb, length, drop, set};
-ghost use Rattle.masks.specs.Limits.{maxArity};
-ghost use Rattle.book.specs.Format.{allows, byte, bytes, predicate, fields, subgoal, masks, modeFields};
-ghost use Rattle.book.specs.Held.{countIn, negatedIn, headIn, call_in};
+ghost use Rattle.masks.specs.Limits.{max_arity};
+ghost use Rattle.book.specs.Format.{allows, byte, bytes, predicate, fields, subgoal, masks, mode_fields};
+ghost use Rattle.book.specs.Held.{count_in, negated_in, head_in, call_in};
 ghost use Rattle.records.specs.Found.{Reads, Arities};
-ghost use Rattle.records.specs.Stored.{argumentFrom, arguments, ReadsCall, ReadsBytes, ReadsMasks, ReadsMode};
+ghost use Rattle.records.specs.Stored.{argument_from, arguments, ReadsCall, ReadsBytes, ReadsMasks, ReadsMode};
 
 use crate::turn::is_mark;
 use book::fault::Fault;
@@ -41,7 +41,7 @@ pub fn read_predicate(s: &[u8], at: usize) -> Found
 // then one of the masks; "6: `MO` not rising" is tried last.
 pub fn read_mode(s: &[u8], ar: &[u8], low: u8, at: usize, modes: &mut [u8]) -> Found
     requires { (at + 2 ≤ length s.now) × Arities ar.now }
-    ensures { ReadsMode s.now result modes.old modes.new (modeFields ar.now low (drop (at + 2) s.now)) }
+    ensures { ReadsMode s.now result modes.old modes.new (mode_fields ar.now low (drop (at + 2) s.now)) }
 {
     let from = at + 2;
     let preds = ar.len() as u8;
@@ -67,7 +67,7 @@ pub fn read_mode(s: &[u8], ar: &[u8], low: u8, at: usize, modes: &mut [u8]) -> F
 // The head of the clause whose record is at a place.
 pub fn read_head(s: &[u8], ar: &[u8], at: usize) -> FoundCall
     requires { (at + 2 ≤ length s.now) × Arities ar.now }
-    ensures { Reads s.now result.found (λ _. headIn result.call) (fields Range.NoWildcard ar.now (drop (at + 2) s.now)) }
+    ensures { Reads s.now result.found (λ _. head_in result.call) (fields Range.NoWildcard ar.now (drop (at + 2) s.now)) }
 {
     read_call(s, ar, at + 2, LITERAL, false)
 }
@@ -104,7 +104,7 @@ fn read_masks(s: &[u8], at: usize, patterns: u8, p: u8, modes: &mut [u8]) -> Fou
 // A predicate and as many arguments as its arity, each a variable or a byte from the least one on, into the word of a call that is negated or not.
 fn read_call(s: &[u8], ar: &[u8], at: usize, least: u8, negated: bool) -> FoundCall
     requires { (at ≤ length s.now) × Arities ar.now × (254 ≤ least) }
-    ensures { ReadsCall s.now result negated (fields (argumentFrom least) ar.now (drop at s.now)) }
+    ensures { ReadsCall s.now result negated (fields (argument_from least) ar.now (drop at s.now)) }
 {
     let g = read_byte(s, at, Range::Below(ar.len() as u8));
     match g {
@@ -115,8 +115,8 @@ fn read_call(s: &[u8], ar: &[u8], at: usize, least: u8, negated: bool) -> FoundC
 
 // The n arguments of a call of a predicate. The word of the call has them from its low end on, above the predicate and n.
 fn read_args(s: &[u8], from: usize, pred: u8, n: u8, least: u8, negated: bool) -> FoundCall
-    requires { (from ≤ length s.now) × (n ≤ maxArity) × (254 ≤ least) }
-    ensures { ReadsCall s.now result negated (arguments (argumentFrom least) pred n (drop from s.now)) }
+    requires { (from ≤ length s.now) × (n ≤ max_arity) × (254 ≤ least) }
+    ensures { ReadsCall s.now result negated (arguments (argument_from least) pred n (drop from s.now)) }
 {
     let count = signed(n, negated);
     let mut call = count as u64 * 256 + pred as u64;
@@ -150,8 +150,8 @@ fn read_args(s: &[u8], from: usize, pred: u8, n: u8, least: u8, negated: bool) -
 
 // The byte of a word that holds the number of a call's arguments, and whether it is negated.
 fn signed(n: u8, negated: bool) -> u8
-    requires { n ≤ maxArity }
-    ensures { (countIn result ≡ n) × (negatedIn result ≡ negated) }
+    requires { n ≤ max_arity }
+    ensures { (count_in result ≡ n) × (negated_in result ≡ negated) }
 {
     if negated { n + NEGATED } else { n }
 }

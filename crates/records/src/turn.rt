@@ -2,7 +2,7 @@
 // and `NG`, which "has the fields and turn of `SG`". In the run of a page, "a run of `QU` records with their subgoals".
 ghost use Rattle.std.specs.Prelude.{◌≡◌, ◌≤◌, length, drop};
 ghost use Rattle.book.specs.Format as format;
-ghost use Rattle.records.specs.Found.{Reads, stops, leadsSubgoal};
+ghost use Rattle.records.specs.Found.{Reads, stops, leads_subgoal};
 
 use crate::field::Found;
 use book::fault::{Fault, place};
@@ -25,7 +25,7 @@ pub fn is_mark(s: &[u8], at: usize, m: &[u8; 2]) -> bool
 // A subgoal begins at a place, `SG` or `NG`.
 pub fn is_subgoal(s: &[u8], at: usize) -> bool
     requires { at ≤ length s.now }
-    ensures { result ≡ leadsSubgoal (drop at s.now) }
+    ensures { result ≡ leads_subgoal (drop at s.now) }
 {
     if is_mark(s, at, b"SG") {
         return true;
@@ -85,7 +85,7 @@ fn column(m: Mark, pr: Turn, mo: Turn, cl: Turn, sg: Turn, qu: Turn, end: Turn) 
 // What stands at a place.
 fn mark_at(s: &[u8], at: usize) -> Mark
     requires { at ≤ length s.now }
-    ensures { result ≡ format.markAt (drop at s.now) }
+    ensures { result ≡ format.mark_at (drop at s.now) }
 {
     if is_mark(s, at, b"PR") {
         return Mark::Pr;

@@ -5,8 +5,8 @@ ghost use Rattle.std.specs.Prelude.{◌≡◌, ◌+◌, ◌≤◌, length};
 ghost use Rattle.masks.specs.Outcome.{Answers};
 ghost use Rattle.book.specs.Format.{judge};
 ghost use Rattle.writing.specs.Wrote.{Room, Wrote};
-ghost use Rattle.printing.specs.Sheet.{line, field, judgedSheet, refusalLine, printing};
-ghost use Rattle.sheet.specs.Records.{listedCount, lineIn, linesIn, judgedOrders};
+ghost use Rattle.printing.specs.Sheet.{line, field, judged_sheet, refusal_line, printing};
+ghost use Rattle.sheet.specs.Records.{listed_count, line_in, lines_in, judged_orders};
 
 use crate::line::{put_field, put_fields, put_listing};
 use book::limits::{LONGEST, LONGEST_PLAN, LONGEST_SHEET, LONGEST_TABLE};
@@ -34,7 +34,7 @@ pub fn sheet(book: &[u8], out: &mut [u8]) -> Reply
 
 // The `C` lines and the `R` line, and what follows them; or the one line of a fault.
 fn put_sheet(text: &mut [u8; LONGEST_SHEET], book: &[u8]) -> usize
-    ensures { Wrote text.old text.new 0 result (judgedSheet (judge book.now)) }
+    ensures { Wrote text.old text.new 0 result (judged_sheet (judge book.now)) }
 {
     let mut table = [0u8; LONGEST_TABLE];
     let r = analyse(book, &mut table);
@@ -49,8 +49,8 @@ fn put_sheet(text: &mut [u8; LONGEST_SHEET], book: &[u8]) -> usize
 
 // The `Q` line and the `O` lines of a book, or that it has no orders.
 fn put_orders(text: &mut [u8], at: usize, book: &[u8]) -> usize
-    requires { Room text.old at (judgedOrders (judge book.now)) }
-    ensures { Wrote text.old text.new at result (judgedOrders (judge book.now)) }
+    requires { Room text.old at (judged_orders (judge book.now)) }
+    ensures { Wrote text.old text.new at result (judged_orders (judge book.now)) }
 {
     let mut image = [0u8; LONGEST_PLAN];
     let r = plan(book, &mut image);
@@ -66,8 +66,8 @@ fn put_orders(text: &mut [u8], at: usize, book: &[u8]) -> usize
 
 // "`X`, number, value"
 fn put_refusal(text: &mut [u8], at: usize, number: u32, value: u64) -> usize
-    requires { Room text.old at (refusalLine number value) }
-    ensures { Wrote text.old text.new at result (refusalLine number value) }
+    requires { Room text.old at (refusal_line number value) }
+    ensures { Wrote text.old text.new at result (refusal_line number value) }
 {
     let p = put_byte(text, at, b'X');
     let q = put_field(text, p, b" ", number as u64);
@@ -95,8 +95,8 @@ fn put_lines<'a>(
     trail: usize,
     image: &'a [u8],
 ) -> usize
-    requires { (lead + trail ≤ 2) × Room text.old at (linesIn letter lead none.now trail (length image.now) image.now) }
-    ensures { Wrote text.old text.new at result (linesIn letter lead none.now trail (length image.now) image.now) }
+    requires { (lead + trail ≤ 2) × Room text.old at (lines_in letter lead none.now trail (length image.now) image.now) }
+    ensures { Wrote text.old text.new at result (lines_in letter lead none.now trail (length image.now) image.now) }
 {
     let mut p = at;
     let mut i: usize = 0;
@@ -110,7 +110,7 @@ fn put_lines<'a>(
 // How many fields the first record of an image lists.
 fn listed(image: &[u8], lead: usize, trail: usize) -> usize
     requires { (lead + trail ≤ 2) × (3 + lead + trail ≤ length image.now) }
-    ensures { result ≡ listedCount lead trail image.now }
+    ensures { result ≡ listed_count lead trail image.now }
 {
     least(image[2 + lead] as usize, image.len() - (3 + lead + trail))
 }
@@ -125,8 +125,8 @@ fn put_line<'a>(
     trail: usize,
     image: &'a [u8],
 ) -> usize
-    requires { (lead + trail ≤ 2) × (3 + lead + trail ≤ length image.now) × Room text.old at (lineIn letter lead none.now trail image.now) }
-    ensures { Wrote text.old text.new at result (lineIn letter lead none.now trail image.now) }
+    requires { (lead + trail ≤ 2) × (3 + lead + trail ≤ length image.now) × Room text.old at (line_in letter lead none.now trail image.now) }
+    ensures { Wrote text.old text.new at result (line_in letter lead none.now trail image.now) }
 {
     let from = 3 + lead;
     let end = from + listed(image, lead, trail);

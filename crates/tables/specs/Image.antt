@@ -4,8 +4,8 @@ use Rattle.masks.specs.Lists.{joined}
 use Rattle.masks.specs.Constraint.{fitting}
 use Rattle.masks.specs.Outcome.{Outcome, done}
 use Rattle.book.specs.Book.{Book}
-use Rattle.book.specs.Answer.{onBook}
-use Rattle.book.specs.Table.{Table, entry, tableIn}
+use Rattle.book.specs.Answer.{on_book}
+use Rattle.book.specs.Table.{Table, entry, table_in}
 use Rattle.tables.specs.Table.{rounds, final}
 
 -- "CN, predicate, n, n masks", and W5: "one byte more at the end of each CN"
@@ -22,7 +22,7 @@ rows arities T n = joined (λ p. row p (entry T p) (count_of arities T p)) n
 
 -- the length of the image of a table that is held, whatever the arities
 abbrev pub LengthOf : ℕ → List ℕ → ℕ → Type 0
-LengthOf preds table r = (arities : List ℕ) → r ≡ length (rows arities (tableIn table preds) preds)
+LengthOf preds table r = (arities : List ℕ) → r ≡ length (rows arities (table_in table preds) preds)
 
 -- "Its image"
 unfoldable pub image : Book → List ℕ
@@ -33,4 +33,4 @@ abbrev pub analysed : Book → Outcome
 analysed B = done (rounds B) (image B)
 
 abbrev pub analysis : List ℕ → Outcome
-analysis s = onBook analysed s
+analysis s = on_book analysed s

@@ -3,10 +3,10 @@
 use Rattle.std.specs.Prelude.{Bool, true, false, cond, ◌&&◌, List, [], ◌∷◌, ℕ, zero, suc, ◌+◌, ◌^◌, eqb, length, get_or}
 use Rattle.std.proofs.Math.Option.{Option, none, some}
 use Rattle.masks.specs.Lists.{any, all, values}
-use Rattle.masks.specs.Constraint.{admits, trivial, written, minimise, sameMasks}
+use Rattle.masks.specs.Constraint.{admits, trivial, written, minimise, same_masks}
 use Rattle.book.specs.Book.{Mode, Clause, Book}
 use Rattle.book.specs.Table.{Table, entry}
-use Rattle.ordering.specs.Good.{goodClause}
+use Rattle.ordering.specs.Good.{good_clause}
 
 -- ---- what a book itself asks of a predicate, with clauses or without
 
@@ -26,11 +26,11 @@ declared ms p = asked (mode_of ms p)
 
 -- ---- "Table 0: each MO as given and minimised, all others trivial."
 
-unfoldable pub firstNeeds : List Mode → ℕ → Table
-firstNeeds ms n = values (λ p. minimise (declared ms p)) n
+unfoldable pub first_needs : List Mode → ℕ → Table
+first_needs ms n = values (λ p. minimise (declared ms p)) n
 
 unfoldable pub start : Book → Table
-start B = firstNeeds B.modes (length B.arities)
+start B = first_needs B.modes (length B.arities)
 
 -- ---- "Table k+1: each predicate with clauses gets exactly the patterns good under table k, the rest keep theirs."
 
@@ -45,7 +45,7 @@ defined cs p = any (λ c. eqb c.head.pred p) cs
 
 -- "A predicate's pattern is good when all its clauses are good under it."
 unfoldable pub good : Table → List Clause → ℕ → ℕ → Bool
-good T cs p a = all (λ c. goodClause T c a) (own cs p)
+good T cs p a = all (λ c. good_clause T c a) (own cs p)
 
 -- W6: "every round takes the joint of MO and clauses": a pattern that fits what is declared of p, and is good
 unfoldable pub gets : Book → Table → ℕ → ℕ → Bool
@@ -65,24 +65,24 @@ table B (suc k) = step B (table B k)
 
 -- ---- "The rounds reported are the least k at which table k+1 equals table k, and table k is the answer."
 
-abbrev pub sameTable : Table → Table → Bool
-sameTable [] [] = true
-sameTable [] (d ∷ U) = false
-sameTable (c ∷ T) [] = false
-sameTable (c ∷ T) (d ∷ U) = sameMasks c d && sameTable T U
+abbrev pub same_table : Table → Table → Bool
+same_table [] [] = true
+same_table [] (d ∷ U) = false
+same_table (c ∷ T) [] = false
+same_table (c ∷ T) (d ∷ U) = same_masks c d && same_table T U
 
 unfoldable pub settled : Book → ℕ → Bool
-settled B k = sameTable (table B (suc k)) (table B k)
+settled B k = same_table (table B (suc k)) (table B k)
 
 -- the sum of the first n values of a function
-abbrev pub sumBelow : (ℕ → ℕ) → ℕ → ℕ
-sumBelow f zero = 0
-sumBelow f (suc n) = sumBelow f n + f n
+abbrev pub sum_below : (ℕ → ℕ) → ℕ → ℕ
+sum_below f zero = 0
+sum_below f (suc n) = sum_below f n + f n
 
 -- W5: "the sum, over the predicates with clauses, of 2 to the power of the arity", which is all their patterns: a round that changes something takes one away,
 -- so there are no more rounds than this
-unfoldable pub roundsBound : Book → ℕ
-roundsBound B = sumBelow (λ p. cond (defined B.clauses p) (2 ^ get_or B.arities p 0) 0) (length B.arities)
+unfoldable pub rounds_bound : Book → ℕ
+rounds_bound B = sum_below (λ p. cond (defined B.clauses p) (2 ^ get_or B.arities p 0) 0) (length B.arities)
 
 -- the first j from k on at which the table is settled, looked for at d places
 unfoldable pub seek : Book → ℕ → ℕ → ℕ
@@ -90,7 +90,7 @@ seek B k zero = k
 seek B k (suc d) = let r : ℕ = seek B (suc k) d in cond (settled B k) k r
 
 unfoldable pub rounds : Book → ℕ
-rounds B = seek B 0 (roundsBound B)
+rounds B = seek B 0 (rounds_bound B)
 
 unfoldable pub final : Book → Table
 final B = table B (rounds B)

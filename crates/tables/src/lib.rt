@@ -3,11 +3,11 @@
 // constraint, in the other the patterns that it admits.
 ghost use Rattle.std.specs.Prelude.{◌≡◌, ◌≤◌};
 ghost use Rattle.masks.specs.Set.{members};
-ghost use Rattle.book.specs.Limits.{maxPredicates};
-ghost use Rattle.book.specs.Held.{modesOf};
-ghost use Rattle.book.specs.Table.{tableIn, Admitted, LowModes, LowArities};
+ghost use Rattle.book.specs.Limits.{max_predicates};
+ghost use Rattle.book.specs.Held.{modes_of};
+ghost use Rattle.book.specs.Table.{table_in, Admitted, LowModes, LowArities};
 ghost use Rattle.book.specs.Sets.{Cleared};
-ghost use Rattle.tables.specs.Table.{firstNeeds};
+ghost use Rattle.tables.specs.Table.{first_needs};
 ghost use Rattle.tables.specs.Image.{row, rows, LengthOf};
 ghost use Rattle.writing.specs.Wrote.{Room, Wrote};
 
@@ -28,8 +28,8 @@ pub fn first_table(
     table: &mut [u64; MAX_PREDICATES],
     admits: &mut [u64; MAX_PREDICATES],
 )
-    requires { (preds ≤ maxPredicates) × LowModes modes.now × Cleared table.old × Cleared admits.old }
-    ensures preds_after { tableIn table.new preds ≡ firstNeeds (modesOf modes.now maxPredicates) preds }
+    requires { (preds ≤ max_predicates) × LowModes modes.now × Cleared table.old × Cleared admits.old }
+    ensures preds_after { table_in table.new preds ≡ first_needs (modes_of modes.now max_predicates) preds }
     ensures admitted { Admitted table.new admits.new }
 {
     let masks: &mut [u64] = table;
@@ -51,7 +51,7 @@ pub fn first_table(
 
 // How many bytes the image of a table has.
 pub fn image_length(preds: u8, table: &[u64; MAX_PREDICATES]) -> usize
-    requires { preds ≤ maxPredicates }
+    requires { preds ≤ max_predicates }
     ensures { LengthOf preds table.now result }
 {
     let mut total: usize = 0;
@@ -71,8 +71,8 @@ pub fn put_image<'a>(
     table: &'a [u64; MAX_PREDICATES],
     admits: &'a [u64; MAX_PREDICATES],
 ) -> usize
-    requires { (preds ≤ maxPredicates) × LowArities preds arities.now × Admitted table.now admits.now × Room out.old 0 (rows arities.now (tableIn table.now preds) preds) }
-    ensures { Wrote out.old out.new 0 result (rows arities.now (tableIn table.now preds) preds) }
+    requires { (preds ≤ max_predicates) × LowArities preds arities.now × Admitted table.now admits.now × Room out.old 0 (rows arities.now (table_in table.now preds) preds) }
+    ensures { Wrote out.old out.new 0 result (rows arities.now (table_in table.now preds) preds) }
 {
     let mut at: usize = 0;
     let mut p: u8 = 0;

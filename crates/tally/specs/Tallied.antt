@@ -15,20 +15,20 @@ tallied t true = record { accepted = t.accepted + 1; turned_away = t.turned_away
 tallied t false = record { accepted = t.accepted; turned_away = t.turned_away + 1 }
 
 -- "kept up to date": one query after the other
-unfoldable pub tallyFrom : Tally → List Bool → Tally
-tallyFrom t [] = t
-tallyFrom t (accepted ∷ rest) = tallyFrom (tallied t accepted) rest
+unfoldable pub tally_from : Tally → List Bool → Tally
+tally_from t [] = t
+tally_from t (accepted ∷ rest) = tally_from (tallied t accepted) rest
 
 abbrev pub zeroes : Tally
 zeroes = record { accepted = 0; turned_away = 0 }
 
 -- "a call that succeeds starts it at zero, a refused one doesn't touch it": what a call with outcome o, lent so much room, leaves of the tally old; the list
 -- tells of each query whether it is accepted
-unfoldable pub leftTally : Outcome → ℕ → List Bool → Tally → Tally
-leftTally (refused number value) room each old = old
-leftTally (done rounds bytes) room each old = cond (ltb room (length bytes)) old (tallyFrom zeroes each)
+unfoldable pub left_tally : Outcome → ℕ → List Bool → Tally → Tally
+left_tally (refused number value) room each old = old
+left_tally (done rounds bytes) room each old = cond (ltb room (length bytes)) old (tally_from zeroes each)
 
 -- an operation with outcome o, lent the bytes out and the tally old, replies r and leaves the bytes after and the tally t
 pub record Tallies (o : Outcome) (each : List Bool) (out : List ℕ) (old : Tally) (r : Reply) (after : List ℕ) (t : Tally) : Type 0 where
   pub answers : Answers o out r after
-  pub tally· : t ≡ leftTally o (length out) each old
+  pub tally· : t ≡ left_tally o (length out) each old

@@ -1,10 +1,10 @@
 // How many bytes a book has, and its parts. Each part also says how many it has at most, so that the sums fit. A lent array is read through a
 // slice, whose length the proof knows.
 ghost use Rattle.std.specs.Prelude.{◌≡◌, ◌+◌, ◌*◌, min, ◌≤◌, length};
-ghost use Rattle.masks.specs.Limits.{maxArity, maxMasks};
-ghost use Rattle.book.specs.Limits.{maxPredicates, maxClauses, maxSubgoals};
-ghost use Rattle.book.specs.Encode.{run, encMode, encSubgoal, encClause, encode};
-ghost use Rattle.book.specs.Held.{clauseAt, clausesOf, HaveMode, modesOf, bookIn};
+ghost use Rattle.masks.specs.Limits.{max_arity, max_masks};
+ghost use Rattle.book.specs.Limits.{max_predicates, max_clauses, max_subgoals};
+ghost use Rattle.book.specs.Encode.{run, enc_mode, enc_subgoal, enc_clause, encode};
+ghost use Rattle.book.specs.Held.{clause_at, clauses_of, HaveMode, modes_of, book_in};
 
 use crate::put::least;
 use book::clause::{arguments, head_at, subgoal_at, subgoals_at};
@@ -21,7 +21,7 @@ pub fn book_length<'a>(
     rules: &'a [u64; RULES_SIZE],
 ) -> usize
     requires { HaveMode modes.now given }
-    ensures { result ≡ length (encode (bookIn preds arities.now modes.now clauses rules.now)) }
+    ensures { result ≡ length (encode (book_in preds arities.now modes.now clauses rules.now)) }
 {
     let bytes: &[u8] = arities;
     let n = least(preds as usize, bytes.len());
@@ -35,8 +35,8 @@ pub fn book_length<'a>(
 // Of each `MO`: its mark, its predicate, the number of its masks, and the masks.
 fn modes_length(modes: &[u8; MODES_SIZE], given: u64) -> usize
     requires { HaveMode modes.now given }
-    ensures value { result ≡ length (run encMode (modesOf modes.now maxPredicates)) }
-    ensures upper_bound { result ≤ maxPredicates * (4 + maxMasks) }
+    ensures value { result ≡ length (run enc_mode (modes_of modes.now max_predicates)) }
+    ensures upper_bound { result ≤ max_predicates * (4 + max_masks) }
 {
     let mut total: usize = 0;
     let mut rest = given;
@@ -51,8 +51,8 @@ fn modes_length(modes: &[u8; MODES_SIZE], given: u64) -> usize
 
 // Of each clause: its mark, its predicate, its arguments, and its subgoals.
 fn clauses_length(clauses: u8, rules: &[u64; RULES_SIZE]) -> usize
-    ensures value { result ≡ length (run encClause (clausesOf rules.now (min clauses maxClauses))) }
-    ensures upper_bound { result ≤ maxClauses * (3 + maxArity + maxSubgoals * (3 + maxArity)) }
+    ensures value { result ≡ length (run enc_clause (clauses_of rules.now (min clauses max_clauses))) }
+    ensures upper_bound { result ≤ max_clauses * (3 + max_arity + max_subgoals * (3 + max_arity)) }
 {
     let n = least(clauses as usize, MAX_CLAUSES);
     let mut total: usize = 0;
@@ -66,9 +66,9 @@ fn clauses_length(clauses: u8, rules: &[u64; RULES_SIZE]) -> usize
 
 // Of each subgoal: its mark, its predicate, and its arguments.
 fn body_length(rules: &[u64; RULES_SIZE], k: usize) -> usize
-    requires { k ≤ maxClauses }
-    ensures value { result ≡ length (run encSubgoal (clauseAt rules.now k).body) }
-    ensures upper_bound { result ≤ maxSubgoals * (3 + maxArity) }
+    requires { k ≤ max_clauses }
+    ensures value { result ≡ length (run enc_subgoal (clause_at rules.now k).body) }
+    ensures upper_bound { result ≤ max_subgoals * (3 + max_arity) }
 {
     let n = subgoals_at(rules, k);
     let mut total: usize = 0;

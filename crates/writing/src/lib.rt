@@ -4,11 +4,11 @@ pub mod length;
 pub mod put;
 
 ghost use Rattle.std.specs.Prelude.{min, ◌≤◌, length, take};
-ghost use Rattle.masks.specs.Limits.{maxMasks};
+ghost use Rattle.masks.specs.Limits.{max_masks};
 ghost use Rattle.masks.specs.Outcome.{Answers, done};
-ghost use Rattle.book.specs.Limits.{maxClauses, maxPredicates};
-ghost use Rattle.book.specs.Encode.{run, encPredicate, encMode, encHead, encSubgoal, encClause, encode};
-ghost use Rattle.book.specs.Held.{headIn, call_in, clauseAt, clausesOf, HaveMode, modesOf, bookIn};
+ghost use Rattle.book.specs.Limits.{max_clauses, max_predicates};
+ghost use Rattle.book.specs.Encode.{run, enc_predicate, enc_mode, enc_head, enc_subgoal, enc_clause, encode};
+ghost use Rattle.book.specs.Held.{head_in, call_in, clause_at, clauses_of, HaveMode, modes_of, book_in};
 ghost use Rattle.writing.specs.Wrote.{Room, Wrote};
 
 use crate::length::book_length;
@@ -27,7 +27,7 @@ pub fn write_book<'a>(
     rules: &'a [u64; RULES_SIZE],
     out: &mut [u8],
 ) -> Reply
-    ensures { Answers (done 0 (encode (bookIn preds arities.now modes.now clauses rules.now))) out.old result out.new }
+    ensures { Answers (done 0 (encode (book_in preds arities.now modes.now clauses rules.now))) out.old result out.new }
 {
     write_given(preds, arities, modes, with_mode(modes), clauses, rules, out)
 }
@@ -43,7 +43,7 @@ pub fn write_given<'a>(
     out: &mut [u8],
 ) -> Reply
     requires { HaveMode modes.now given }
-    ensures { Answers (done 0 (encode (bookIn preds arities.now modes.now clauses rules.now))) out.old result out.new }
+    ensures { Answers (done 0 (encode (book_in preds arities.now modes.now clauses rules.now))) out.old result out.new }
 {
     let n = book_length(preds, arities, modes, given, clauses, rules);
     let r = Reply::in_room(n, 0, out.len());
@@ -63,8 +63,8 @@ fn put_book<'a>(
     rules: &'a [u64; RULES_SIZE],
     out: &mut [u8],
 ) -> usize
-    requires { HaveMode modes.now given × Room out.old 0 (encode (bookIn preds arities.now modes.now clauses rules.now)) }
-    ensures { Wrote out.old out.new 0 result (encode (bookIn preds arities.now modes.now clauses rules.now)) }
+    requires { HaveMode modes.now given × Room out.old 0 (encode (book_in preds arities.now modes.now clauses rules.now)) }
+    ensures { Wrote out.old out.new 0 result (encode (book_in preds arities.now modes.now clauses rules.now)) }
 {
     let a = put_predicates(out, 0, preds, arities);
     let b = put_modes(out, a, modes, given);
@@ -75,8 +75,8 @@ fn put_book<'a>(
 
 // "`PR`: arity", for each predicate.
 fn put_predicates(out: &mut [u8], at: usize, preds: u8, arities: &[u8; MAX_PREDICATES]) -> usize
-    requires { Room out.old at (run encPredicate (take preds arities.now)) }
-    ensures { Wrote out.old out.new at result (run encPredicate (take preds arities.now)) }
+    requires { Room out.old at (run enc_predicate (take preds arities.now)) }
+    ensures { Wrote out.old out.new at result (run enc_predicate (take preds arities.now)) }
 {
     let bytes: &[u8] = arities;
     let n = least(preds as usize, MAX_PREDICATES);
@@ -92,8 +92,8 @@ fn put_predicates(out: &mut [u8], at: usize, preds: u8, arities: &[u8; MAX_PREDI
 
 // The `MO` of each predicate that has one, rising.
 fn put_modes(out: &mut [u8], at: usize, modes: &[u8; MODES_SIZE], given: u64) -> usize
-    requires { HaveMode modes.now given × Room out.old at (run encMode (modesOf modes.now maxPredicates)) }
-    ensures { Wrote out.old out.new at result (run encMode (modesOf modes.now maxPredicates)) }
+    requires { HaveMode modes.now given × Room out.old at (run enc_mode (modes_of modes.now max_predicates)) }
+    ensures { Wrote out.old out.new at result (run enc_mode (modes_of modes.now max_predicates)) }
 {
     let mut q = at;
     let mut rest = given;
@@ -107,8 +107,8 @@ fn put_modes(out: &mut [u8], at: usize, modes: &[u8; MODES_SIZE], given: u64) ->
 
 // "`MO`: predicate, n, n masks".
 fn put_mode(out: &mut [u8], at: usize, p: u8, masks: &[u8]) -> usize
-    requires { (length masks.now ≤ maxMasks) × Room out.old at (encMode (record { pred = p; masks = masks.now })) }
-    ensures { Wrote out.old out.new at result (encMode (record { pred = p; masks = masks.now })) }
+    requires { (length masks.now ≤ max_masks) × Room out.old at (enc_mode (record { pred = p; masks = masks.now })) }
+    ensures { Wrote out.old out.new at result (enc_mode (record { pred = p; masks = masks.now })) }
 {
     let q = put_mark(out, at, b"MO");
     let r = put_byte(out, q, p);
@@ -118,8 +118,8 @@ fn put_mode(out: &mut [u8], at: usize, p: u8, masks: &[u8]) -> usize
 
 // Each clause with its subgoals.
 fn put_clauses(out: &mut [u8], at: usize, clauses: u8, rules: &[u64; RULES_SIZE]) -> usize
-    requires { Room out.old at (run encClause (clausesOf rules.now (min clauses maxClauses))) }
-    ensures { Wrote out.old out.new at result (run encClause (clausesOf rules.now (min clauses maxClauses))) }
+    requires { Room out.old at (run enc_clause (clauses_of rules.now (min clauses max_clauses))) }
+    ensures { Wrote out.old out.new at result (run enc_clause (clauses_of rules.now (min clauses max_clauses))) }
 {
     let n = least(clauses as usize, MAX_CLAUSES);
     let mut p = at;
@@ -133,8 +133,8 @@ fn put_clauses(out: &mut [u8], at: usize, clauses: u8, rules: &[u64; RULES_SIZE]
 
 // "`CL`: predicate, one argument per position", then its subgoals.
 fn put_clause(out: &mut [u8], at: usize, rules: &[u64; RULES_SIZE], k: usize) -> usize
-    requires { (k ≤ maxClauses) × Room out.old at (encClause (clauseAt rules.now k)) }
-    ensures { Wrote out.old out.new at result (encClause (clauseAt rules.now k)) }
+    requires { (k ≤ max_clauses) × Room out.old at (enc_clause (clause_at rules.now k)) }
+    ensures { Wrote out.old out.new at result (enc_clause (clause_at rules.now k)) }
 {
     let p = put_mark(out, at, b"CL");
     let q = put_call(out, p, head_at(rules, k));
@@ -143,8 +143,8 @@ fn put_clause(out: &mut [u8], at: usize, rules: &[u64; RULES_SIZE], k: usize) ->
 
 // The subgoals of clause k.
 fn put_body(out: &mut [u8], at: usize, rules: &[u64; RULES_SIZE], k: usize) -> usize
-    requires { (k ≤ maxClauses) × Room out.old at (run encSubgoal (clauseAt rules.now k).body) }
-    ensures { Wrote out.old out.new at result (run encSubgoal (clauseAt rules.now k).body) }
+    requires { (k ≤ max_clauses) × Room out.old at (run enc_subgoal (clause_at rules.now k).body) }
+    ensures { Wrote out.old out.new at result (run enc_subgoal (clause_at rules.now k).body) }
 {
     let n = subgoals_at(rules, k);
     let mut p = at;
@@ -158,8 +158,8 @@ fn put_body(out: &mut [u8], at: usize, rules: &[u64; RULES_SIZE], k: usize) -> u
 
 // "`SG`", or "`NG`", with the same fields.
 fn put_subgoal(out: &mut [u8], at: usize, call: u64) -> usize
-    requires { Room out.old at (encSubgoal (call_in call)) }
-    ensures { Wrote out.old out.new at result (encSubgoal (call_in call)) }
+    requires { Room out.old at (enc_subgoal (call_in call)) }
+    ensures { Wrote out.old out.new at result (enc_subgoal (call_in call)) }
 {
     if negated(call) {
         let p = put_mark(out, at, b"NG");
@@ -171,8 +171,8 @@ fn put_subgoal(out: &mut [u8], at: usize, call: u64) -> usize
 
 // "predicate, one argument per position".
 fn put_call(out: &mut [u8], at: usize, call: u64) -> usize
-    requires { Room out.old at (encHead (headIn call)) }
-    ensures { Wrote out.old out.new at result (encHead (headIn call)) }
+    requires { Room out.old at (enc_head (head_in call)) }
+    ensures { Wrote out.old out.new at result (enc_head (head_in call)) }
 {
     let n = arguments(call);
     let mut p = put_byte(out, at, predicate(call));

@@ -9,17 +9,17 @@ use native.Mathlib.Nat.{mul-suc}
 use lib.ListN.{length, get_or, take, length-append}
 use lib.Seq.{length-take-le}
 use borrow.Author.Tests.{leb-true}
-use Rattle.masks.specs.Limits.{maxArity, maxMasks}
+use Rattle.masks.specs.Limits.{max_arity, max_masks}
 use Rattle.masks.specs.Lists.{all}
 use Rattle.masks.proofs.Laws.Logic.{and_left, and_right}
-use Rattle.book.specs.Limits.{longest, shortest, maxPredicates, maxClauses, maxSubgoals}
+use Rattle.book.specs.Limits.{longest, shortest, max_predicates, max_clauses, max_subgoals}
 use Rattle.book.specs.Book.{Call, Mode, Clause, Book}
 use Rattle.book.specs.Format.{spelling, allows, Judged, fault, book, judge}
-use Rattle.book.specs.Encode.{run, encPredicate, encMode, encSubgoal, encClause, encode, callFits, modeFits, clauseFits, WellFormed}
+use Rattle.book.specs.Encode.{run, enc_predicate, enc_mode, enc_subgoal, enc_clause, encode, call_fits, mode_fits, clause_fits, WellFormed}
 use Rattle.book.specs.declared.fault.Fault.{Fault}
 use Rattle.book.specs.declared.mark.Mark.TheVariants.{Sg, Ng}
 use Rattle.book.specs.declared.range.Range.TheVariants.{AtMost}
-use Rattle.book.proofs.Laws.Trip.{head-size, call-size, mode-few, clause-head, clause-few, clause-goals, rising, judge-inv}
+use Rattle.book.proofs.Laws.Trip.{head_size, call_size, mode_few, clause_head, clause_few, clause_goals, rising, judge_inv}
 
 -- ---- the length of records
 
@@ -34,78 +34,78 @@ run_length t f k h (x ∷ xs) e =
     let d : k * suc (length xs) ≡ k * length xs + k = mul-suc k (length xs) in
     omega arith
 
-pub arities-at : (ar : List ℕ) → all (allows (AtMost maxArity)) ar ≡ true → (i : ℕ) → get_or ar i 0 ≤ maxArity
+pub arities_at : (ar : List ℕ) → all (allows (AtMost max_arity)) ar ≡ true → (i : ℕ) → get_or ar i 0 ≤ max_arity
 unfolding allows
-arities-at [] t i = omega arith
-arities-at (x ∷ ar) t zero = leb-true _ _ (and_left (allows (AtMost maxArity) x) (all (allows (AtMost maxArity)) ar) t)
-arities-at (x ∷ ar) t (suc i) = arities-at ar (and_right (allows (AtMost maxArity) x) (all (allows (AtMost maxArity)) ar) t) i
+arities_at [] t i = omega arith
+arities_at (x ∷ ar) t zero = leb-true _ _ (and_left (allows (AtMost max_arity) x) (all (allows (AtMost max_arity)) ar) t)
+arities_at (x ∷ ar) t (suc i) = arities_at ar (and_right (allows (AtMost max_arity) x) (all (allows (AtMost max_arity)) ar) t) i
 
 -- of either kind
-pub subgoal-size : (c : Call) → length (encSubgoal c) ≡ 3 + length c.args
-subgoal-size c = go c.negated
+pub subgoal_size : (c : Call) → length (enc_subgoal c) ≡ 3 + length c.args
+subgoal_size c = go c.negated
   where
     go : (n : Bool) → length (cond n (spelling Ng ++ (c.pred ∷ c.args)) (spelling Sg ++ (c.pred ∷ c.args))) ≡ 3 + length c.args
     go true = omega arith
     go false = omega arith
 
-module _ (ar : List ℕ) (arity : (i : ℕ) → get_or ar i 0 ≤ maxArity) where
-  subgoal-length : (c : Call) → callFits ar c ≡ true → length (encSubgoal c) ≤ 9
-  subgoal-length c t =
-      let n = subgoal-size c in
-      let a = call-size ar c t in
+module _ (ar : List ℕ) (arity : (i : ℕ) → get_or ar i 0 ≤ max_arity) where
+  subgoal_length : (c : Call) → call_fits ar c ≡ true → length (enc_subgoal c) ≤ 9
+  subgoal_length c t =
+      let n = subgoal_size c in
+      let a = call_size ar c t in
       let b = arity c.pred in
       omega arith
 
-  clause-length : (c : Clause) → clauseFits ar c ≡ true → length (encClause c) ≤ 81
-  clause-length c t =
-      let a = head-size ar c.head (clause-head ar c t) in
+  clause_length : (c : Clause) → clause_fits ar c ≡ true → length (enc_clause c) ≤ 81
+  clause_length c t =
+      let a = head_size ar c.head (clause_head ar c t) in
       let b = arity c.head.pred in
-      let d = run_length (callFits ar) encSubgoal 9 subgoal-length c.body (clause-goals ar c t) in
-      let e = clause-few ar c t in
-      let f = length-append c.head.args (run encSubgoal c.body) in
+      let d = run_length (call_fits ar) enc_subgoal 9 subgoal_length c.body (clause_goals ar c t) in
+      let e = clause_few ar c t in
+      let f = length-append c.head.args (run enc_subgoal c.body) in
       omega arith
 
-mode-length : (ar : List ℕ) (m : Mode) → modeFits ar m ≡ true → length (encMode m) ≤ 24
+mode_length : (ar : List ℕ) (m : Mode) → mode_fits ar m ≡ true → length (enc_mode m) ≤ 24
 unfolding allows
-mode-length ar m t = let a : length m.masks ≤ maxMasks = leb-true _ _ (mode-few ar m t) in omega arith
+mode_length ar m t = let a : length m.masks ≤ max_masks = leb-true _ _ (mode_few ar m t) in omega arith
 
 -- ---- the book
 
-pub encode-length : (b : Book) → WellFormed b → (shortest ≤ length (encode b)) × (length (encode b) ≤ longest)
+pub encode_length : (b : Book) → WellFormed b → (shortest ≤ length (encode b)) × (length (encode b) ≤ longest)
 unfolding encode
-encode-length b w =
+encode_length b w =
     let ar = b.arities in
     let ms = b.modes in
     let cs = b.clauses in
-    let low = arities-at ar w.aritiesFit in
-    let p = run_length (allows (AtMost maxArity)) encPredicate 3 (λ a t. omega arith) ar w.aritiesFit in
-    let m = run_length (modeFits ar) encMode 24 (mode-length ar) ms w.modesFit in
-    let c = run_length (clauseFits ar) encClause 81 (clause-length ar low) cs w.clausesFit in
-    let q = run_length (callFits ar) encSubgoal 9 (subgoal-length ar low) b.query w.queryFits in
-    let few : length ar ≤ maxPredicates = leb-true _ _ w.fewPredicates in
-    let r = rising ar 0 ms (omega arith) w.modesFit w.modesRise in
-    let owned : length cs ≤ maxClauses = leb-true _ _ w.fewClauses in
-    let asked : length b.query ≤ maxSubgoals = leb-true _ _ w.fewAsked in
-    let e1 = length-append (run encPredicate ar) (run encMode ms ++ (run encClause cs ++ (81 ∷ 85 ∷ run encSubgoal b.query))) in
-    let e2 = length-append (run encMode ms) (run encClause cs ++ (81 ∷ 85 ∷ run encSubgoal b.query)) in
-    let e3 = length-append (run encClause cs) (81 ∷ 85 ∷ run encSubgoal b.query) in
+    let low = arities_at ar w.arities_fit in
+    let p = run_length (allows (AtMost max_arity)) enc_predicate 3 (λ a t. omega arith) ar w.arities_fit in
+    let m = run_length (mode_fits ar) enc_mode 24 (mode_length ar) ms w.modes_fit in
+    let c = run_length (clause_fits ar) enc_clause 81 (clause_length ar low) cs w.clauses_fit in
+    let q = run_length (call_fits ar) enc_subgoal 9 (subgoal_length ar low) b.query w.query_fits in
+    let few : length ar ≤ max_predicates = leb-true _ _ w.few_predicates in
+    let r = rising ar 0 ms (omega arith) w.modes_fit w.modes_rise in
+    let owned : length cs ≤ max_clauses = leb-true _ _ w.few_clauses in
+    let asked : length b.query ≤ max_subgoals = leb-true _ _ w.few_asked in
+    let e1 = length-append (run enc_predicate ar) (run enc_mode ms ++ (run enc_clause cs ++ (81 ∷ 85 ∷ run enc_subgoal b.query))) in
+    let e2 = length-append (run enc_mode ms) (run enc_clause cs ++ (81 ∷ 85 ∷ run enc_subgoal b.query)) in
+    let e3 = length-append (run enc_clause cs) (81 ∷ 85 ∷ run enc_subgoal b.query) in
     (omega arith, omega arith)
 
 -- W6: "The longest book grows to 6,986 bytes"; document 01: "the shortest 2"
-pub judge-length : (s : List ℕ) (b : Book) → judge s ≡ book b → (shortest ≤ length s) × (length s ≤ longest)
-judge-length s b e =
-    let w = judge-inv s b e in
-    let l = encode-length b w.1 in
+pub judge_length : (s : List ℕ) (b : Book) → judge s ≡ book b → (shortest ≤ length s) × (length s ≤ longest)
+judge_length s b e =
+    let w = judge_inv s b e in
+    let l = encode_length b w.1 in
     let z = ap length w.0 in
     (omega arith, omega arith)
 
 -- "which always hold a fault": above 6,986 bytes, and of them the first 6,987
-pub long-faulty : (s : List ℕ) → longest < length s → (f : Fault) × (k : ℕ) × (judge s ≡ fault f k)
-long-faulty s h = go (judge s) refl
+pub long_faulty : (s : List ℕ) → longest < length s → (f : Fault) × (k : ℕ) × (judge s ≡ fault f k)
+long_faulty s h = go (judge s) refl
   where
     go : (j : Judged) → judge s ≡ j → (f : Fault) × (k : ℕ) × (judge s ≡ fault f k)
     go (fault f k) e = (f, k, e)
-    go (book b) e = let l = judge-length s b e in absurd (omega arith)
+    go (book b) e = let l = judge_length s b e in absurd (omega arith)
 
-pub cut-faulty : (s : List ℕ) → longest < length s → (f : Fault) × (k : ℕ) × (judge (take (suc longest) s) ≡ fault f k)
-cut-faulty s h = long-faulty (take (suc longest) s) (let l : length (take (suc longest) s) ≡ suc longest = length-take-le (suc longest) s h in omega arith)
+pub cut_faulty : (s : List ℕ) → longest < length s → (f : Fault) × (k : ℕ) × (judge (take (suc longest) s) ≡ fault f k)
+cut_faulty s h = long_faulty (take (suc longest) s) (let l : length (take (suc longest) s) ≡ suc longest = length-take-le (suc longest) s h in omega arith)

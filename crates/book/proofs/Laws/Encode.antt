@@ -6,10 +6,10 @@ use Rattle.masks.specs.Lists.{joined}
 use Rattle.book.specs.Encode.{run}
 
 module _ {A : Type 0} (f : A → List ℕ) where
-  pub run-append : (xs ys : List A) → run f (xs ++ ys) ≡ run f xs ++ run f ys
-  run-append [] ys = refl
-  run-append (x ∷ xs) ys = ap (λ (l : List ℕ). f x ++ l) (run-append xs ys) ∙ sym (append_assoc (f x) (run f xs) (run f ys))
+  pub run_append : (xs ys : List A) → run f (xs ++ ys) ≡ run f xs ++ run f ys
+  run_append [] ys = refl
+  run_append (x ∷ xs) ys = ap (λ (l : List ℕ). f x ++ l) (run_append xs ys) ∙ sym (append_assoc (f x) (run f xs) (run f ys))
 
-  pub run-joined : (g : ℕ → List A) (n : ℕ) → run f (joined g n) ≡ joined (λ k. run f (g k)) n
-  run-joined g zero = refl
-  run-joined g (suc n) = run-append (joined g n) (g n) ∙ ap (λ (l : List ℕ). l ++ run f (g n)) (run-joined g n)
+  pub run_joined : (g : ℕ → List A) (n : ℕ) → run f (joined g n) ≡ joined (λ k. run f (g k)) n
+  run_joined g zero = refl
+  run_joined g (suc n) = run_append (joined g n) (g n) ∙ ap (λ (l : List ℕ). l ++ run f (g n)) (run_joined g n)

@@ -2,10 +2,10 @@
 use mathlib.Core.Path.{◌≡◌, refl}
 use mathlib.Core.Bool.{false}
 use lib.ListN.{length, replicate}
-use Rattle.masks.specs.Limits.{maxArity, maxMasks}
+use Rattle.masks.specs.Limits.{max_arity, max_masks}
 use Rattle.masks.specs.Lists.{values}
-use Rattle.book.specs.Limits.{maxPredicates, maxClauses, maxSubgoals, longest}
-use Rattle.book.specs.Book.{Head, Book, subgoalOf}
+use Rattle.book.specs.Limits.{max_predicates, max_clauses, max_subgoals, longest}
+use Rattle.book.specs.Book.{Head, Book, subgoal_of}
 use Rattle.book.specs.Format.{allows}
 use Rattle.book.specs.Encode.{encode, WellFormed}
 
@@ -15,31 +15,31 @@ compute = tt
 
 -- the last predicate, of six positions
 abbrev full : Head
-full = record { pred = 63; args = replicate maxArity 0 }
+full = record { pred = 63; args = replicate max_arity 0 }
 
-abbrev pub longest-book : Book
-longest-book =
+abbrev pub longest_book : Book
+longest_book =
     record {
-      arities = replicate maxPredicates maxArity;
-      modes = values (λ p. record { pred = p; masks = replicate maxMasks 0 }) maxPredicates;
-      clauses = replicate maxClauses (record { head = full; body = replicate maxSubgoals (subgoalOf false full) });
-      query = replicate maxSubgoals (subgoalOf false full);
+      arities = replicate max_predicates max_arity;
+      modes = values (λ p. record { pred = p; masks = replicate max_masks 0 }) max_predicates;
+      clauses = replicate max_clauses (record { head = full; body = replicate max_subgoals (subgoal_of false full) });
+      query = replicate max_subgoals (subgoal_of false full);
     }
 
-pub longest-well : WellFormed longest-book
+pub longest_well : WellFormed longest_book
 unfolding compute
-longest-well =
+longest_well =
     record {
-      fewPredicates = refl;
-      aritiesFit = refl;
-      modesFit = refl;
-      modesRise = refl;
-      fewClauses = refl;
-      clausesFit = refl;
-      fewAsked = refl;
-      queryFits = refl;
+      few_predicates = refl;
+      arities_fit = refl;
+      modes_fit = refl;
+      modes_rise = refl;
+      few_clauses = refl;
+      clauses_fit = refl;
+      few_asked = refl;
+      query_fits = refl;
     }
 
-pub longest-length : length (encode longest-book) ≡ longest
+pub longest_length : length (encode longest_book) ≡ longest
 unfolding compute
-longest-length = refl
+longest_length = refl

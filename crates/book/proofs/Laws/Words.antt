@@ -17,24 +17,24 @@ unfoldable pub word_of : List ℕ → ℕ
 word_of [] = 0
 word_of (x ∷ l) = word_of l * 256 + x
 
-byteOf-zero : (i : ℕ) → byte_of 0 i ≡ 0
-byteOf-zero i = ap (λ (x : ℕ). x % 256) (zero-div (2 ^ (8 * i)))
+byte_of_zero : (i : ℕ) → byte_of 0 i ≡ 0
+byte_of_zero i = ap (λ (x : ℕ). x % 256) (zero-div (2 ^ (8 * i)))
 
-byteOf-first : (w : ℕ) {x : ℕ} → x < 256 → byte_of (w * 256 + x) 0 ≡ x
-byteOf-first w {x} h = ap (λ (y : ℕ). y % 256) (div-one (w * 256 + x)) ∙ low w 8 h
+byte_of_first : (w : ℕ) {x : ℕ} → x < 256 → byte_of (w * 256 + x) 0 ≡ x
+byte_of_first w {x} h = ap (λ (y : ℕ). y % 256) (div-one (w * 256 + x)) ∙ low w 8 h
 
-byteOf-next : (w : ℕ) {x : ℕ} → x < 256 → (i : ℕ) → byte_of (w * 256 + x) (suc i) ≡ byte_of w i
-byteOf-next w {x} h i =
+byte_of_next : (w : ℕ) {x : ℕ} → x < 256 → (i : ℕ) → byte_of (w * 256 + x) (suc i) ≡ byte_of w i
+byte_of_next w {x} h i =
     let e : 8 * suc i ≡ 8 + 8 * i = omega arith in
     ap (λ (k : ℕ). (w * 256 + x) / 2 ^ k % 256) e
     ∙ ap (λ (y : ℕ). y % 256) (sym (shr-shr (w * 256 + x) 8 (8 * i)))
     ∙ ap (λ (y : ℕ). y / 2 ^ (8 * i) % 256) (high w 8 h)
 
 -- its bytes are those that it is made of
-pub byteOf-wordOf : (l : List ℕ) → are_bytes l ≡ true → (i : ℕ) → byte_of (word_of l) i ≡ get_or l i 0
+pub byte_of_word_of : (l : List ℕ) → are_bytes l ≡ true → (i : ℕ) → byte_of (word_of l) i ≡ get_or l i 0
 unfolding word_of
-byteOf-wordOf [] b i = byteOf-zero i
-byteOf-wordOf (x ∷ l) b zero = byteOf-first (word_of l) (ltb-true x 256 (and_left (ltb x 256) (are_bytes l) b))
-byteOf-wordOf (x ∷ l) b (suc i) =
-    byteOf-next (word_of l) (ltb-true x 256 (and_left (ltb x 256) (are_bytes l) b)) i
-    ∙ byteOf-wordOf l (and_right (ltb x 256) (are_bytes l) b) i
+byte_of_word_of [] b i = byte_of_zero i
+byte_of_word_of (x ∷ l) b zero = byte_of_first (word_of l) (ltb-true x 256 (and_left (ltb x 256) (are_bytes l) b))
+byte_of_word_of (x ∷ l) b (suc i) =
+    byte_of_next (word_of l) (ltb-true x 256 (and_left (ltb x 256) (are_bytes l) b)) i
+    ∙ byte_of_word_of l (and_right (ltb x 256) (are_bytes l) b) i

@@ -8,22 +8,22 @@ use lib.Dec.{ltb}
 use lib.ListN.{length}
 use Rattle.book.specs.Book.{Mode, Clause, Book}
 use Rattle.book.specs.Format.{allows}
-use Rattle.book.specs.Encode.{modeFits, WellFormed}
+use Rattle.book.specs.Encode.{mode_fits, WellFormed}
 use Rattle.book.specs.Table.{Table, entry}
 use Rattle.tables.specs.Table.{mode_of, final}
-use Rattle.closing.specs.Close.{keptClauses, closedMode, modeWith, closedModes, closeOver}
-use Rattle.masks.proofs.Laws.Logic.{byBool}
-use Rattle.masks.proofs.Laws.Lists.{all-mono, joined-cong}
-use Rattle.book.proofs.Laws.Trip.{mode-known}
-use Rattle.closing.proofs.Laws.Modes.{made-back}
-use Rattle.closing.proofs.Laws.Final.{mode-close, final-close}
+use Rattle.closing.specs.Close.{kept_clauses, closed_mode, mode_with, closed_modes, close_over}
+use Rattle.masks.proofs.Laws.Logic.{by_bool}
+use Rattle.masks.proofs.Laws.Lists.{all_mono, joined_cong}
+use Rattle.book.proofs.Laws.Trip.{mode_known}
+use Rattle.closing.proofs.Laws.Modes.{made_back}
+use Rattle.closing.proofs.Laws.Final.{mode_close, final_close}
 
 -- the set of the predicates of either
 abbrev pub either : (ℕ → Bool) → (ℕ → Bool) → ℕ → Bool
 either S R p = S p || R p
 
-pub close-cong : (S R : ℕ → Bool) → ((p : ℕ) → S p ≡ R p) → (B : Book) → closeOver S B ≡ closeOver R B
-close-cong S R h B = ap (λ (X : ℕ → Bool). closeOver X B) (fun_ext h)
+pub close_cong : (S R : ℕ → Bool) → ((p : ℕ) → S p ≡ R p) → (B : Book) → close_over S B ≡ close_over R B
+close_cong S R h B = ap (λ (X : ℕ → Bool). close_over X B) (fun_ext h)
 
 -- a book with other modes and clauses
 abbrev changed : Book → List Mode → List Clause → Book
@@ -31,20 +31,20 @@ changed B ms cs = record { arities = B.arities; modes = ms; clauses = cs; query 
 
 -- ---- over one set and then over another
 
-kept-kept : (S R : ℕ → Bool) (cs : List Clause) → keptClauses R (keptClauses S cs) ≡ keptClauses (either S R) cs
-unfolding keptClauses
-kept-kept S R [] = refl
-kept-kept S R (c ∷ cs) =
-    byBool (S c.head.pred)
-    (λ t. rw t (kept-kept S R cs))
-    (λ t. rw t (ap (λ (l : List Clause). cond (R c.head.pred) l (c ∷ l)) (kept-kept S R cs)))
+kept_kept : (S R : ℕ → Bool) (cs : List Clause) → kept_clauses R (kept_clauses S cs) ≡ kept_clauses (either S R) cs
+unfolding kept_clauses
+kept_kept S R [] = refl
+kept_kept S R (c ∷ cs) =
+    by_bool (S c.head.pred)
+    (λ t. rw t (kept_kept S R cs))
+    (λ t. rw t (ap (λ (l : List Clause). cond (R c.head.pred) l (c ∷ l)) (kept_kept S R cs)))
 
 module _ (S R : ℕ → Bool) (B : Book) (w : WellFormed B) where
-  closed-twice : (p : ℕ) → p < length B.arities
-      → closedMode R (final (closeOver S B)) (closeOver S B).modes p ≡ closedMode (either S R) (final B) B.modes p
-  unfolding closedMode
-  closed-twice p h =
-      ap₂ (λ (T : Table) (o : Option (List ℕ)). cond (R p) (some (entry T p)) o) (final-close S B w) (mode-close S B p h)
+  closed_twice : (p : ℕ) → p < length B.arities
+      → closed_mode R (final (close_over S B)) (close_over S B).modes p ≡ closed_mode (either S R) (final B) B.modes p
+  unfolding closed_mode
+  closed_twice p h =
+      ap₂ (λ (T : Table) (o : Option (List ℕ)). cond (R p) (some (entry T p)) o) (final_close S B w) (mode_close S B p h)
       ∙ go (S p) (R p) (some (entry (final B) p)) (mode_of B.modes p)
     where
       go : (s r : Bool) (x y : Option (List ℕ)) → cond r x (cond s x y) ≡ cond (s || r) x y
@@ -52,32 +52,32 @@ module _ (S R : ℕ → Bool) (B : Book) (w : WellFormed B) where
       go true false x y = refl
       go false r x y = refl
 
-  pub close-close : closeOver R (closeOver S B) ≡ closeOver (either S R) B
-  unfolding closeOver closedModes
-  close-close =
+  pub close_close : close_over R (close_over S B) ≡ close_over (either S R) B
+  unfolding close_over closed_modes
+  close_close =
       ap₂ (changed B)
-      (joined-cong (λ p. modeWith p (closedMode R (final (closeOver S B)) (closeOver S B).modes p))
-      (λ p. modeWith p (closedMode (either S R) (final B) B.modes p)) (length B.arities) (λ p h. ap (modeWith p) (closed-twice p h)))
-      (kept-kept S R B.clauses)
+      (joined_cong (λ p. mode_with p (closed_mode R (final (close_over S B)) (close_over S B).modes p))
+      (λ p. mode_with p (closed_mode (either S R) (final B) B.modes p)) (length B.arities) (λ p h. ap (mode_with p) (closed_twice p h)))
+      (kept_kept S R B.clauses)
 
 -- ---- over none
 
 module _ (S : ℕ → Bool) (none_in : (p : ℕ) → S p ≡ false) where
-  kept-all : (cs : List Clause) → keptClauses S cs ≡ cs
-  unfolding keptClauses
-  kept-all [] = refl
-  kept-all (c ∷ cs) = rw (none_in c.head.pred) (ap {B = List Clause} (λ (l : List Clause). c ∷ l) (kept-all cs))
+  kept_all : (cs : List Clause) → kept_clauses S cs ≡ cs
+  unfolding kept_clauses
+  kept_all [] = refl
+  kept_all (c ∷ cs) = rw (none_in c.head.pred) (ap {B = List Clause} (λ (l : List Clause). c ∷ l) (kept_all cs))
 
-  closed_none : (T : Table) (ms : List Mode) (p : ℕ) → closedMode S T ms p ≡ mode_of ms p
-  unfolding closedMode
+  closed_none : (T : Table) (ms : List Mode) (p : ℕ) → closed_mode S T ms p ≡ mode_of ms p
+  unfolding closed_mode
   closed_none T ms p = rw (none_in p)
 
-  pub close-none : (B : Book) → WellFormed B → closeOver S B ≡ B
-  unfolding closeOver closedModes allows
-  close-none B w =
+  pub close_none : (B : Book) → WellFormed B → close_over S B ≡ B
+  unfolding close_over closed_modes allows
+  close_none B w =
       ap₂ (changed B)
-      (joined-cong (λ p. modeWith p (closedMode S (final B) B.modes p)) (λ p. modeWith p (mode_of B.modes p)) (length B.arities)
-      (λ p h. ap (modeWith p) (closed_none (final B) B.modes p))
-      ∙ made-back B.modes (length B.arities) w.modesRise
-      (all-mono (modeFits B.arities) (λ (m : Mode). ltb m.pred (length B.arities)) (mode-known B.arities) B.modes w.modesFit))
-      (kept-all B.clauses)
+      (joined_cong (λ p. mode_with p (closed_mode S (final B) B.modes p)) (λ p. mode_with p (mode_of B.modes p)) (length B.arities)
+      (λ p h. ap (mode_with p) (closed_none (final B) B.modes p))
+      ∙ made_back B.modes (length B.arities) w.modes_rise
+      (all_mono (mode_fits B.arities) (λ (m : Mode). ltb m.pred (length B.arities)) (mode_known B.arities) B.modes w.modes_fit))
+      (kept_all B.clauses)

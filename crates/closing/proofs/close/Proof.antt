@@ -1,6 +1,6 @@
 -- `closing::close` meets its contract. A book that is refused once it is read, with no room for it, is refused with room as well. Assumes nothing.
 use borrow.Author.Rules.{rules}
-use Rattle.closing.proofs.Laws.Refused.{lacking-some}
+use Rattle.closing.proofs.Laws.Refused.{lacking_some}
 use Rattle.closing.proofs.close.Statement.{statement}
 use Rattle.closing.proofs.close.Tie as tie
 
@@ -15,7 +15,7 @@ lacking-requires c κs = search rules
 
 returns : tie.Need-returns
 returns c =
-    lacking-some c.before.before.lacking.ensures c.before.before.before.read_only_lem.ensures
+    lacking_some c.before.before.lacking.ensures c.before.before.before.read_only_lem.ensures
     c.before.before.before.before.before.before.before.before.args.out.now c.if2.true
 
 close-over-requires : tie.Need-close-over-requires

@@ -8,8 +8,8 @@ use borrow.Author.Rules.{rules}
 use borrow.Author.Tests.{not-true, not-false}
 use Rattle.masks.specs.Set.{bit_at}
 use Rattle.book.specs.Book.{Head}
-use Rattle.book.specs.Held.{clauseAt}
-use Rattle.closing.proofs.Laws.Keeping.{Keeping, keeping_start, keeping-low, keeping-drop, keeping-move, keeping-end}
+use Rattle.book.specs.Held.{clause_at}
+use Rattle.closing.proofs.Laws.Keeping.{Keeping, keeping_start, keeping_low, keeping_drop, keeping_move, keeping_end}
 use Rattle.closing.proofs.keep_clauses.Statement.{statement}
 use Rattle.closing.proofs.keep_clauses.Tie as tie
 
@@ -32,11 +32,11 @@ predicate-requires : tie.Need-predicate-requires invariant-loop decreases-loop
 predicate-requires c κs = search rules
 
 -- in a turn: p is the predicate of head k
-is : (c : tie.After-predicate invariant-loop decreases-loop) → c.predicate.result ≡ (clauseAt c.before.before.before.before.loop.rules c.before.before.before.before.loop.k).head.pred
+is : (c : tie.After-predicate invariant-loop decreases-loop) → c.predicate.result ≡ (clause_at c.before.before.before.before.loop.rules c.before.before.before.before.loop.k).head.pred
 is c = c.predicate.ensures ∙ ap (λ (h : Head). h.pred) c.before.head_at.ensures
 
 has-member-requires : tie.Need-has-member-requires invariant-loop decreases-loop
-has-member-requires c κs = keeping-low c.before.before.before.before.loop.invariant (omega arith) (is c) c.before.before.before.before.before.requires.1
+has-member-requires c κs = keeping_low c.before.before.before.before.loop.invariant (omega arith) (is c) c.before.before.before.before.before.requires.1
 
 cast-move-clause : tie.Need-overflow-cast-move-clause invariant-loop decreases-loop
 cast-move-clause c = search rules
@@ -64,12 +64,12 @@ loop-again c =
     let q = is c.before.before in
     let has = sym c.before.has-member.ensures in
     ⊎_elim
-    (λ w. rw (w.3, w.4) (keeping-move l (omega arith) q (has ∙ search (not-true, w.0.taken)) w.2.ensures))
-    (λ w. rw (w.1, w.2) (keeping-drop l (omega arith) q (has ∙ search (not-false, w.0.left))))
+    (λ w. rw (w.3, w.4) (keeping_move l (omega arith) q (has ∙ search (not-true, w.0.taken)) w.2.ensures))
+    (λ w. rw (w.1, w.2) (keeping_drop l (omega arith) q (has ∙ search (not-false, w.0.left))))
     c.if1.branch
 
 returns : tie.Need-returns invariant-loop decreases-loop
-returns c = keeping-end c.before.loop.invariant c.before.before.requires.0 (omega arith)
+returns c = keeping_end c.before.loop.invariant c.before.before.requires.0 (omega arith)
 
 pub keep-clauses-spec : {M : Type 1} → statement M
 keep-clauses-spec =

@@ -4,13 +4,13 @@ use Prim.Native.Nat.{ℕ, ◌+◌, ◌^◌, ◌<◌}
 use native.Mathlib.Omega.{arith}
 use lib.Count.{count_trailing_zeros, trailing_le}
 use borrow.Author.Rules.{rules}
-use Rattle.closing.proofs.Laws.Lacked.{lacked-lowest, lacked-none}
-use Rattle.closing.proofs.Laws.Refused.{refused-faulty, refused-lacks, refused-has}
+use Rattle.closing.proofs.Laws.Lacked.{lacked_lowest, lacked_none}
+use Rattle.closing.proofs.Laws.Refused.{refused_faulty, refused_lacks, refused_has}
 use Rattle.closing.proofs.lacking.Statement.{statement}
 use Rattle.closing.proofs.lacking.Tie as tie
 
 returns : tie.Need-returns
-returns c = refused-faulty c.before.if1.true
+returns c = refused_faulty c.before.if1.true
 
 chosen-from-requires : tie.Need-chosen-from-requires
 chosen-from-requires c κs = search rules
@@ -37,13 +37,13 @@ refused-requires c κs = search rules
 returns-2 : tie.Need-returns-2
 returns-2 c =
     let k = c.before.before.before in
-    refused-lacks k.before.if1.false
-    (lacked-lowest _ _ k.chosen-from.result (search rules) k.chosen-from.ensures (search rules) c.before.before.if2.true) c.refused.ensures
+    refused_lacks k.before.if1.false
+    (lacked_lowest _ _ k.chosen-from.result (search rules) k.chosen-from.ensures (search rules) c.before.before.if2.true) c.refused.ensures
 
 returns-3 : tie.Need-returns-3
 returns-3 c =
     let k = c.before.before in
-    refused-has k.before.if1.false (lacked-none _ _ k.chosen-from.result (search rules) k.chosen-from.ensures c.before.if2.false)
+    refused_has k.before.if1.false (lacked_none _ _ k.chosen-from.result (search rules) k.chosen-from.ensures c.before.if2.false)
 
 pub lacking-spec : {M : Type 1} → statement M
 lacking-spec =

@@ -7,7 +7,7 @@ use lib.Count.{count_leading_zeros, leading_top}
 use borrow.Author.Rules.{rules}
 use Rattle.masks.specs.Set.{bit_at}
 use Rattle.masks.proofs.Laws.Logic.{clash, or_right}
-use Rattle.masks.proofs.Laws.Set.{bitAt-zero, bitAt-or}
+use Rattle.masks.proofs.Laws.Set.{bit_at_zero, bit_at_or}
 use Rattle.closing.proofs.lists.Statement.{statement}
 use Rattle.closing.proofs.lists.Tie as tie
 
@@ -16,7 +16,7 @@ low : (c : tie.Start) → count_leading_zeros 64 (bit_or c.args.set 1) < 64
 unfolding bit_at
 low c =
     let w = bit_or c.args.set 1 in
-    let some : w ≡ 0 → ⊥ = λ z. clash (bitAt-or c.args.set 1 0 ∙ or_right (bit_at c.args.set 0) refl) (ap (λ (x : ℕ). bit_at x 0) z ∙ bitAt-zero 0) in
+    let some : w ≡ 0 → ⊥ = λ z. clash (bit_at_or c.args.set 1 0 ∙ or_right (bit_at c.args.set 0) refl) (ap (λ (x : ℕ). bit_at x 0) z ∙ bit_at_zero 0) in
     let t = leading_top 64 w (omega arith) (or_lt 64 c.args.set 1 (search rules) (omega arith)) in
     omega arith
 

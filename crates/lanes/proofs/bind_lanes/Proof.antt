@@ -6,7 +6,7 @@ use native.Mathlib.Omega.{arith}
 use borrow.Author.Rules.{rules}
 use Rattle.book.specs.Held.{call_in}
 use Rattle.lanes.specs.Lanes.{Binds}
-use Rattle.lanes.proofs.Laws.Steps.{one-var, one-other, up_to, binding-none, binding-start, binding-next, binding-end}
+use Rattle.lanes.proofs.Laws.Steps.{one_var, one_other, up_to, binding_none, binding_start, binding_next, binding_end}
 use Rattle.lanes.proofs.bind_lanes.Statement.{statement}
 use Rattle.lanes.proofs.bind_lanes.Tie as tie
 
@@ -22,7 +22,7 @@ negated-requires c κs = search rules
 returns : tie.Need-returns invariant-loop decreases-loop
 returns c =
     let s = c.before.before.args in
-    binding-none (call_in s.s) s.r s.vars.now (sym c.before.negated.ensures ∙ c.if1.true)
+    binding_none (call_in s.s) s.r s.vars.now (sym c.before.negated.ensures ∙ c.if1.true)
 
 arguments-requires : tie.Need-arguments-requires invariant-loop decreases-loop
 arguments-requires c κs = search rules
@@ -30,7 +30,7 @@ arguments-requires c κs = search rules
 loop-holds : tie.Need-loop-init invariant-loop decreases-loop
 loop-holds c =
     let args = c.before.before.before.args in
-    (omega arith, binding-start (call_in args.s).pred (call_in args.s).args args.r args.vars.now)
+    (omega arith, binding_start (call_in args.s).pred (call_in args.s).args args.r args.vars.now)
 
 argument-requires : tie.Need-argument-requires invariant-loop decreases-loop
 argument-requires c κs = let n = c.before.before.arguments.ensures.0 in omega arith
@@ -56,11 +56,11 @@ loop-again c =
     let args = c.before.before.before.before.before.before.before.args in
     let n = c.before.before.before.before.arguments.ensures in
     let v = c.before.argument in
-    let next = binding-next (call_in args.s).pred (call_in args.s).args args.r args.vars.now l.i (omega arith) in (
+    let next = binding_next (call_in args.s).pred (call_in args.s).args args.r args.vars.now l.i (omega arith) in (
       omega arith,
       ⊎_elim
-          (λ u. next (rw (← v.ensures) (one-var v.result args.r l.vars (omega arith) u.2)) l.invariant.1)
-          (λ u. next (rw (← v.ensures) (one-other v.result args.r l.vars (omega arith) u.1)) l.invariant.1) c.if2.branch,
+          (λ u. next (rw (← v.ensures) (one_var v.result args.r l.vars (omega arith) u.2)) l.invariant.1)
+          (λ u. next (rw (← v.ensures) (one_other v.result args.r l.vars (omega arith) u.1)) l.invariant.1) c.if2.branch,
     )
 
 returns-2 : tie.Need-returns-2 invariant-loop decreases-loop
@@ -69,7 +69,7 @@ returns-2 c =
     let k = c.before.before.before in
     let args = k.before.before.args in
     let n = c.before.before.arguments.ensures.0 in
-    binding-end (call_in args.s).pred (call_in args.s).args args.r args.vars.now l.i (sym k.before.negated.ensures ∙ k.if1.false) (omega arith) l.invariant.1
+    binding_end (call_in args.s).pred (call_in args.s).args args.r args.vars.now l.i (sym k.before.negated.ensures ∙ k.if1.false) (omega arith) l.invariant.1
 
 pub bind-lanes-spec : {M : Type 1} → statement M
 bind-lanes-spec =

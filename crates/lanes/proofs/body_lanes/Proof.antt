@@ -4,15 +4,15 @@ use mathlib.Core.Logic.{⊎_elim}
 use Prim.Native.Nat.{◌-◌, ◌<◌}
 use native.Mathlib.Omega.{arith}
 use borrow.Author.Tests.{not-true, leb-true, leb-false}
-use Rattle.book.specs.Limits.{maxPredicates, maxSubgoals}
-use Rattle.book.specs.Held.{clauseAt}
-use Rattle.book.specs.Table.{tableIn}
-use Rattle.lanes.proofs.Laws.Passing.{Passing, passing-start, passing-next, passing-good, passing-still, passing-end, passing-ran}
+use Rattle.book.specs.Limits.{max_predicates, max_subgoals}
+use Rattle.book.specs.Held.{clause_at}
+use Rattle.book.specs.Table.{table_in}
+use Rattle.lanes.proofs.Laws.Passing.{Passing, passing_start, passing_next, passing_good, passing_still, passing_end, passing_ran}
 use Rattle.lanes.proofs.body_lanes.Statement.{statement}
 use Rattle.lanes.proofs.body_lanes.Tie as tie
 
 abbrev invariant-loop : tie.invariant-loop
-invariant-loop rules k table vars₀ n placed₀ passes₀ vars placed passes = Passing (tableIn table maxPredicates) (clauseAt rules k).body vars₀ passes vars placed
+invariant-loop rules k table vars₀ n placed₀ passes₀ vars placed passes = Passing (table_in table max_predicates) (clause_at rules k).body vars₀ passes vars placed
 
 abbrev decreases-loop : tie.decreases-loop
 decreases-loop rules k table vars₀ n placed₀ passes₀ vars placed passes = n - passes
@@ -23,7 +23,7 @@ subgoals-at-requires c κs = c.requires.0
 loop-holds : tie.Need-loop-init invariant-loop decreases-loop
 loop-holds c =
     let args = c.before.args in
-    passing-start (tableIn args.table.now maxPredicates) (clauseAt args.rules.now args.k).body args.vars.now maxSubgoals (omega arith)
+    passing_start (table_in args.table.now max_predicates) (clause_at args.rules.now args.k).body args.vars.now max_subgoals (omega arith)
 
 one-pass-requires : tie.Need-one-pass-requires invariant-loop decreases-loop
 one-pass-requires c κs = let p = c.before.before.before.before.requires in (p.0, p.1, c.before.before.loop.invariant.taken)
@@ -35,12 +35,12 @@ returns c =
     let e = n.ensures in
     let args = c.before.before.before.before.before.before.before.args in
     let pass = c.before.before.one-pass.ensures.0 in
-    let T = tableIn args.table.now maxPredicates in
-    let body = (clauseAt args.rules.now args.k).body in (
-      ⊎_elim (λ u. passing-good T body args.vars.now pass l.invariant u.taken)
-          (⊎_elim (λ u. passing-still T body args.vars.now pass l.invariant (not-true _ u.2.taken))
-          (λ u. let h = leb-true n.result l.passes u.3.taken in passing-end T body args.vars.now pass l.invariant (omega arith))) c.if1.branch,
-      passing-ran T body args.vars.now pass l.invariant,
+    let T = table_in args.table.now max_predicates in
+    let body = (clause_at args.rules.now args.k).body in (
+      ⊎_elim (λ u. passing_good T body args.vars.now pass l.invariant u.taken)
+          (⊎_elim (λ u. passing_still T body args.vars.now pass l.invariant (not-true _ u.2.taken))
+          (λ u. let h = leb-true n.result l.passes u.3.taken in passing_end T body args.vars.now pass l.invariant (omega arith))) c.if1.branch,
+      passing_ran T body args.vars.now pass l.invariant,
     )
 
 -- where nothing ends the loop, there are more subgoals than passes
@@ -57,7 +57,7 @@ loop-again : tie.Need-loop-preserved invariant-loop decreases-loop
 loop-again c =
     let args = c.before.before.before.before.before.before.before.before.before.before.args in
     let pass = c.before.before.before.before.before.one-pass.ensures in
-    passing-next (tableIn args.table.now maxPredicates) (clauseAt args.rules.now args.k).body args.vars.now pass.0 c.before.before.before.before.before.before.before.before.loop.invariant pass.1
+    passing_next (table_in args.table.now max_predicates) (clause_at args.rules.now args.k).body args.vars.now pass.0 c.before.before.before.before.before.before.before.before.loop.invariant pass.1
 
 pub body-lanes-spec : {M : Type 1} → statement M
 body-lanes-spec =

@@ -2,13 +2,13 @@
 use Prim.Native.Nat.{◌-◌, ◌≤◌}
 use native.Mathlib.Omega.{arith}
 use borrow.Author.Rules.{rules}
-use Rattle.book.specs.Held.{headIn}
-use Rattle.lanes.proofs.Laws.Steps.{Filling, filling-start, filling-next, filling-end}
+use Rattle.book.specs.Held.{head_in}
+use Rattle.lanes.proofs.Laws.Steps.{Filling, filling_start, filling_next, filling_end}
 use Rattle.lanes.proofs.filled_lanes.Statement.{statement}
 use Rattle.lanes.proofs.filled_lanes.Tie as tie
 
 abbrev invariant-loop : tie.invariant-loop
-invariant-loop call vars n filled₀ i₀ filled i = (i ≤ n) × Filling vars (headIn call).args i filled
+invariant-loop call vars n filled₀ i₀ filled i = (i ≤ n) × Filling vars (head_in call).args i filled
 
 abbrev decreases-loop : tie.decreases-loop
 decreases-loop call vars n filled₀ i₀ filled i = n - i
@@ -17,7 +17,7 @@ arguments-requires : tie.Need-arguments-requires invariant-loop decreases-loop
 arguments-requires c κs = search rules
 
 loop-holds : tie.Need-loop-init invariant-loop decreases-loop
-loop-holds c = (omega arith, filling-start c.before.args.vars.now (headIn c.before.args.call).args)
+loop-holds c = (omega arith, filling_start c.before.args.vars.now (head_in c.before.args.call).args)
 
 argument-requires : tie.Need-argument-requires invariant-loop decreases-loop
 argument-requires c κs = let n = c.before.before.arguments.ensures.0 in omega arith
@@ -35,7 +35,7 @@ loop-again c =
     let n = c.before.before.before.before.arguments.ensures.0 in
     let v = c.before.argument in (
       omega arith,
-      filling-next args.vars.now (headIn args.call).args l.i c.arg-lanes.result (omega arith) (rw (← v.ensures) c.arg-lanes.ensures) l.invariant.1,
+      filling_next args.vars.now (head_in args.call).args l.i c.arg-lanes.result (omega arith) (rw (← v.ensures) c.arg-lanes.ensures) l.invariant.1,
     )
 
 returns : tie.Need-returns invariant-loop decreases-loop
@@ -43,7 +43,7 @@ returns c =
     let l = c.before.loop in
     let args = c.before.before.before.args in
     let n = c.before.before.arguments.ensures.0 in
-    filling-end args.vars.now (headIn args.call).args l.i (omega arith) l.invariant.1
+    filling_end args.vars.now (head_in args.call).args l.i (omega arith) l.invariant.1
 
 pub filled-lanes-spec : {M : Type 1} → statement M
 filled-lanes-spec =

@@ -1,10 +1,10 @@
 -- `lanes::good_lanes` meets its contract: in each lane, the body has a good order from what the head binds, and the head is bound when it has run. Assumes
 -- nothing.
 use borrow.Author.Rules.{rules}
-use Rattle.book.specs.Limits.{maxPredicates}
-use Rattle.book.specs.Held.{headIn, clauseAt}
-use Rattle.book.specs.Table.{tableIn}
-use Rattle.lanes.proofs.Laws.Passing.{clause-good}
+use Rattle.book.specs.Limits.{max_predicates}
+use Rattle.book.specs.Held.{head_in, clause_at}
+use Rattle.book.specs.Table.{table_in}
+use Rattle.lanes.proofs.Laws.Passing.{clause_good}
 use Rattle.lanes.proofs.good_lanes.Statement.{statement}
 use Rattle.lanes.proofs.good_lanes.Tie as tie
 
@@ -27,7 +27,7 @@ returns c =
     let vars = c.before.before.before.before.head-lanes in
     let good = c.before.before.body-lanes in
     let filled = c.filled-lanes in
-    clause-good (tableIn args.table.now maxPredicates) (clauseAt args.rules.now args.k) (headIn head.result) vars.result _ good.result filled.result
+    clause_good (table_in args.table.now max_predicates) (clause_at args.rules.now args.k) (head_in head.result) vars.result _ good.result filled.result
     head.ensures vars.ensures good.ensures.0 good.ensures.1 filled.ensures
 
 pub good-lanes-spec : {M : Type 1} → statement M

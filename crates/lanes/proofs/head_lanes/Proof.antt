@@ -5,14 +5,14 @@ use Prim.Native.Nat.{◌-◌, ◌≤◌}
 use native.Mathlib.Omega.{arith}
 use lib.ListN.{length, length-set}
 use borrow.Author.Rules.{rules}
-use Rattle.book.specs.Held.{headIn}
+use Rattle.book.specs.Held.{head_in}
 use Rattle.masks.proofs.Laws.Patterns.{column}
-use Rattle.lanes.proofs.Laws.Steps.{one-var, one-other, Headed, headed-start, headed-next, headed-end}
+use Rattle.lanes.proofs.Laws.Steps.{one_var, one_other, Headed, headed_start, headed_next, headed_end}
 use Rattle.lanes.proofs.head_lanes.Statement.{statement}
 use Rattle.lanes.proofs.head_lanes.Tie as tie
 
 abbrev invariant-loop : tie.invariant-loop
-invariant-loop head n vars₀ i₀ vars i = (i ≤ n) × Headed (headIn head).args i vars
+invariant-loop head n vars₀ i₀ vars i = (i ≤ n) × Headed (head_in head).args i vars
 
 abbrev decreases-loop : tie.decreases-loop
 decreases-loop head n vars₀ i₀ vars i = n - i
@@ -21,7 +21,7 @@ arguments-requires : tie.Need-arguments-requires invariant-loop decreases-loop
 arguments-requires c κs = search rules
 
 loop-holds : tie.Need-loop-init invariant-loop decreases-loop
-loop-holds c = (omega arith, headed-start (headIn c.before.args.head).args)
+loop-holds c = (omega arith, headed_start (head_in c.before.args.head).args)
 
 argument-requires : tie.Need-argument-requires invariant-loop decreases-loop
 argument-requires c κs = let n = c.before.before.arguments.ensures.0 in omega arith
@@ -53,14 +53,14 @@ add-i c = omega arith
 loop-again : tie.Need-loop-preserved invariant-loop decreases-loop
 loop-again c =
     let l = c.before.before.before.loop in
-    let args = (headIn c.before.before.before.before.before.args.head).args in
+    let args = (head_in c.before.before.before.before.before.args.head).args in
     let n = c.before.before.before.before.arguments.ensures in
     let v = c.before.argument in (
       omega arith,
-      headed-next args l.i (omega arith) (omega arith)
+      headed_next args l.i (omega arith) (omega arith)
           (⊎_elim (λ u. ap length u.1 ∙ length-set l.vars _ _) (λ u. ap length u.1) c.if1.branch)
           (rw (← v.ensures)
-          (⊎_elim (λ u. one-var v.result (column l.i) l.vars (omega arith) u.1) (λ u. one-other v.result (column l.i) l.vars (omega arith) u.1)
+          (⊎_elim (λ u. one_var v.result (column l.i) l.vars (omega arith) u.1) (λ u. one_other v.result (column l.i) l.vars (omega arith) u.1)
           c.if1.branch))
           l.invariant.1,
     )
@@ -69,7 +69,7 @@ returns : tie.Need-returns invariant-loop decreases-loop
 returns c =
     let l = c.before.loop in
     let n = c.before.before.arguments.ensures.0 in
-    headed-end (headIn c.before.before.before.args.head).args (omega arith) l.invariant.1
+    headed_end (head_in c.before.before.before.args.head).args (omega arith) l.invariant.1
 
 pub head-lanes-spec : {M : Type 1} → statement M
 head-lanes-spec =

@@ -4,7 +4,7 @@ use Prim.Native.Nat.{◌-◌, ◌≤◌}
 use native.Mathlib.Omega.{arith}
 use borrow.Author.Rules.{rules}
 use Rattle.book.specs.Held.{call_in}
-use Rattle.lanes.proofs.Laws.Steps.{Words, words-start, words-next, words-end}
+use Rattle.lanes.proofs.Laws.Steps.{Words, words_start, words_next, words_end}
 use Rattle.lanes.proofs.pattern_lanes.Statement.{statement}
 use Rattle.lanes.proofs.pattern_lanes.Tie as tie
 
@@ -18,7 +18,7 @@ arguments-requires : tie.Need-arguments-requires invariant-loop decreases-loop
 arguments-requires c κs = search rules
 
 loop-holds : tie.Need-loop-init invariant-loop decreases-loop
-loop-holds c = (omega arith, words-start c.before.args.vars.now (call_in c.before.args.s).args)
+loop-holds c = (omega arith, words_start c.before.args.vars.now (call_in c.before.args.s).args)
 
 argument-requires : tie.Need-argument-requires invariant-loop decreases-loop
 argument-requires c κs = let n = c.before.before.arguments.ensures.0 in omega arith
@@ -42,7 +42,7 @@ loop-again c =
     let n = c.before.before.before.before.arguments.ensures.1 in
     let v = c.before.argument in (
       omega arith,
-      words-next args.vars.now (call_in args.s).args l.i c.arg-lanes.result (omega arith) (rw (← v.ensures) c.arg-lanes.ensures) l.invariant.1,
+      words_next args.vars.now (call_in args.s).args l.i c.arg-lanes.result (omega arith) (rw (← v.ensures) c.arg-lanes.ensures) l.invariant.1,
     )
 
 returns : tie.Need-returns invariant-loop decreases-loop
@@ -50,7 +50,7 @@ returns c =
     let l = c.before.loop in
     let args = c.before.before.before.args in
     let n = c.before.before.arguments.ensures.0 in
-    words-end args.vars.now (call_in args.s).args (omega arith) l.invariant.1
+    words_end args.vars.now (call_in args.s).args (omega arith) l.invariant.1
 
 pub pattern-lanes-spec : {M : Type 1} → statement M
 pattern-lanes-spec =

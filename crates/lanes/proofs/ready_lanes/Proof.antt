@@ -9,10 +9,10 @@ use Rattle.masks.specs.Set.{bit_at}
 use Rattle.masks.specs.Patterns.{EachLane}
 use Rattle.book.specs.Book.{Call}
 use Rattle.book.specs.Held.{call_in}
-use Rattle.book.specs.Table.{entryIn}
-use Rattle.ordering.specs.Adorn.{patternOf}
+use Rattle.book.specs.Table.{entry_in}
+use Rattle.ordering.specs.Adorn.{pattern_of}
 use Rattle.lanes.specs.Lanes.{lane}
-use Rattle.lanes.proofs.Laws.Steps.{lanes-positive, lanes-negated}
+use Rattle.lanes.proofs.Laws.Steps.{lanes_positive, lanes_negated}
 use Rattle.lanes.proofs.ready_lanes.Statement.{statement}
 use Rattle.lanes.proofs.ready_lanes.Tie as tie
 
@@ -48,22 +48,22 @@ module _ (c : tie.After-fit-lanes) where
   abbrev call : Call
   call = call_in s.args.s
 
-  fits : EachLane (λ a. bit_at c.fit-lanes.result a ≡ admits (entryIn s.args.table.now call.pred) (patternOf (lane a s.args.vars.now) call.args))
+  fits : EachLane (λ a. bit_at c.fit-lanes.result a ≡ admits (entry_in s.args.table.now call.pred) (pattern_of (lane a s.args.vars.now) call.args))
   fits a h =
-      let p = patternOf (lane a s.args.vars.now) call.args in
+      let p = pattern_of (lane a s.args.vars.now) call.args in
       c.fit-lanes.ensures a h p (c.before.before.before.before.pattern-lanes.ensures a h)
-      ∙ ap (λ (q : ℕ). admits (entryIn s.args.table.now q) p) c.before.before.before.predicate.ensures
+      ∙ ap (λ (q : ℕ). admits (entry_in s.args.table.now q) p) c.before.before.before.predicate.ensures
 
 returns : tie.Need-returns
 returns c =
     let d = c.before.before.before in
-    lanes-negated (s d).args.table.now (s d).args.vars.now (call d) (s d).requires d.fit-lanes.result c.filled-lanes.result
+    lanes_negated (s d).args.table.now (s d).args.vars.now (call d) (s d).requires d.fit-lanes.result c.filled-lanes.result
     (sym c.before.before.negated.ensures ∙ c.before.if1.true) (fits d) c.filled-lanes.ensures
 
 returns-2 : tie.Need-returns-2
 returns-2 c =
     let d = c.before.before in
-    lanes-positive (s d).args.table.now (s d).args.vars.now (call d) (s d).requires d.fit-lanes.result (sym c.before.negated.ensures ∙ c.if1.false) (fits d)
+    lanes_positive (s d).args.table.now (s d).args.vars.now (call d) (s d).requires d.fit-lanes.result (sym c.before.negated.ensures ∙ c.if1.false) (fits d)
 
 pub ready-lanes-spec : {M : Type 1} → statement M
 ready-lanes-spec =

@@ -4,13 +4,13 @@ use Prim.Native.Nat.{◌-◌, ◌≤◌, min}
 use native.Mathlib.Omega.{arith}
 use lib.ListN.{length, take}
 use borrow.Author.Rules.{rules}
-use Rattle.lines.specs.Hex.{numberFrom}
-use Rattle.lines.proofs.Laws.Hex.{decimal-next, decimal-end}
+use Rattle.lines.specs.Hex.{number_from}
+use Rattle.lines.proofs.Laws.Hex.{decimal_next, decimal_end}
 use Rattle.lines.proofs.decimal.Statement.{statement}
 use Rattle.lines.proofs.decimal.Tie as tie
 
 abbrev invariant-loop : tie.invariant-loop
-invariant-loop word most n₀ i₀ n i = (i ≤ length word) × (n ≡ min most (numberFrom 10 0 (take i word)))
+invariant-loop word most n₀ i₀ n i = (i ≤ length word) × (n ≡ min most (number_from 10 0 (take i word)))
 
 abbrev decreases-loop : tie.decreases-loop
 decreases-loop word most n₀ i₀ n i = length word - i
@@ -36,10 +36,10 @@ least-requires c κs = search rules
 loop-again : tie.Need-loop-preserved invariant-loop decreases-loop
 loop-again c =
     let k = c.before.before.before.before in
-    (omega arith, decimal-next _ _ _ k.loop.invariant.1 c.before.before.before.loop-test.true c.before.digit.ensures.0 c.least.ensures)
+    (omega arith, decimal_next _ _ _ k.loop.invariant.1 c.before.before.before.loop-test.true c.before.digit.ensures.0 c.least.ensures)
 
 returns : tie.Need-returns invariant-loop decreases-loop
-returns c = let k = c.before in decimal-end k.before.before.args.word.now _ k.loop.i k.loop.invariant.1 (omega arith)
+returns c = let k = c.before in decimal_end k.before.before.args.word.now _ k.loop.i k.loop.invariant.1 (omega arith)
 
 pub decimal-spec : {M : Type 1} → statement M
 decimal-spec =

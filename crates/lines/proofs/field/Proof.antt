@@ -6,7 +6,7 @@ use native.Mathlib.Omega.{arith}
 use lib.ListN.{length, drop}
 use borrow.Author.Rules.{rules}
 use Rattle.lines.specs.Line.{field_of}
-use Rattle.lines.proofs.Laws.Line.{field-start, field_next, field_end}
+use Rattle.lines.proofs.Laws.Line.{field_start, field_next, field_end}
 use Rattle.lines.proofs.field.Statement.{statement}
 use Rattle.lines.proofs.field.Tie as tie
 
@@ -17,7 +17,7 @@ abbrev decreases-loop : tie.decreases-loop
 decreases-loop line k at₀ i₀ at i = k - i
 
 loop-holds : tie.Need-loop-init invariant-loop decreases-loop
-loop-holds c = (omega arith, omega arith, field-start c.before.args.line.now c.before.args.k)
+loop-holds c = (omega arith, omega arith, field_start c.before.args.line.now c.before.args.k)
 
 until-requires : tie.Need-until-requires invariant-loop decreases-loop
 until-requires c κs = search rules

@@ -7,13 +7,13 @@ use native.Mathlib.Omega.{arith}
 use lib.ListN.{length, drop}
 use lib.Seq.{length-take-le}
 use borrow.Author.Rules.{rules}
-use Rattle.lines.specs.Line.{inputsOf}
-use Rattle.lines.proofs.Laws.Line.{inputs-here, inputs-next, inputs_end}
+use Rattle.lines.specs.Line.{inputs_of}
+use Rattle.lines.proofs.Laws.Line.{inputs_here, inputs_next, inputs_end}
 use Rattle.lines.proofs.results_at.Statement.{statement}
 use Rattle.lines.proofs.results_at.Tie as tie
 
 abbrev invariant-loop : tie.invariant-loop
-invariant-loop line i₀ t3 i = (i ≤ length line) × (i + length (inputsOf (drop i line)) ≡ length (inputsOf line))
+invariant-loop line i₀ t3 i = (i ≤ length line) × (i + length (inputs_of (drop i line)) ≡ length (inputs_of line))
 
 abbrev decreases-loop : tie.decreases-loop
 decreases-loop line i₀ t3 i = length line - i
@@ -36,13 +36,13 @@ begins-requires c κs = search rules
 returns : tie.Need-returns invariant-loop decreases-loop
 returns c =
     let k = c.before.before.before.before.before in
-    let z = inputs-here k.before.before.args.line.now k.loop.i c.before.begins.ensures c.before.before.before.before.loop-test.true c.if1.true in
+    let z = inputs_here k.before.before.args.line.now k.loop.i c.before.begins.ensures c.before.before.before.before.loop-test.true c.if1.true in
     ((omega arith, sym (length-take-le _ _ (omega arith))), omega (arith, z, k.loop.invariant.1))
 
 loop-again : tie.Need-loop-preserved invariant-loop decreases-loop
 loop-again c =
     let k = c.before.before.before.before.before in
-    let z = inputs-next k.before.before.args.line.now k.loop.i c.before.begins.ensures c.before.before.before.before.loop-test.true c.if1.false in
+    let z = inputs_next k.before.before.args.line.now k.loop.i c.before.begins.ensures c.before.before.before.before.loop-test.true c.if1.false in
     (omega arith, rw add-one (omega (arith, z, k.loop.invariant.1)))
 
 returns-2 : tie.Need-returns-2 invariant-loop decreases-loop

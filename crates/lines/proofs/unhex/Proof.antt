@@ -8,7 +8,7 @@ use lib.ListN.{length-set, length, take, drop}
 use lib.Seq.{length-take-le}
 use borrow.Author.Rules.{rules}
 use Rattle.lines.specs.Hex.{bytes_of}
-use Rattle.lines.proofs.Laws.Hex.{bytes_next, bytes-full, bytes-end}
+use Rattle.lines.proofs.Laws.Hex.{bytes_next, bytes_full, bytes_end}
 use Rattle.lines.proofs.unhex.Statement.{statement}
 use Rattle.lines.proofs.unhex.Tie as tie
 
@@ -28,7 +28,7 @@ returns : tie.Need-returns invariant-loop decreases-loop
 returns c =
     let loop = c.before.before.loop in
     let a = c.before.before.before.before.before.args in
-    let e = bytes-end a.word.now loop.to loop.n loop.at loop.invariant.3 loop.invariant.0 {size = length a.to.now} (omega arith) (omega arith) in
+    let e = bytes_end a.word.now loop.to loop.n loop.at loop.invariant.3 loop.invariant.0 {size = length a.to.now} (omega arith) (omega arith) in
     ((omega arith, sym (length-take-le _ _ (omega arith))), e)
 
 shared-slice-read-digit : tie.Need-shared-slice-read-digit invariant-loop decreases-loop
@@ -69,7 +69,7 @@ returns-2 : tie.Need-returns-2 invariant-loop decreases-loop
 returns-2 c =
     let loop = c.before.loop in
     let a = c.before.before.before.before.args in
-    let e = bytes-full a.word.now loop.to loop.n loop.at loop.invariant.3 loop.invariant.0 {size = length a.to.now} (omega arith) in
+    let e = bytes_full a.word.now loop.to loop.n loop.at loop.invariant.3 loop.invariant.0 {size = length a.to.now} (omega arith) in
     ((omega arith, sym (length-take-le _ _ (omega arith))), e)
 
 pub unhex-spec : {M : Type 1} → statement M

@@ -8,7 +8,7 @@ use lib.ListN.{length, drop}
 use lib.Seq.{length-take-le}
 use borrow.Author.Rules.{rules}
 use Rattle.lines.specs.Line.{before}
-use Rattle.lines.proofs.Laws.Line.{before_here, before-next, before-end}
+use Rattle.lines.proofs.Laws.Line.{before_here, before_next, before_end}
 use Rattle.lines.proofs.until.Statement.{statement}
 use Rattle.lines.proofs.until.Tie as tie
 
@@ -35,14 +35,14 @@ loop-again : tie.Need-loop-preserved invariant-loop decreases-loop
 loop-again c =
     let loop = c.before.before.before.loop in
     let a = c.before.before.before.before.args in
-    let z = before-next a.s.now a.stop loop.i c.before.before.loop-test.true c.if1.false in
+    let z = before_next a.s.now a.stop loop.i c.before.before.loop-test.true c.if1.false in
     (omega arith, omega arith, rw add-one (omega (arith, z, loop.invariant.2)))
 
 returns-2 : tie.Need-returns-2 invariant-loop decreases-loop
 returns-2 c =
     let loop = c.before.loop in
     let a = c.before.before.args in
-    let z = before-end a.s.now a.stop loop.i (omega arith) in
+    let z = before_end a.s.now a.stop loop.i (omega arith) in
     ((omega arith, (omega arith, sym (length-take-le _ _ (omega arith)))), omega (arith, z, loop.invariant.2))
 
 pub until-spec : {M : Type 1} → statement M

@@ -6,19 +6,19 @@ use lib.Dec.{ltb}
 use borrow.Author.Tests.{ltb-true, ltb-false}
 
 -- by cases on a test, with its equation in hand
-pub byBool : {P : Type 0} (b : Bool) → (b ≡ true → P) → (b ≡ false → P) → P
-byBool true f g = f refl
-byBool false f g = g refl
+pub by_bool : {P : Type 0} (b : Bool) → (b ≡ true → P) → (b ≡ false → P) → P
+by_bool true f g = f refl
+by_bool false f g = g refl
 
 -- by cases on whether a number is below another
-pub byRange : {P : Type 0} (p n : ℕ) → (p < n → P) → (n ≤ p → P) → P
-byRange p n f g = byBool (ltb p n) (λ t. f (ltb-true p n t)) (λ t. g (ltb-false p n t))
+pub by_range : {P : Type 0} (p n : ℕ) → (p < n → P) → (n ≤ p → P) → P
+by_range p n f g = by_bool (ltb p n) (λ t. f (ltb-true p n t)) (λ t. g (ltb-false p n t))
 
 pub clash : {P : Type 0} {b : Bool} → b ≡ true → b ≡ false → P
 clash p q = absurd (false≢true (sym q ∙ p))
 
 pub false_of : {b : Bool} → (b ≡ true → ⊥) → b ≡ false
-false_of {b} f = byBool b (λ t. absurd (f t)) (λ t. t)
+false_of {b} f = by_bool b (λ t. absurd (f t)) (λ t. t)
 
 -- two tests that imply each other are one
 pub same : (a b : Bool) → (a ≡ true → b ≡ true) → (b ≡ true → a ≡ true) → a ≡ b
@@ -49,9 +49,9 @@ pub or_case : {P : Type 0} (a b : Bool) → (a || b) ≡ true → (a ≡ true �
 or_case true b e f g = f refl
 or_case false b e f g = g e
 
-pub not-intro : {b : Bool} → (b ≡ true → ⊥) → not b ≡ true
-not-intro f = rw (false_of f)
+pub not_intro : {b : Bool} → (b ≡ true → ⊥) → not b ≡ true
+not_intro f = rw (false_of f)
 
-pub not-elim : {P : Type 0} (b : Bool) → not b ≡ true → b ≡ true → P
-not-elim true e p = absurd (false≢true e)
-not-elim false e p = absurd (false≢true p)
+pub not_elim : {P : Type 0} (b : Bool) → not b ≡ true → b ≡ true → P
+not_elim true e p = absurd (false≢true e)
+not_elim false e p = absurd (false≢true p)

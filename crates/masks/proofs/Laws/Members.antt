@@ -10,13 +10,13 @@ use lib.Count.{count_trailing_zeros}
 use lib.Dec.{eqb, leb}
 use borrow.Author.Tests.{eq-eqb, ne_eqb, eqb-true, eqb-false, leb-true, leb-false}
 use Rattle.masks.specs.Set.{bit_at}
-use Rattle.masks.proofs.Laws.Logic.{byBool, clash, same, and_intro, and_left, and_right}
-use Rattle.masks.proofs.Laws.Set.{bitAt-zero, eqb-suc}
+use Rattle.masks.proofs.Laws.Logic.{by_bool, clash, same, and_intro, and_left, and_right}
+use Rattle.masks.proofs.Laws.Set.{bit_at_zero, eqb_suc}
 
 -- ---- the bits in common
 
-and-digit : (x y : ℕ) → eqb (bit_and x y % 2) 1 ≡ (eqb (x % 2) 1 && eqb (y % 2) 1)
-and-digit x y =
+and_digit : (x y : ℕ) → eqb (bit_and x y % 2) 1 ≡ (eqb (x % 2) 1 && eqb (y % 2) 1)
+and_digit x y =
     let s = and_step x y in
     same (eqb (bit_and x y % 2) 1) (eqb (x % 2) 1 && eqb (y % 2) 1)
     (λ t. let e = eqb-true (bit_and x y % 2) 1 t in and_intro (eq-eqb (x % 2) 1 (omega arith)) (eq-eqb (y % 2) 1 (omega arith)))
@@ -25,45 +25,45 @@ and-digit x y =
     let f = eqb-true (y % 2) 1 (and_right (eqb (x % 2) 1) (eqb (y % 2) 1) t) in
     eq-eqb (bit_and x y % 2) 1 (omega arith))
 
-pub bitAt-and : (x y k : ℕ) → bit_at (bit_and x y) k ≡ (bit_at x k && bit_at y k)
+pub bit_at_and : (x y k : ℕ) → bit_at (bit_and x y) k ≡ (bit_at x k && bit_at y k)
 unfolding bit_at
-bitAt-and x y zero = and-digit x y
-bitAt-and x y (suc k) =
+bit_at_and x y zero = and_digit x y
+bit_at_and x y (suc k) =
     let s = and_step x y in
     let e : bit_and x y / 2 ≡ bit_and (x / 2) (y / 2) = omega arith in
-    ap (λ (z : ℕ). bit_at z k) e ∙ bitAt-and (x / 2) (y / 2) k
+    ap (λ (z : ℕ). bit_at z k) e ∙ bit_at_and (x / 2) (y / 2) k
 
 -- ---- the bits that differ
 
-xor-digit : (x y : ℕ) → eqb (bit_xor x y % 2) 1 ≡ cond (eqb (x % 2) 1) (not (eqb (y % 2) 1)) (eqb (y % 2) 1)
-xor-digit x y =
+xor_digit : (x y : ℕ) → eqb (bit_xor x y % 2) 1 ≡ cond (eqb (x % 2) 1) (not (eqb (y % 2) 1)) (eqb (y % 2) 1)
+xor_digit x y =
     let s = xor_add_and x y in
-    byBool (eqb (x % 2) 1)
+    by_bool (eqb (x % 2) 1)
     (λ t.
     let e = eqb-true (x % 2) 1 t in
-    byBool (eqb (y % 2) 1)
+    by_bool (eqb (y % 2) 1)
     (λ u. let f = eqb-true (y % 2) 1 u in rw (t, u) (ne_eqb (bit_xor x y % 2) 1 (λ z. omega (arith, z))))
     (λ u. let f = eqb-false (y % 2) 1 u in rw (t, u) (eq-eqb (bit_xor x y % 2) 1 (omega (arith, f)))))
     (λ t.
     let e = eqb-false (x % 2) 1 t in
-    byBool (eqb (y % 2) 1)
+    by_bool (eqb (y % 2) 1)
     (λ u. let f = eqb-true (y % 2) 1 u in rw (t, u) (eq-eqb (bit_xor x y % 2) 1 (omega (arith, e))))
     (λ u. let f = eqb-false (y % 2) 1 u in rw (t, u) (ne_eqb (bit_xor x y % 2) 1 (λ z. omega (arith, e, f, z)))))
 
-pub bitAt-xor : (x y k : ℕ) → bit_at (bit_xor x y) k ≡ cond (bit_at x k) (not (bit_at y k)) (bit_at y k)
+pub bit_at_xor : (x y k : ℕ) → bit_at (bit_xor x y) k ≡ cond (bit_at x k) (not (bit_at y k)) (bit_at y k)
 unfolding bit_at
-bitAt-xor x y zero = xor-digit x y
-bitAt-xor x y (suc k) = ap (λ (z : ℕ). bit_at z k) (xor_shr x y 1) ∙ bitAt-xor (x / 2) (y / 2) k
+bit_at_xor x y zero = xor_digit x y
+bit_at_xor x y (suc k) = ap (λ (z : ℕ). bit_at z k) (xor_shr x y 1) ∙ bit_at_xor (x / 2) (y / 2) k
 
 -- ---- the lowest member, and the others
 
-odd-lowest : (k w : ℕ) → w % 2 ≡ 1 → count_trailing_zeros (suc k) w ≡ 0
+odd_lowest : (k w : ℕ) → w % 2 ≡ 1 → count_trailing_zeros (suc k) w ≡ 0
 unfolding count_trailing_zeros
-odd-lowest k w e = rw e
+odd_lowest k w e = rw e
 
-even-lowest : (k w : ℕ) → w % 2 ≡ 0 → count_trailing_zeros (suc k) w ≡ suc (count_trailing_zeros k (w / 2))
+even_lowest : (k w : ℕ) → w % 2 ≡ 0 → count_trailing_zeros (suc k) w ≡ suc (count_trailing_zeros k (w / 2))
 unfolding count_trailing_zeros
-even-lowest k w e = rw e
+even_lowest k w e = rw e
 
 half_of : (n h r : ℕ) → n ≡ h * 2 + r → r < 2 → n / 2 ≡ h
 half_of n h r e l = omega arith
@@ -77,10 +77,10 @@ pub record Lowest (k w m : ℕ) : Type 0 where
 pub lowest : (k w : ℕ) → w < 2 ^ k → (w ≡ 0 → ⊥) → Lowest k w (count_trailing_zeros k w)
 unfolding bit_at
 lowest zero w l z = absurd (z (omega arith))
-lowest (suc k) w l z = byBool (eqb (w % 2) 1) odd (even (lowest k (w / 2)))
+lowest (suc k) w l z = by_bool (eqb (w % 2) 1) odd (even (lowest k (w / 2)))
   where
     odd : eqb (w % 2) 1 ≡ true → Lowest (suc k) w (count_trailing_zeros (suc k) w)
-    odd e = rw (odd-lowest k w (eqb-true (w % 2) 1 e)) (record { small = omega arith; member = e; none = λ j h. absurd (omega arith) })
+    odd e = rw (odd_lowest k w (eqb-true (w % 2) 1 e)) (record { small = omega arith; member = e; none = λ j h. absurd (omega arith) })
 
     below : (t : ℕ) → eqb (w % 2) 1 ≡ false → ((j : ℕ) → j < t → bit_at (w / 2) j ≡ false) → (j : ℕ) → j < suc t → bit_at w j ≡ false
     below t e f zero h = e
@@ -91,13 +91,13 @@ lowest (suc k) w l z = byBool (eqb (w % 2) 1) odd (even (lowest k (w / 2)))
         let o : w % 2 ≡ 0 = let q = eqb-false (w % 2) 1 e in omega arith in
         let r = f (let p = pow-suc 2 k in omega arith) (λ q. z (omega arith)) in
         let s = r.small in
-        rw (even-lowest k w o)
+        rw (even_lowest k w o)
         (record { small = omega arith; member = r.member; none = below (count_trailing_zeros k (w / 2)) e r.none })
 
 pub others : (k w j : ℕ) → w < 2 ^ k → (w ≡ 0 → ⊥) → bit_at (bit_and w (w - 1)) j ≡ (bit_at w j && not (eqb j (count_trailing_zeros k w)))
 unfolding bit_at
 others zero w j l z = absurd (z (omega arith))
-others (suc k) w j l z = byBool (eqb (w % 2) 1) (odd j) (even (λ i. others k (w / 2) i) j)
+others (suc k) w j l z = by_bool (eqb (w % 2) 1) (odd j) (even (λ i. others k (w / 2) i) j)
   where
     s : bit_and w (w - 1) ≡ bit_and (w / 2) ((w - 1) / 2) * 2 + min (w % 2) ((w - 1) % 2)
     s = and_step w (w - 1)
@@ -107,13 +107,13 @@ others (suc k) w j l z = byBool (eqb (w % 2) 1) (odd j) (even (λ i. others k (w
     none = ne_eqb (bit_and w (w - 1) % 2) 1 (λ e. omega (arith, s, z))
 
     odd : (j : ℕ) → eqb (w % 2) 1 ≡ true → bit_at (bit_and w (w - 1)) j ≡ (bit_at w j && not (eqb j (count_trailing_zeros (suc k) w)))
-    odd zero e = rw (none, odd-lowest k w (eqb-true (w % 2) 1 e)) (sym (and-false (bit_at w 0)))
+    odd zero e = rw (none, odd_lowest k w (eqb-true (w % 2) 1 e)) (sym (and-false (bit_at w 0)))
     odd (suc j) e =
         let o = eqb-true (w % 2) 1 e in
         let h : (w - 1) / 2 ≡ w / 2 = omega arith in
         let r : bit_and w (w - 1) / 2 ≡ w / 2 =
         half_of (bit_and w (w - 1)) (bit_and (w / 2) ((w - 1) / 2)) (min (w % 2) ((w - 1) % 2)) s (omega arith) ∙ ap (bit_and (w / 2)) h ∙ and_self (w / 2) in
-        rw (r, odd-lowest k w o, ne_eqb (suc j) 0 (λ q. omega arith)) (sym (and-true (bit_at (w / 2) j)))
+        rw (r, odd_lowest k w o, ne_eqb (suc j) 0 (λ q. omega arith)) (sym (and-true (bit_at (w / 2) j)))
 
     even : ((i : ℕ) → w / 2 < 2 ^ k → (w / 2 ≡ 0 → ⊥) → bit_at (bit_and (w / 2) (w / 2 - 1)) i ≡ (bit_at (w / 2) i && not (eqb i (count_trailing_zeros k (w / 2)))))
         → (j : ℕ) → eqb (w % 2) 1 ≡ false → bit_at (bit_and w (w - 1)) j ≡ (bit_at w j && not (eqb j (count_trailing_zeros (suc k) w)))
@@ -123,10 +123,10 @@ others (suc k) w j l z = byBool (eqb (w % 2) 1) (odd j) (even (λ i. others k (w
         let h : (w - 1) / 2 ≡ w / 2 - 1 = omega (arith, z) in
         let r : bit_and w (w - 1) / 2 ≡ bit_and (w / 2) (w / 2 - 1) =
         half_of (bit_and w (w - 1)) (bit_and (w / 2) ((w - 1) / 2)) (min (w % 2) ((w - 1) % 2)) s (omega arith) ∙ ap (bit_and (w / 2)) h in
-        rw (r, even-lowest k w o, eqb-suc j (count_trailing_zeros k (w / 2))) (f j (let p = pow-suc 2 k in omega arith) (λ q. z (omega arith)))
+        rw (r, even_lowest k w o, eqb_suc j (count_trailing_zeros k (w / 2))) (f j (let p = pow-suc 2 k in omega arith) (λ q. z (omega arith)))
 
-pub others-less : (w : ℕ) → (w ≡ 0 → ⊥) → bit_and w (w - 1) < w
-others-less w z = let h = and_le_r w (w - 1) in omega (arith, z)
+pub others_less : (w : ℕ) → (w ≡ 0 → ⊥) → bit_and w (w - 1) < w
+others_less w z = let h = and_le_r w (w - 1) in omega (arith, z)
 
 -- ---- the loop over a word of n bits: P holds of what is passed, the numbers below `place`, and the rest are the members from there on
 
@@ -138,8 +138,8 @@ pub record Over (P : ℕ → Type 0) (n word rest : ℕ) : Type 0 where
   pub behind : (k : ℕ) → k < place → bit_at rest k ≡ false
   pub done : P place
 
-pub over-start : (P : ℕ → Type 0) (n word : ℕ) → word < 2 ^ n → P 0 → Over P n word word
-over-start P n word s h =
+pub over_start : (P : ℕ → Type 0) (n word : ℕ) → word < 2 ^ n → P 0 → Over P n word word
+over_start P n word s h =
     record { small = s; place = 0; most = omega arith; ahead = λ k l. refl; behind = λ k l. absurd (omega arith); done = h }
 
 -- over a gap
@@ -151,43 +151,43 @@ across P word skip (suc d) at f h =
     subst P e (skip (at + d) (f (at + d) (omega arith) (omega arith)) (across P word skip d at (λ k a b. f k a (omega arith)) h))
 
 module _ (P : ℕ → Type 0) (n word rest : ℕ) (skip : (k : ℕ) → bit_at word k ≡ false → P k → P (suc k)) (g : Over P n word rest) where
-  over-to : (m : ℕ) → g.place ≤ m → ((k : ℕ) → k < m → bit_at rest k ≡ false) → P m
-  over-to m h f =
+  over_to : (m : ℕ) → g.place ≤ m → ((k : ℕ) → k < m → bit_at rest k ≡ false) → P m
+  over_to m h f =
       let e : g.place + (m - g.place) ≡ m = omega arith in
       subst P e (across P word skip (m - g.place) g.place (λ k a b. sym (g.ahead k a) ∙ f k (omega arith)) g.done)
 
   -- nothing is left
-  pub over-end : rest ≡ 0 → P n
-  over-end z = over-to n g.most (λ k h. ap (λ (w : ℕ). bit_at w k) z ∙ bitAt-zero k)
+  pub over_end : rest ≡ 0 → P n
+  over_end z = over_to n g.most (λ k h. ap (λ (w : ℕ). bit_at w k) z ∙ bit_at_zero k)
 
   module _ (z : rest ≡ 0 → ⊥) where
     abbrev first : ℕ
     first = count_trailing_zeros n rest
 
-    pub over-lowest : Lowest n rest first
-    over-lowest = lowest n rest g.small z
+    pub over_lowest : Lowest n rest first
+    over_lowest = lowest n rest g.small z
 
     ahead_of : g.place ≤ first
     ahead_of =
-        byBool (leb g.place first) (λ t. leb-true g.place first t)
-        (λ t. clash over-lowest.member (g.behind first (leb-false g.place first t)))
+        by_bool (leb g.place first) (λ t. leb-true g.place first t)
+        (λ t. clash over_lowest.member (g.behind first (leb-false g.place first t)))
 
     -- at the lowest of those left: what is known of it, and what holds of the numbers below it
-    pub over-member : bit_at word first ≡ true
-    over-member = sym (g.ahead first ahead_of) ∙ over-lowest.member
+    pub over_member : bit_at word first ≡ true
+    over_member = sym (g.ahead first ahead_of) ∙ over_lowest.member
 
-    pub over-here : P first
-    over-here = over-to first ahead_of over-lowest.none
+    pub over_here : P first
+    over_here = over_to first ahead_of over_lowest.none
 
-    pub over-next : (Q : ℕ → Type 0) → Q (suc first) → Over Q n word (bit_and rest (rest - 1))
-    over-next Q q =
+    pub over_next : (Q : ℕ → Type 0) → Q (suc first) → Over Q n word (bit_and rest (rest - 1))
+    over_next Q q =
         let a = ahead_of in
         let s = g.small in
-        let l = others-less rest z in
+        let l = others_less rest z in
         record {
           small = omega arith;
           place = suc first;
-          most = over-lowest.small;
+          most = over_lowest.small;
           ahead = λ k l.
               others n rest k g.small z
               ∙ ap (λ (b : Bool). bit_at rest k && not b) (ne_eqb k first (λ e. omega arith))
@@ -198,5 +198,5 @@ module _ (P : ℕ → Type 0) (n word rest : ℕ) (skip : (k : ℕ) → bit_at w
       where
         gone : (k : ℕ) → k < suc first → (bit_at rest k && not (eqb k first)) ≡ false
         gone k l =
-            byBool (eqb k first) (λ t. rw t (and-false (bit_at rest k)))
-            (λ t. let ne = eqb-false k first t in ap (λ (b : Bool). b && not (eqb k first)) (over-lowest.none k (omega arith)))
+            by_bool (eqb k first) (λ t. rw t (and-false (bit_at rest k)))
+            (λ t. let ne = eqb-false k first t in ap (λ (b : Bool). b && not (eqb k first)) (over_lowest.none k (omega arith)))

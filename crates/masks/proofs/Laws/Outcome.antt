@@ -10,9 +10,9 @@ use lib.Dec.{ltb}
 use lib.ListN.{length, take, drop, length-append, length-drop}
 use lib.Seq.{take_at, drop_at, length-take-le, sets, sets-eq}
 use borrow.Author.Tests.{lt-ltb, le-ltb, ltb-true, ltb-false}
-use Rattle.masks.specs.Outcome.{Outcome, refused, done, inRoom, reply, left, Answers}
+use Rattle.masks.specs.Outcome.{Outcome, refused, done, in_room, reply, left, Answers}
 use Rattle.masks.specs.declared.reply.Reply.{Reply}
-use Rattle.masks.proofs.Laws.Logic.{byBool, clash}
+use Rattle.masks.proofs.Laws.Logic.{by_bool, clash}
 
 -- ---- computed: two bytes in a room of one, and of three
 
@@ -20,48 +20,48 @@ pub too_short : left (done 0 (1 ∷ 2 ∷ [])) (7 ∷ []) ≡ 7 ∷ []
 unfolding left
 too_short = refl
 
-pub long-enough : left (done 0 (1 ∷ 2 ∷ [])) (7 ∷ 8 ∷ 9 ∷ []) ≡ 1 ∷ 2 ∷ 9 ∷ []
+pub long_enough : left (done 0 (1 ∷ 2 ∷ [])) (7 ∷ 8 ∷ 9 ∷ []) ≡ 1 ∷ 2 ∷ 9 ∷ []
 unfolding left
-long-enough = refl
+long_enough = refl
 
 -- ---- how an operation comes to answer: by a refusal, for want of room, or with the bytes stored
 
-pub answers-refused : (number value : ℕ) (out : List ℕ) {r : Reply} → r ≡ record { number = number; value = value; rounds = 0 }
+pub answers_refused : (number value : ℕ) (out : List ℕ) {r : Reply} → r ≡ record { number = number; value = value; rounds = 0 }
     → Answers (refused number value) out r out
-unfolding reply inRoom left
-answers-refused number value out e = record { replies = e; leaves = refl }
+unfolding reply in_room left
+answers_refused number value out e = record { replies = e; leaves = refl }
 
 -- the reply of a result of n bytes, in a room of so many
-module _ (n rounds room : ℕ) {r : Reply} (e : r ≡ inRoom n rounds room) where
+module _ (n rounds room : ℕ) {r : Reply} (e : r ≡ in_room n rounds room) where
   -- 9: it has more
   short : (r.number ≡ 0 → ⊥) → (room < n) × (r ≡ record { number = 9; value = n; rounds = 0 })
-  unfolding inRoom
+  unfolding in_room
   short f =
-      byBool (ltb room n) (λ t. (ltb-true room n t, e ∙ rw t)) (λ t. absurd (f (ap (λ (x : Reply). x.number) e ∙ rw t)))
+      by_bool (ltb room n) (λ t. (ltb-true room n t, e ∙ rw t)) (λ t. absurd (f (ap (λ (x : Reply). x.number) e ∙ rw t)))
 
   -- else it is 0
   enough : (r.number ≡ 9 → ⊥) → (n ≤ room) × (r ≡ record { number = 0; value = n; rounds = rounds })
-  unfolding inRoom
-  enough f = byBool (ltb room n) (λ t. absurd (f (ap (λ (x : Reply). x.number) e ∙ rw t))) (λ t. (ltb-false room n t, e ∙ rw t))
+  unfolding in_room
+  enough f = by_bool (ltb room n) (λ t. absurd (f (ap (λ (x : Reply). x.number) e ∙ rw t))) (λ t. (ltb-false room n t, e ∙ rw t))
 
-  pub room-short : (r.number ≡ 0 → ⊥) → room < n
-  room-short f = (short f).0
+  pub room_short : (r.number ≡ 0 → ⊥) → room < n
+  room_short f = (short f).0
 
-  pub room-enough : (r.number ≡ 9 → ⊥) → n ≤ room
-  room-enough f = (enough f).0
+  pub room_enough : (r.number ≡ 9 → ⊥) → n ≤ room
+  room_enough f = (enough f).0
 
   -- where that room is the one lent, nothing is stored, or the bytes are
   module _ (bytes : List ℕ) (size : n ≡ length bytes) {out : List ℕ} where
-    pub answers-short : length out ≤ room → (r.number ≡ 0 → ⊥) → Answers (done rounds bytes) out r out
-    unfolding reply inRoom left
-    answers-short l f =
+    pub answers_short : length out ≤ room → (r.number ≡ 0 → ⊥) → Answers (done rounds bytes) out r out
+    unfolding reply in_room left
+    answers_short l f =
         let h = short f in
         let t = lt-ltb (length out) (length bytes) (omega arith) in
         record { replies = h.1 ∙ rw (t, size); leaves = rw t }
 
-    pub answers-done : {after : List ℕ} → room ≤ length out → (r.number ≡ 9 → ⊥) → after ≡ sets out 0 bytes → Answers (done rounds bytes) out r after
-    unfolding reply inRoom left
-    answers-done l f w =
+    pub answers_done : {after : List ℕ} → room ≤ length out → (r.number ≡ 9 → ⊥) → after ≡ sets out 0 bytes → Answers (done rounds bytes) out r after
+    unfolding reply in_room left
+    answers_done l f w =
         let h = enough f in
         let t = le-ltb (length out) (length bytes) (omega arith) in
         let k : 0 + length bytes ≡ length bytes = omega arith in
@@ -72,8 +72,8 @@ module _ (n rounds room : ℕ) {r : Reply} (e : r ≡ inRoom n rounds room) wher
 
 -- ---- what holds of every answer
 
-pub answers-unique : {o : Outcome} {out : List ℕ} {r s : Reply} {a b : List ℕ} → Answers o out r a → Answers o out s b → (r ≡ s) × (a ≡ b)
-answers-unique x y = (x.replies ∙ sym y.replies, x.leaves ∙ sym y.leaves)
+pub answers_unique : {o : Outcome} {out : List ℕ} {r s : Reply} {a b : List ℕ} → Answers o out r a → Answers o out s b → (r ≡ s) × (a ≡ b)
+answers_unique x y = (x.replies ∙ sym y.replies, x.leaves ∙ sym y.leaves)
 
 -- an outcome at a room: either nothing is stored, or the bytes are, and then the reply is 0 with their number
 data Case (o : Outcome) (out : List ℕ) : Type 0 where
@@ -82,10 +82,10 @@ data Case (o : Outcome) (out : List ℕ) : Type 0 where
       → (reply o (length out)).value ≡ length bytes → Case o out
 
 case : (o : Outcome) (out : List ℕ) → Case o out
-unfolding reply inRoom left
+unfolding reply in_room left
 case (refused number value) out = nothing refl
 case (done rounds bytes) out =
-    byBool (ltb (length out) (length bytes)) (λ t. nothing (rw t))
+    by_bool (ltb (length out) (length bytes)) (λ t. nothing (rw t))
     (λ t. stored bytes (ltb-false (length out) (length bytes) t) (rw t) (rw t) (rw t))
 
 module _ {o : Outcome} {out : List ℕ} {r : Reply} {after : List ℕ} (a : Answers o out r after) where
@@ -93,29 +93,29 @@ module _ {o : Outcome} {out : List ℕ} {r : Reply} {after : List ℕ} (a : Answ
   number_is : r.number ≡ (reply o (length out)).number
   number_is = ap (λ (x : Reply). x.number) a.replies
 
-  value-is : r.value ≡ (reply o (length out)).value
-  value-is = ap (λ (x : Reply). x.value) a.replies
+  value_is : r.value ≡ (reply o (length out)).value
+  value_is = ap (λ (x : Reply). x.value) a.replies
 
   -- "On a refusal no output byte changes."
-  pub answers-kept : (r.number ≡ 0 → ⊥) → after ≡ out
-  answers-kept h = go (case o out)
+  pub answers_kept : (r.number ≡ 0 → ⊥) → after ≡ out
+  answers_kept h = go (case o out)
     where
       go : Case o out → after ≡ out
       go (nothing e) = a.leaves ∙ e
       go (stored bytes l e n v) = absurd (h (number_is ∙ n))
 
   -- "On success the output is written from its start and the bytes after it stay."
-  pub answers-rest : r.number ≡ 0 → drop r.value after ≡ drop r.value out
-  answers-rest h = go (case o out)
+  pub answers_rest : r.number ≡ 0 → drop r.value after ≡ drop r.value out
+  answers_rest h = go (case o out)
     where
       go : Case o out → drop r.value after ≡ drop r.value out
       go (nothing e) = ap (drop r.value) (a.leaves ∙ e)
       go (stored bytes l e n v) =
-          let w : r.value ≡ length bytes = value-is ∙ v in
+          let w : r.value ≡ length bytes = value_is ∙ v in
           rw w (ap (drop (length bytes)) (a.leaves ∙ e) ∙ drop_at bytes (drop (length bytes) out) (length bytes) refl)
 
-  pub answers-length : length after ≡ length out
-  answers-length = go (case o out)
+  pub answers_length : length after ≡ length out
+  answers_length = go (case o out)
     where
       go : Case o out → length after ≡ length out
       go (nothing e) = ap {B = ℕ} length (a.leaves ∙ e)
@@ -123,31 +123,31 @@ module _ {o : Outcome} {out : List ℕ} {r : Reply} {after : List ℕ} (a : Answ
 
 -- the number of a refusal, and the bytes that a success wrote, are those of the outcome
 pub answers_number : {number value : ℕ} {out : List ℕ} {r : Reply} {after : List ℕ} → Answers (refused number value) out r after → r.number ≡ number
-unfolding reply inRoom
+unfolding reply in_room
 answers_number a = ap (λ (x : Reply). x.number) a.replies
 
-pub answers-bytes : {rounds : ℕ} {bytes out : List ℕ} {r : Reply} {after : List ℕ} → Answers (done rounds bytes) out r after → r.number ≡ 0
+pub answers_bytes : {rounds : ℕ} {bytes out : List ℕ} {r : Reply} {after : List ℕ} → Answers (done rounds bytes) out r after → r.number ≡ 0
     → take r.value after ≡ bytes
-unfolding reply inRoom left
-answers-bytes {rounds} {bytes} {out} {r} {after} a z =
-    byBool (ltb (length out) (length bytes))
+unfolding reply in_room left
+answers_bytes {rounds} {bytes} {out} {r} {after} a z =
+    by_bool (ltb (length out) (length bytes))
     (λ t. let n : 9 ≡ 0 = sym (ap (λ (x : Reply). x.number) a.replies ∙ rw t) ∙ z in absurd (omega arith))
     (λ t. let v : r.value ≡ length bytes = ap (λ (x : Reply). x.value) a.replies ∙ rw t in
     let e : after ≡ bytes ++ drop (length bytes) out = a.leaves ∙ rw t in
     rw (v, e) (take_at bytes (drop (length bytes) out) (length bytes) refl))
 
-pub answers-zero : {rounds : ℕ} {bytes out : List ℕ} {r : Reply} {after : List ℕ} → Answers (done rounds bytes) out r after → length bytes ≤ length out
+pub answers_zero : {rounds : ℕ} {bytes out : List ℕ} {r : Reply} {after : List ℕ} → Answers (done rounds bytes) out r after → length bytes ≤ length out
     → r.number ≡ 0
-unfolding reply inRoom
-answers-zero {rounds} {bytes} {out} {r} {after} a h =
+unfolding reply in_room
+answers_zero {rounds} {bytes} {out} {r} {after} a h =
     let t = le-ltb (length out) (length bytes) h in ap (λ (x : Reply). x.number) a.replies ∙ rw t
 
 -- a result is answered by 0 or 9
-pub answers-number-done : {rounds : ℕ} {bytes out : List ℕ} {r : Reply} {after : List ℕ} → Answers (done rounds bytes) out r after
+pub answers_number_done : {rounds : ℕ} {bytes out : List ℕ} {r : Reply} {after : List ℕ} → Answers (done rounds bytes) out r after
     → (r.number ≡ 0) ⊎ (r.number ≡ 9)
-unfolding reply inRoom
-answers-number-done {rounds} {bytes} {out} {r} {after} a =
-    byBool (ltb (length out) (length bytes)) (λ t. inr (ap (λ (x : Reply). x.number) a.replies ∙ rw t))
+unfolding reply in_room
+answers_number_done {rounds} {bytes} {out} {r} {after} a =
+    by_bool (ltb (length out) (length bytes)) (λ t. inr (ap (λ (x : Reply). x.number) a.replies ∙ rw t))
     (λ t. inl (ap (λ (x : Reply). x.number) a.replies ∙ rw t))
 
 -- ---- in a room that is large enough
@@ -166,36 +166,36 @@ pub record Told (m n : ℕ) (o : Outcome) (r : Reply) (after : List ℕ) : Type 
   pub is : o ≡ done r.rounds (take r.value after)
 
 module _ (m n : ℕ) {out : List ℕ} {r : Reply} {after : List ℕ} where
-  pub refusal-told : (o : Outcome) → Sized m n o → Answers o out r after → length out ≡ n → (r.number ≡ 0 → ⊥) → o ≡ refused r.number r.value
-  unfolding reply inRoom
-  refusal-told (refused number value) f a size h = sym (ap (λ (x : Reply). refused x.number x.value) a.replies)
-  refusal-told (done rounds bytes) f a size h = absurd (h (answers-zero a (rw size f.1)))
+  pub refusal_told : (o : Outcome) → Sized m n o → Answers o out r after → length out ≡ n → (r.number ≡ 0 → ⊥) → o ≡ refused r.number r.value
+  unfolding reply in_room
+  refusal_told (refused number value) f a size h = sym (ap (λ (x : Reply). refused x.number x.value) a.replies)
+  refusal_told (done rounds bytes) f a size h = absurd (h (answers_zero a (rw size f.1)))
 
-  pub result-told : (o : Outcome) → Sized m n o → Answers o out r after → length out ≡ n → r.number ≡ 0 → Told m n o r after
-  unfolding reply inRoom
-  result-told (refused number value) f a size h = absurd (f (sym (answers_number a) ∙ h))
-  result-told (done rounds bytes) f a size h =
+  pub result_told : (o : Outcome) → Sized m n o → Answers o out r after → length out ≡ n → r.number ≡ 0 → Told m n o r after
+  unfolding reply in_room
+  result_told (refused number value) f a size h = absurd (f (sym (answers_number a) ∙ h))
+  result_told (done rounds bytes) f a size h =
       let t = le-ltb (length out) (length bytes) (rw size f.1) in
       let e : r.rounds ≡ rounds = ap (λ (x : Reply). x.rounds) a.replies ∙ rw t in
       let v : r.value ≡ length bytes = ap (λ (x : Reply). x.value) a.replies ∙ rw t in
-      let l : r.value ≤ length after = omega (arith, answers-length a) in
+      let l : r.value ≤ length after = omega (arith, answers_length a) in
       let s = length-take-le r.value after l in
-      record { long = omega arith; most = omega arith; fits = l; size = sym s; is = ap₂ done (sym e) (sym (answers-bytes a h)) }
+      record { long = omega arith; most = omega arith; fits = l; size = sym s; is = ap₂ done (sym e) (sym (answers_bytes a h)) }
 
 -- ---- outcomes that are equal
 
-isDone : Outcome → Bool
-isDone (refused number value) = false
-isDone (done rounds bytes) = true
+is_done : Outcome → Bool
+is_done (refused number value) = false
+is_done (done rounds bytes) = true
 
 bytes_of : Outcome → List ℕ
 bytes_of (refused number value) = []
 bytes_of (done rounds bytes) = bytes
 
-pub refused-done : {P : Type 0} {number value rounds : ℕ} {bytes : List ℕ} → refused number value ≡ done rounds bytes → P
-unfolding isDone
-refused-done e = clash refl (sym (ap isDone e))
+pub refused_done : {P : Type 0} {number value rounds : ℕ} {bytes : List ℕ} → refused number value ≡ done rounds bytes → P
+unfolding is_done
+refused_done e = clash refl (sym (ap is_done e))
 
-pub done-bytes : {rounds more : ℕ} {xs ys : List ℕ} → done rounds xs ≡ done more ys → xs ≡ ys
+pub done_bytes : {rounds more : ℕ} {xs ys : List ℕ} → done rounds xs ≡ done more ys → xs ≡ ys
 unfolding bytes_of
-done-bytes e = ap bytes_of e
+done_bytes e = ap bytes_of e

@@ -12,69 +12,69 @@ use lib.Dec.{eqb, ltb}
 use lib.ListN.{length, set, length-append, length-set}
 use lib.Seq.{sets}
 use borrow.Author.Tests.{eqb-true, eq-eqb, lt-ltb}
-use Rattle.masks.specs.Limits.{maxArity, allPatterns}
-use Rattle.masks.specs.Lists.{anyBelow, below, has}
+use Rattle.masks.specs.Limits.{max_arity, all_patterns}
+use Rattle.masks.specs.Lists.{any_below, below, has}
 use Rattle.masks.specs.Mask.{within}
 use Rattle.masks.specs.Constraint.{admits, in_range, is_written, drops, least, written, minimise}
 use Rattle.masks.specs.Set.{bit_at, Holds, members}
 use Rattle.masks.specs.Patterns.{EachLane, Agrees}
-use Rattle.masks.proofs.Laws.Logic.{byBool, clash, same, false_of, and_intro, and_left, and_right, or_left, or_right, or_case, not-intro, not-elim}
-use Rattle.masks.proofs.Laws.Lists.{below-has, has-below, below-cong, anyBelow-at, at-anyBelow, all_below, allBelow-at, sets-append}
-use Rattle.masks.proofs.Laws.Mask.{within-refl, within-le, and-within}
+use Rattle.masks.proofs.Laws.Logic.{by_bool, clash, same, false_of, and_intro, and_left, and_right, or_left, or_right, or_case, not_intro, not_elim}
+use Rattle.masks.proofs.Laws.Lists.{below_has, has_below, below_cong, any_below_at, at_any_below, all_below, all_below_at, sets_append}
+use Rattle.masks.proofs.Laws.Mask.{within_refl, within_le, and_within}
 use Rattle.masks.proofs.Laws.Words as words
-use Rattle.masks.proofs.Laws.Constraint.{in_range-has, admits-has, has-admits, admits-up, admits-append, written-cong, written-admits}
-use Rattle.masks.proofs.Laws.Set.{bitAt-zero, bitAt-or, bitAt-more}
-use Rattle.masks.proofs.Laws.Members.{bitAt-and, bitAt-xor, Lowest}
-use Rattle.masks.proofs.Laws.Patterns.{ones as allOnes, bitAt-ones, within-asked, asked-within, columns, bitAt-column}
+use Rattle.masks.proofs.Laws.Constraint.{in_range_has, admits_has, has_admits, admits_up, admits_append, written_cong, written_admits}
+use Rattle.masks.proofs.Laws.Set.{bit_at_zero, bit_at_or, bit_at_more}
+use Rattle.masks.proofs.Laws.Members.{bit_at_and, bit_at_xor, Lowest}
+use Rattle.masks.proofs.Laws.Patterns.{ones as all_ones, bit_at_ones, within_asked, asked_within, columns, bit_at_column}
 
 -- ---- the members
 
-pub has-members : (word a : ℕ) → a < allPatterns → has (members word) a ≡ bit_at word a
+pub has_members : (word a : ℕ) → a < all_patterns → has (members word) a ≡ bit_at word a
 unfolding members
-has-members word a h =
-    same (has (members word) a) (bit_at word a) (λ t. (below-has (bit_at word) allPatterns a t).1) (λ t. has-below (bit_at word) allPatterns a h t)
+has_members word a h =
+    same (has (members word) a) (bit_at word a) (λ t. (below_has (bit_at word) all_patterns a t).1) (λ t. has_below (bit_at word) all_patterns a h t)
 
-pub members-low : (word a : ℕ) → has (members word) a ≡ true → a < allPatterns
+pub members_low : (word a : ℕ) → has (members word) a ≡ true → a < all_patterns
 unfolding members
-members-low word a t = (below-has (bit_at word) allPatterns a t).0
+members_low word a t = (below_has (bit_at word) all_patterns a t).0
 
-pub members-cong : (word : ℕ) (f : ℕ → Bool) → EachLane (λ a. bit_at word a ≡ f a) → members word ≡ below f allPatterns
+pub members_cong : (word : ℕ) (f : ℕ → Bool) → EachLane (λ a. bit_at word a ≡ f a) → members word ≡ below f all_patterns
 unfolding members
-members-cong word f h = below-cong (bit_at word) f allPatterns h
+members_cong word f h = below_cong (bit_at word) f all_patterns h
 
 -- one more
-pub below-yes : (f : ℕ → Bool) (k : ℕ) → f k ≡ true → below f (suc k) ≡ below f k ++ (k ∷ [])
-below-yes f k e = rw e
+pub below_yes : (f : ℕ → Bool) (k : ℕ) → f k ≡ true → below f (suc k) ≡ below f k ++ (k ∷ [])
+below_yes f k e = rw e
 
-pub below-no : (f : ℕ → Bool) (k : ℕ) → f k ≡ false → below f (suc k) ≡ below f k
-below-no f k e = rw e (append-nil (below f k))
+pub below_no : (f : ℕ → Bool) (k : ℕ) → f k ≡ false → below f (suc k) ≡ below f k
+below_no f k e = rw e (append-nil (below f k))
 
-below-grows : (f : ℕ → Bool) (k d : ℕ) → length (below f k) ≤ length (below f (d + k))
-below-grows f k zero = let e : 0 + k ≡ k = omega arith in rw e (omega arith)
-below-grows f k (suc d) =
+below_grows : (f : ℕ → Bool) (k d : ℕ) → length (below f k) ≤ length (below f (d + k))
+below_grows f k zero = let e : 0 + k ≡ k = omega arith in rw e (omega arith)
+below_grows f k (suc d) =
     let e : suc d + k ≡ suc (d + k) = omega arith in
-    let h = below-grows f k d in
+    let h = below_grows f k d in
     let l = length-append (below f (d + k)) (cond (f (d + k)) ((d + k) ∷ []) []) in
     rw e (omega arith)
 
-below-longer : (f : ℕ → Bool) (k n : ℕ) → k ≤ n → length (below f k) ≤ length (below f n)
-below-longer f k n h = let e : (n - k) + k ≡ n = omega arith in subst (λ (i : ℕ). length (below f k) ≤ length (below f i)) e (below-grows f k (n - k))
+below_longer : (f : ℕ → Bool) (k n : ℕ) → k ≤ n → length (below f k) ≤ length (below f n)
+below_longer f k n h = let e : (n - k) + k ≡ n = omega arith in subst (λ (i : ℕ). length (below f k) ≤ length (below f i)) e (below_grows f k (n - k))
 
 -- there are as many as bits are set
 one : Bool → ℕ
 one true = 1
 one false = 0
 
-below-first : (f : ℕ → Bool) (n : ℕ) → length (below f (suc n)) ≡ one (f 0) + length (below (λ a. f (suc a)) n)
+below_first : (f : ℕ → Bool) (n : ℕ) → length (below f (suc n)) ≡ one (f 0) + length (below (λ a. f (suc a)) n)
 unfolding one
-below-first f zero = go (f 0)
+below_first f zero = go (f 0)
   where
     go : (b : Bool) → length {A = ℕ} (cond b (0 ∷ []) []) ≡ one b + 0
     go true = refl
     go false = refl
-below-first f (suc n) =
+below_first f (suc n) =
     length-append (below f (suc n)) (cond (f (suc n)) (suc n ∷ []) [])
-    ∙ ap₂ ◌+◌ (below-first f n) (go (f (suc n)))
+    ∙ ap₂ ◌+◌ (below_first f n) (go (f (suc n)))
     ∙ sums
   where
     go : (b : Bool) → length {A = ℕ} (cond b (suc n ∷ []) []) ≡ length {A = ℕ} (cond b (n ∷ []) [])
@@ -89,16 +89,16 @@ unfolding bit_at ones one
 ones_below zero word h = let e : word ≡ 0 = omega arith in ap ones e
 ones_below (suc n) word h =
     let p = pow-suc 2 n in
-    ones_step word ∙ ap₂ ◌+◌ (digit (word % 2) (omega arith)) (ones_below n (word / 2) (omega arith)) ∙ sym (below-first (bit_at word) n)
+    ones_step word ∙ ap₂ ◌+◌ (digit (word % 2) (omega arith)) (ones_below n (word / 2) (omega arith)) ∙ sym (below_first (bit_at word) n)
   where
     digit : (d : ℕ) → d < 2 → d ≡ one (eqb d 1)
     digit zero l = refl
     digit (suc zero) l = refl
     digit (suc (suc d)) l = absurd (omega arith)
 
-pub ones-members : (word : ℕ) → word < 2 ^ 64 → ones word ≡ length (members word)
+pub ones_members : (word : ℕ) → word < 2 ^ 64 → ones word ≡ length (members word)
 unfolding members
-ones-members word h = ones_below allPatterns word h
+ones_members word h = ones_below all_patterns word h
 
 -- ---- the loop that writes them: those below k stand from `at` on, and p is the place after them
 
@@ -107,29 +107,29 @@ pub record Put (word : ℕ) (before : List ℕ) (at p : ℕ) (out : List ℕ) (k
   pub place : p ≡ at + length (below (bit_at word) k)
   pub is : out ≡ sets before at (below (bit_at word) k)
 
-pub put-start : (word : ℕ) (out : List ℕ) (at : ℕ) → Put word out at at out 0
-put-start word out at = record { size = refl; place = omega arith; is = refl }
+pub put_start : (word : ℕ) (out : List ℕ) (at : ℕ) → Put word out at at out 0
+put_start word out at = record { size = refl; place = omega arith; is = refl }
 
 module _ (word : ℕ) {before : List ℕ} {at p : ℕ} {out : List ℕ} (k : ℕ) where
-  pub put-skip : bit_at word k ≡ false → Put word before at p out k → Put word before at p out (suc k)
-  put-skip e g =
-      let n = below-no (bit_at word) k e in
+  pub put_skip : bit_at word k ≡ false → Put word before at p out k → Put word before at p out (suc k)
+  put_skip e g =
+      let n = below_no (bit_at word) k e in
       record { size = g.size; place = g.place ∙ ap (λ (l : List ℕ). at + length l) (sym n); is = g.is ∙ ap (sets before at) (sym n) }
 
   -- there is room for one more
-  pub put-room : bit_at word k ≡ true → k < allPatterns → at + length (members word) ≤ length before → Put word before at p out k → p < length out
+  pub put_room : bit_at word k ≡ true → k < all_patterns → at + length (members word) ≤ length before → Put word before at p out k → p < length out
   unfolding members
-  put-room e h r g =
-      let y = ap {B = ℕ} length (below-yes (bit_at word) k e) in
+  put_room e h r g =
+      let y = ap {B = ℕ} length (below_yes (bit_at word) k e) in
       let l = length-append (below (bit_at word) k) (k ∷ []) in
-      let m = below-longer (bit_at word) (suc k) allPatterns h in
+      let m = below_longer (bit_at word) (suc k) all_patterns h in
       let s = g.size in
       let q = g.place in
       omega arith
 
   pub put_next : bit_at word k ≡ true → Put word before at p out k → Put word before at (p + 1) (set out p k) (suc k)
   put_next e g =
-      let y = below-yes (bit_at word) k e in
+      let y = below_yes (bit_at word) k e in
       record {
         size = length-set out p k ∙ g.size;
         place =
@@ -139,21 +139,21 @@ module _ (word : ℕ) {before : List ℕ} {at p : ℕ} {out : List ℕ} (k : ℕ
             omega arith;
         is =
             ap₂ (λ (l : List ℕ) (i : ℕ). set l i k) g.is g.place
-            ∙ sym (sets-append before at (below (bit_at word) k) (k ∷ []))
+            ∙ sym (sets_append before at (below (bit_at word) k) (k ∷ []))
             ∙ ap (sets before at) (sym y);
       }
 
 -- ---- what they admit
 
 -- with all the patterns that a constraint admits they admit what it does
-pub admits-full : (c : List ℕ) (word : ℕ) → EachLane (λ a. bit_at word a ≡ admits c a) → EachLane (λ a. admits (members word) a ≡ admits c a)
-admits-full c word h a l =
+pub admits_full : (c : List ℕ) (word : ℕ) → EachLane (λ a. bit_at word a ≡ admits c a) → EachLane (λ a. admits (members word) a ≡ admits c a)
+admits_full c word h a l =
     same (admits (members word) a) (admits c a)
     (λ t.
-    let r = admits-has (members word) a t in
-    let k = members-low word r.0 r.1 in
-    admits-up c r.0 a r.2 (sym (h r.0 k) ∙ sym (has-members word r.0 k) ∙ r.1))
-    (λ t. has-admits (members word) a a (has-members word a l ∙ h a l ∙ t) (within-refl a))
+    let r = admits_has (members word) a t in
+    let k = members_low word r.0 r.1 in
+    admits_up c r.0 a r.2 (sym (h r.0 k) ∙ sym (has_members word r.0 k) ∙ r.1))
+    (λ t. has_admits (members word) a a (has_members word a l ∙ h a l ∙ t) (within_refl a))
 
 -- ---- the loop that tries them in all lanes: r has the lanes whose pattern fits one of those below k
 
@@ -161,103 +161,103 @@ abbrev pub Tried : List ℕ → ℕ → ℕ → ℕ → Type 0
 Tried words masks r k = EachLane (λ a. (p : ℕ) → Agrees words a p → bit_at r a ≡ admits (below (bit_at masks) k) p)
 
 module _ (words : List ℕ) (masks : ℕ) where
-  pub tried-start : Tried words masks 0 0
+  pub tried_start : Tried words masks 0 0
   unfolding admits
-  tried-start a h p f = bitAt-zero a
+  tried_start a h p f = bit_at_zero a
 
-  pub tried-skip : (r k : ℕ) → bit_at masks k ≡ false → Tried words masks r k → Tried words masks r (suc k)
-  tried-skip r k e g a h p f = g a h p f ∙ ap (λ (c : List ℕ). admits c p) (sym (below-no (bit_at masks) k e))
+  pub tried_skip : (r k : ℕ) → bit_at masks k ≡ false → Tried words masks r k → Tried words masks r (suc k)
+  tried_skip r k e g a h p f = g a h p f ∙ ap (λ (c : List ℕ). admits c p) (sym (below_no (bit_at masks) k e))
 
-  pub tried-next : (r w k : ℕ) → bit_at masks k ≡ true → EachLane (λ a. (p : ℕ) → Agrees words a p → bit_at w a ≡ within k p)
+  pub tried_next : (r w k : ℕ) → bit_at masks k ≡ true → EachLane (λ a. (p : ℕ) → Agrees words a p → bit_at w a ≡ within k p)
       → Tried words masks r k → Tried words masks (bit_or r w) (suc k)
   unfolding admits
-  tried-next r w k e q g a h p f =
-      bitAt-or r w a
+  tried_next r w k e q g a h p f =
+      bit_at_or r w a
       ∙ ap₂ (λ (x y : Bool). x || y) (g a h p f) (q a h p f ∙ sym (or-false (within k p)))
-      ∙ sym (admits-append (below (bit_at masks) k) (k ∷ []) p)
-      ∙ ap (λ (c : List ℕ). admits c p) (sym (below-yes (bit_at masks) k e))
+      ∙ sym (admits_append (below (bit_at masks) k) (k ∷ []) p)
+      ∙ ap (λ (c : List ℕ). admits c p) (sym (below_yes (bit_at masks) k e))
 
-  pub tried-end : (r : ℕ) → Tried words masks r allPatterns → EachLane (λ a. (p : ℕ) → Agrees words a p → bit_at r a ≡ admits (members masks) p)
+  pub tried_end : (r : ℕ) → Tried words masks r all_patterns → EachLane (λ a. (p : ℕ) → Agrees words a p → bit_at r a ≡ admits (members masks) p)
   unfolding members
-  tried-end r g = g
+  tried_end r g = g
 
 -- in lane a the columns have the bits of a
-pub in-columns : (P : ℕ → ℕ → Type 0) → EachLane (λ a. (p : ℕ) → Agrees columns a p → P a p) → EachLane (λ a. P a a)
-in-columns P g a h = g a h a (λ i m. bitAt-column i m a h)
+pub in_columns : (P : ℕ → ℕ → Type 0) → EachLane (λ a. (p : ℕ) → Agrees columns a p → P a p) → EachLane (λ a. P a a)
+in_columns P g a h = g a h a (λ i m. bit_at_column i m a h)
 
 -- ---- the loop that keeps the least: what is left has those of the set in which no kept one is contained
 
 pub record Keeping (word kept rest : ℕ) : Type 0 where
   pub small : rest < 2 ^ 64
-  pub keeps : (m : ℕ) → bit_at kept m ≡ true → (m < allPatterns) × (least (bit_at word) allPatterns m ≡ true)
+  pub keeps : (m : ℕ) → bit_at kept m ≡ true → (m < all_patterns) × (least (bit_at word) all_patterns m ≡ true)
   pub left : EachLane (λ m. bit_at rest m ≡ (bit_at word m && not (admits (members kept) m)))
 
 no_one : (a : ℕ) → admits (members 0) a ≡ false
 no_one a =
     false_of (λ t.
-    let r = admits-has (members 0) a t in
-    clash r.1 (has-members 0 r.0 (members-low 0 r.0 r.1) ∙ bitAt-zero r.0))
+    let r = admits_has (members 0) a t in
+    clash r.1 (has_members 0 r.0 (members_low 0 r.0 r.1) ∙ bit_at_zero r.0))
 
 pub keeping_start : (word : ℕ) → word < 2 ^ 64 → Keeping word 0 word
 keeping_start word h =
     record {
       small = h;
-      keeps = λ m t. clash t (bitAt-zero m);
+      keeps = λ m t. clash t (bit_at_zero m);
       left = λ m l. sym (ap (λ (b : Bool). bit_at word m && not b) (no_one m) ∙ and-true (bit_at word m));
     }
 
 -- what one more admits
-admits-more : (kept m : ℕ) → m < allPatterns → (a : ℕ) → admits (members (bit_or kept (2 ^ m))) a ≡ (admits (members kept) a || within m a)
-admits-more kept m h a =
+admits_more : (kept m : ℕ) → m < all_patterns → (a : ℕ) → admits (members (bit_or kept (2 ^ m))) a ≡ (admits (members kept) a || within m a)
+admits_more kept m h a =
     let more = bit_or kept (2 ^ m) in
     same (admits (members more) a) (admits (members kept) a || within m a)
     (λ t.
-    let r = admits-has (members more) a t in
-    let l = members-low more r.0 r.1 in
-    or_case (bit_at kept r.0) (eqb m r.0) (sym (bitAt-more kept m r.0) ∙ sym (has-members more r.0 l) ∙ r.1)
-    (λ s. or_left (admits (members kept) a) (within m a) (has-admits (members kept) a r.0 (has-members kept r.0 l ∙ s) r.2))
+    let r = admits_has (members more) a t in
+    let l = members_low more r.0 r.1 in
+    or_case (bit_at kept r.0) (eqb m r.0) (sym (bit_at_more kept m r.0) ∙ sym (has_members more r.0 l) ∙ r.1)
+    (λ s. or_left (admits (members kept) a) (within m a) (has_admits (members kept) a r.0 (has_members kept r.0 l ∙ s) r.2))
     (λ s. or_right (admits (members kept) a) (rw (eqb-true m r.0 s) r.2)))
     (λ t.
     or_case (admits (members kept) a) (within m a) t
     (λ s.
-    let r = admits-has (members kept) a s in
-    let l = members-low kept r.0 r.1 in
-    has-admits (members more) a r.0
-    (has-members more r.0 l ∙ bitAt-more kept m r.0 ∙ or_left (bit_at kept r.0) (eqb m r.0) (sym (has-members kept r.0 l) ∙ r.1)) r.2)
-    (λ s. has-admits (members more) a m (has-members more m h ∙ bitAt-more kept m m ∙ or_right (bit_at kept m) (eq-eqb m m refl)) s))
+    let r = admits_has (members kept) a s in
+    let l = members_low kept r.0 r.1 in
+    has_admits (members more) a r.0
+    (has_members more r.0 l ∙ bit_at_more kept m r.0 ∙ or_left (bit_at kept r.0) (eqb m r.0) (sym (has_members kept r.0 l) ∙ r.1)) r.2)
+    (λ s. has_admits (members more) a m (has_members more m h ∙ bit_at_more kept m m ∙ or_right (bit_at kept m) (eq-eqb m m refl)) s))
 
 module _ (word kept rest m up : ℕ) (g : Keeping word kept rest) (l : Lowest 64 rest m) (above : EachLane (λ a. bit_at up a ≡ within m a)) where
   here : (bit_at word m && not (admits (members kept) m)) ≡ true
   here = sym (g.left m l.small) ∙ l.member
 
   -- none of the set that is contained in the lowest of those left is another
-  lowest-least : least (bit_at word) allPatterns m ≡ true
+  lowest_least : least (bit_at word) all_patterns m ≡ true
   unfolding least drops
-  lowest-least =
+  lowest_least =
       and_intro (and_left (bit_at word m) (not (admits (members kept) m)) here)
-      (not-intro (λ t.
-      let r = anyBelow-at (drops (bit_at word) m) allPatterns t in
+      (not_intro (λ t.
+      let r = any_below_at (drops (bit_at word) m) all_patterns t in
       let k = r.0 in
       let in· = and_left (bit_at word k) (within k m && not (eqb k m)) r.2 in
       let inside = and_left (within k m) (not (eqb k m)) (and_right (bit_at word k) (within k m && not (eqb k m)) r.2) in
-      let other : k ≡ m → ⊥ = λ e. not-elim (eqb k m) (and_right (within k m) (not (eqb k m)) (and_right (bit_at word k) (within k m && not (eqb k m)) r.2)) (eq-eqb k m e) in
-      let le = within-le k m inside in
+      let other : k ≡ m → ⊥ = λ e. not_elim (eqb k m) (and_right (within k m) (not (eqb k m)) (and_right (bit_at word k) (within k m && not (eqb k m)) r.2)) (eq-eqb k m e) in
+      let le = within_le k m inside in
       let free : admits (members kept) k ≡ false =
-      false_of (λ s. not-elim (admits (members kept) m) (and_right (bit_at word m) (not (admits (members kept) m)) here) (admits-up (members kept) k m inside s)) in
+      false_of (λ s. not_elim (admits (members kept) m) (and_right (bit_at word m) (not (admits (members kept) m)) here) (admits_up (members kept) k m inside s)) in
       clash (g.left k r.1 ∙ rw (in·, free)) (l.none k (omega (arith, other)))))
 
-  pub keeping-next : Keeping word (bit_or kept (2 ^ m)) (bit_and rest (bit_xor up allOnes))
-  keeping-next =
+  pub keeping_next : Keeping word (bit_or kept (2 ^ m)) (bit_and rest (bit_xor up all_ones))
+  keeping_next =
       record {
-        small = let s = g.small in let h = and_le_l rest (bit_xor up allOnes) in omega arith;
+        small = let s = g.small in let h = and_le_l rest (bit_xor up all_ones) in omega arith;
         keeps = λ k t.
-            or_case (bit_at kept k) (eqb m k) (sym (bitAt-more kept m k) ∙ t) (g.keeps k)
-            (λ e. rw (← eqb-true m k e) (l.small, lowest-least));
+            or_case (bit_at kept k) (eqb m k) (sym (bit_at_more kept m k) ∙ t) (g.keeps k)
+            (λ e. rw (← eqb-true m k e) (l.small, lowest_least));
         left = λ k h.
-            bitAt-and rest (bit_xor up allOnes) k
-            ∙ ap₂ (λ (x y : Bool). x && y) (g.left k h) (bitAt-xor up allOnes k ∙ rw (bitAt-ones k h) (flip (bit_at up k)) ∙ ap not (above k h))
+            bit_at_and rest (bit_xor up all_ones) k
+            ∙ ap₂ (λ (x y : Bool). x && y) (g.left k h) (bit_at_xor up all_ones k ∙ rw (bit_at_ones k h) (flip (bit_at up k)) ∙ ap not (above k h))
             ∙ go (bit_at word k) (admits (members kept) k) (within m k)
-            ∙ ap (λ (b : Bool). bit_at word k && not b) (sym (admits-more kept m l.small k));
+            ∙ ap (λ (b : Bool). bit_at word k && not b) (sym (admits_more kept m l.small k));
       }
     where
       flip : (b : Bool) → cond b false true ≡ not b
@@ -270,107 +270,107 @@ module _ (word kept rest m up : ℕ) (g : Keeping word kept rest) (l : Lowest 64
       go false b c = refl
 
   -- the lowest is no longer left
-  pub keeping-less : bit_and rest (bit_xor up allOnes) < rest
-  keeping-less =
-      let h = and_le_l rest (bit_xor up allOnes) in
-      let ne : bit_and rest (bit_xor up allOnes) ≡ rest → ⊥ =
+  pub keeping_less : bit_and rest (bit_xor up all_ones) < rest
+  keeping_less =
+      let h = and_le_l rest (bit_xor up all_ones) in
+      let ne : bit_and rest (bit_xor up all_ones) ≡ rest → ⊥ =
       λ e.
       clash (ap (λ (w : ℕ). bit_at w m) e ∙ l.member)
-      (bitAt-and rest (bit_xor up allOnes) m
-      ∙ ap (λ (b : Bool). bit_at rest m && b) (bitAt-xor up allOnes m ∙ rw (above m l.small ∙ within-refl m, bitAt-ones m l.small))
+      (bit_at_and rest (bit_xor up all_ones) m
+      ∙ ap (λ (b : Bool). bit_at rest m && b) (bit_at_xor up all_ones m ∙ rw (above m l.small ∙ within_refl m, bit_at_ones m l.small))
       ∙ and-false (bit_at rest m)) in
       omega (arith, ne)
 
-pub keeping-end : (word kept rest : ℕ) → rest ≡ 0 → Keeping word kept rest → members kept ≡ written (bit_at word) allPatterns
+pub keeping_end : (word kept rest : ℕ) → rest ≡ 0 → Keeping word kept rest → members kept ≡ written (bit_at word) all_patterns
 unfolding written least drops
-keeping-end word kept rest z g = members-cong kept (least (bit_at word) allPatterns) (λ m h. same (bit_at kept m) (least (bit_at word) allPatterns m) (λ t. (g.keeps m t).1) (back m h))
+keeping_end word kept rest z g = members_cong kept (least (bit_at word) all_patterns) (λ m h. same (bit_at kept m) (least (bit_at word) all_patterns m) (λ t. (g.keeps m t).1) (back m h))
   where
-    back : (m : ℕ) → m < allPatterns → least (bit_at word) allPatterns m ≡ true → bit_at kept m ≡ true
+    back : (m : ℕ) → m < all_patterns → least (bit_at word) all_patterns m ≡ true → bit_at kept m ≡ true
     back m h t =
-        let one = and_left (bit_at word m) (not (anyBelow (drops (bit_at word) m) allPatterns)) t in
-        let none = and_right (bit_at word m) (not (anyBelow (drops (bit_at word) m) allPatterns)) t in
-        let gone : (bit_at word m && not (admits (members kept) m)) ≡ false = sym (g.left m h) ∙ ap (λ (w : ℕ). bit_at w m) z ∙ bitAt-zero m in
-        let a : admits (members kept) m ≡ true = byBool (admits (members kept) m) (λ e. e) (λ e. clash (rw (one, e)) gone) in
-        let r = admits-has (members kept) m a in
+        let one = and_left (bit_at word m) (not (any_below (drops (bit_at word) m) all_patterns)) t in
+        let none = and_right (bit_at word m) (not (any_below (drops (bit_at word) m) all_patterns)) t in
+        let gone : (bit_at word m && not (admits (members kept) m)) ≡ false = sym (g.left m h) ∙ ap (λ (w : ℕ). bit_at w m) z ∙ bit_at_zero m in
+        let a : admits (members kept) m ≡ true = by_bool (admits (members kept) m) (λ e. e) (λ e. clash (rw (one, e)) gone) in
+        let r = admits_has (members kept) m a in
         let k = r.0 in
-        let l = members-low kept k r.1 in
-        let is = sym (has-members kept k l) ∙ r.1 in
-        let set· = and_left (bit_at word k) (not (anyBelow (drops (bit_at word) k) allPatterns)) (g.keeps k is).1 in
-        byBool (eqb k m) (λ e. rw (← eqb-true k m e) is)
+        let l = members_low kept k r.1 in
+        let is = sym (has_members kept k l) ∙ r.1 in
+        let set· = and_left (bit_at word k) (not (any_below (drops (bit_at word) k) all_patterns)) (g.keeps k is).1 in
+        by_bool (eqb k m) (λ e. rw (← eqb-true k m e) is)
         (λ e.
-        not-elim (anyBelow (drops (bit_at word) m) allPatterns) none
-        (at-anyBelow (drops (bit_at word) m) allPatterns k l (and_intro set· (and_intro r.2 (ap not e)))))
+        not_elim (any_below (drops (bit_at word) m) all_patterns) none
+        (at_any_below (drops (bit_at word) m) all_patterns k l (and_intro set· (and_intro r.2 (ap not e)))))
 
 -- ---- the written form of what a word holds
 
-pub minimise-held : (word : ℕ) (c : List ℕ) → Holds word (has c) → written (bit_at word) allPatterns ≡ minimise c
+pub minimise_held : (word : ℕ) (c : List ℕ) → Holds word (has c) → written (bit_at word) all_patterns ≡ minimise c
 unfolding minimise
-minimise-held word c f = written-cong (bit_at word) (has c) allPatterns (λ k h. f k)
+minimise_held word c f = written_cong (bit_at word) (has c) all_patterns (λ k h. f k)
 
 -- a constraint in written form is that of the patterns it admits
-pub written-full : (c : List ℕ) → is_written allPatterns c ≡ true → (word : ℕ) → EachLane (λ a. bit_at word a ≡ admits c a) → written (bit_at word) allPatterns ≡ c
-written-full c w word f = written-cong (bit_at word) (admits c) allPatterns f ∙ written-admits allPatterns c w
+pub written_full : (c : List ℕ) → is_written all_patterns c ≡ true → (word : ℕ) → EachLane (λ a. bit_at word a ≡ admits c a) → written (bit_at word) all_patterns ≡ c
+written_full c w word f = written_cong (bit_at word) (admits c) all_patterns f ∙ written_admits all_patterns c w
 
-pub below-most : (f : ℕ → Bool) (n : ℕ) → length (below f n) ≤ n
-below-most f zero = omega arith
-below-most f (suc n) =
+pub below_most : (f : ℕ → Bool) (n : ℕ) → length (below f n) ≤ n
+below_most f zero = omega arith
+below_most f (suc n) =
     let l = length-append (below f n) (cond (f n) (n ∷ []) []) in
-    let h = below-most f n in
-    byBool (f n) (λ e. let y = ap {B = ℕ} length (below-yes f n e) in let k = length-append (below f n) (n ∷ []) in omega arith)
-    (λ e. let y = ap {B = ℕ} length (below-no f n e) in omega arith)
+    let h = below_most f n in
+    by_bool (f n) (λ e. let y = ap {B = ℕ} length (below_yes f n e) in let k = length-append (below f n) (n ∷ []) in omega arith)
+    (λ e. let y = ap {B = ℕ} length (below_no f n e) in omega arith)
 
-pub members-most : (word : ℕ) → length (members word) ≤ allPatterns
+pub members_most : (word : ℕ) → length (members word) ≤ all_patterns
 unfolding members
-members-most word = below-most (bit_at word) allPatterns
+members_most word = below_most (bit_at word) all_patterns
 
 -- the empty set, and that of the mask 0
-pub members-none : members 0 ≡ []
+pub members_none : members 0 ≡ []
 unfolding members bit_at
-members-none = refl
+members_none = refl
 
-pub members-zero : members 1 ≡ 0 ∷ []
+pub members_zero : members 1 ≡ 0 ∷ []
 unfolding members bit_at
-members-zero = refl
+members_zero = refl
 
 -- ---- the lowest bits of a pattern: a pattern of k positions, contained in it, that has the same of them
 
 low_bits : ℕ → ℕ → Bool
 low_bits k i = not (ltb i k) || bit_at (2 ^ k - 1) i
 
-low_bit : (k i : ℕ) → k ≤ maxArity → i < k → bit_at (2 ^ k - 1) i ≡ true
+low_bit : (k i : ℕ) → k ≤ max_arity → i < k → bit_at (2 ^ k - 1) i ≡ true
 unfolding low_bits bit_at
 low_bit k i h l =
     or_case (not (ltb i k)) (bit_at (2 ^ k - 1) i)
-    (allBelow-at (low_bits k) maxArity (allBelow-at (λ j. all_below (low_bits j) maxArity) 7 refl k (omega arith)) i (omega arith))
-    (λ n. not-elim (ltb i k) n (lt-ltb i k l)) (λ t. t)
+    (all_below_at (low_bits k) max_arity (all_below_at (λ j. all_below (low_bits j) max_arity) 7 refl k (omega arith)) i (omega arith))
+    (λ n. not_elim (ltb i k) n (lt-ltb i k l)) (λ t. t)
 
 pub cut : ℕ → ℕ → ℕ
 cut k a = bit_and a (2 ^ k - 1)
 
 module _ (k a : ℕ) where
-  pub cut-less : cut k a < 2 ^ k
+  pub cut_less : cut k a < 2 ^ k
   unfolding cut
-  cut-less = mask_lt a k
+  cut_less = mask_lt a k
 
-  pub cut-bits : k ≤ maxArity → (i : ℕ) → i < k → bit_at (cut k a) i ≡ bit_at a i
+  pub cut_bits : k ≤ max_arity → (i : ℕ) → i < k → bit_at (cut k a) i ≡ bit_at a i
   unfolding cut
-  cut-bits h i l = bitAt-and a (2 ^ k - 1) i ∙ ap (λ (b : Bool). bit_at a i && b) (low_bit k i h l) ∙ and-true (bit_at a i)
+  cut_bits h i l = bit_at_and a (2 ^ k - 1) i ∙ ap (λ (b : Bool). bit_at a i && b) (low_bit k i h l) ∙ and-true (bit_at a i)
 
-  pub cut-within : within (cut k a) a ≡ true
+  pub cut_within : within (cut k a) a ≡ true
   unfolding cut
-  cut-within =
-      and-within (cut k a) a
-      (let h = words.within-le (bit_and (cut k a) a) (cut k a) (λ j t. and_left (bit_at (cut k a) j) (bit_at a j) (sym (bitAt-and (cut k a) a j) ∙ t)) in
-      let i = words.within-le (cut k a) (bit_and (cut k a) a)
-      (λ j t. bitAt-and (cut k a) a j ∙ and_intro t (and_left (bit_at a j) (bit_at (2 ^ k - 1) j) (sym (bitAt-and a (2 ^ k - 1) j) ∙ t))) in
+  cut_within =
+      and_within (cut k a) a
+      (let h = words.within_le (bit_and (cut k a) a) (cut k a) (λ j t. and_left (bit_at (cut k a) j) (bit_at a j) (sym (bit_at_and (cut k a) a j) ∙ t)) in
+      let i = words.within_le (cut k a) (bit_and (cut k a) a)
+      (λ j t. bit_at_and (cut k a) a j ∙ and_intro t (and_left (bit_at a j) (bit_at (2 ^ k - 1) j) (sym (bit_at_and a (2 ^ k - 1) j) ∙ t))) in
       omega arith)
 
   -- a mask of k positions is contained in it where it is contained in the pattern
-  within-cut : k ≤ maxArity → (m : ℕ) → m < 2 ^ k → within m a ≡ true → within m (cut k a) ≡ true
-  within-cut h m l t = asked-within k m (cut k a) l (λ i g. ap (λ (b : Bool). not (bit_at m i) || b) (cut-bits h i g) ∙ within-asked m a i t)
+  within_cut : k ≤ max_arity → (m : ℕ) → m < 2 ^ k → within m a ≡ true → within m (cut k a) ≡ true
+  within_cut h m l t = asked_within k m (cut k a) l (λ i g. ap (λ (b : Bool). not (bit_at m i) || b) (cut_bits h i g) ∙ within_asked m a i t)
 
   -- so a constraint of k positions admits it where it admits the pattern
-  pub admits-cut : k ≤ maxArity → (c : List ℕ) → in_range (2 ^ k) c ≡ true → admits c (cut k a) ≡ admits c a
-  admits-cut h c s =
-      same (admits c (cut k a)) (admits c a) (admits-up c (cut k a) a cut-within)
-      (λ t. let r = admits-has c a t in has-admits c (cut k a) r.0 r.1 (within-cut h r.0 (in_range-has (2 ^ k) c s r.0 r.1) r.2))
+  pub admits_cut : k ≤ max_arity → (c : List ℕ) → in_range (2 ^ k) c ≡ true → admits c (cut k a) ≡ admits c a
+  admits_cut h c s =
+      same (admits c (cut k a)) (admits c a) (admits_up c (cut k a) a cut_within)
+      (λ t. let r = admits_has c a t in has_admits c (cut k a) r.0 r.1 (within_cut h r.0 (in_range_has (2 ^ k) c s r.0 r.1) r.2))

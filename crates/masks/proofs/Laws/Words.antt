@@ -8,31 +8,31 @@ use lib.Bits.{bit_xor, and_le_l, and_le_r, xor_add_and, xor_self}
 use lib.Dec.{eqb}
 use borrow.Author.Tests.{eqb-true, eqb-false}
 use Rattle.masks.specs.Set.{bit_at}
-use Rattle.masks.proofs.Laws.Logic.{byBool, clash}
-use Rattle.masks.proofs.Laws.Members.{bitAt-xor}
+use Rattle.masks.proofs.Laws.Logic.{by_bool, clash}
+use Rattle.masks.proofs.Laws.Members.{bit_at_xor}
 
 -- every member of y is one of x
 abbrev pub Within : ℕ → ℕ → Type 0
 Within y x = (j : ℕ) → bit_at y j ≡ true → bit_at x j ≡ true
 
-pub within-le : (y x : ℕ) → Within y x → y ≤ x
+pub within_le : (y x : ℕ) → Within y x → y ≤ x
 unfolding bit_at
-within-le = bin_ind (λ y. (x : ℕ) → Within y x → y ≤ x) (λ x f. omega arith) step
+within_le = bin_ind (λ y. (x : ℕ) → Within y x → y ≤ x) (λ x f. omega arith) step
   where
     step : (y : ℕ) → ((x : ℕ) → Within (y / 2) x → y / 2 ≤ x) → (x : ℕ) → Within y x → y ≤ x
     step y r x f =
         let h = r (x / 2) (λ j. f (suc j)) in
-        byBool (eqb (y % 2) 1)
+        by_bool (eqb (y % 2) 1)
         (λ t. let e = eqb-true (y % 2) 1 t in let g = eqb-true (x % 2) 1 (f 0 t) in omega arith)
         (λ t. let e = eqb-false (y % 2) 1 t in omega (arith, e))
 
-pub no-members : (w : ℕ) → ((j : ℕ) → bit_at w j ≡ false) → w ≡ 0
-no-members w f = let h = within-le w 0 (λ j t. clash t (f j)) in omega arith
+pub no_members : (w : ℕ) → ((j : ℕ) → bit_at w j ≡ false) → w ≡ 0
+no_members w f = let h = within_le w 0 (λ j t. clash t (f j)) in omega arith
 
 -- the members of x that are not in y
 module _ (x y : ℕ) where
-  pub in-new : (j : ℕ) → bit_at x j ≡ true → bit_at y j ≡ false → bit_at (bit_xor x y) j ≡ true
-  in-new j s t = bitAt-xor x y j ∙ rw (s, t)
+  pub in_new : (j : ℕ) → bit_at x j ≡ true → bit_at y j ≡ false → bit_at (bit_xor x y) j ≡ true
+  in_new j s t = bit_at_xor x y j ∙ rw (s, t)
 
   -- there are none
   pub new_none : bit_xor x y ≡ 0 → x ≡ y
@@ -44,10 +44,10 @@ module _ (x y : ℕ) where
 
   module _ (h : Within y x) where
     pub new_in : Within (bit_xor x y) x
-    new_in j t = byBool (bit_at x j) (λ e. e) (λ e. h j (sym (bitAt-xor x y j ∙ rw e) ∙ t))
+    new_in j t = by_bool (bit_at x j) (λ e. e) (λ e. h j (sym (bit_at_xor x y j ∙ rw e) ∙ t))
 
-    pub new-some : (bit_xor x y ≡ 0 → ⊥) → y < x
-    new-some z =
-        let l = within-le y x h in
+    pub new_some : (bit_xor x y ≡ 0 → ⊥) → y < x
+    new_some z =
+        let l = within_le y x h in
         let ne : y ≡ x → ⊥ = λ e. z (ap (bit_xor x) e ∙ xor_self x) in
         omega arith

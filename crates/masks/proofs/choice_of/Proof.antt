@@ -3,8 +3,8 @@ use mathlib.Core.Path.{◌∙◌}
 use mathlib.Core.List.{◌++◌}
 use borrow.Author.Rules.{rules}
 use Rattle.masks.specs.Constraint.{choice}
-use Rattle.masks.proofs.Laws.Set.{holds-list, holds-both}
-use Rattle.masks.proofs.Laws.Sets.{minimise-held}
+use Rattle.masks.proofs.Laws.Set.{holds_list, holds_both}
+use Rattle.masks.proofs.Laws.Sets.{minimise_held}
 use Rattle.masks.proofs.choice_of.Statement.{statement}
 use Rattle.masks.proofs.choice_of.Tie as tie
 
@@ -24,8 +24,8 @@ returns c =
     let u = c.before.before.with-unions in
     let v = c.before.with-unions2 in
     c.written.ensures
-    ∙ minimise-held v.result (s.first.now ++ s.second.now)
-    (holds-both u.result v.result s.first.now s.second.now (holds-list u.result s.first.now u.ensures) v.ensures)
+    ∙ minimise_held v.result (s.first.now ++ s.second.now)
+    (holds_both u.result v.result s.first.now s.second.now (holds_list u.result s.first.now u.ensures) v.ensures)
 
 pub choice-of-spec : {M : Type 1} → statement M
 choice-of-spec =

@@ -9,8 +9,8 @@ use lib.Seq.{sets}
 use borrow.Author.Rules.{rules}
 use Rattle.masks.specs.Set.{members}
 use Rattle.masks.specs.Joining.{combined}
-use Rattle.masks.proofs.Laws.Joining.{joining-fault, joining-done, fault-free}
-use Rattle.masks.proofs.Laws.Outcome.{answers-refused, room-enough, answers-short, answers-done}
+use Rattle.masks.proofs.Laws.Joining.{joining_fault, joining_done, fault_free}
+use Rattle.masks.proofs.Laws.Outcome.{answers_refused, room_enough, answers_short, answers_done}
 use Rattle.masks.proofs.join.Statement.{statement}
 use Rattle.masks.proofs.join.Tie as tie
 
@@ -24,13 +24,13 @@ returns : tie.Need-returns
 returns c =
     let s = c.before.before.before.before.before.before.args in
     let j = c.before.before.first-fault in
-    rw (joining-fault s.arity s.first.now s.second.now s.way j.result j.ensures c.before.if1.true)
-    (answers-refused j.result 0 s.out.now c.refused.ensures)
+    rw (joining_fault s.arity s.first.now s.second.now s.way j.result j.ensures c.before.if1.true)
+    (answers_refused j.result 0 s.out.now c.refused.ensures)
 
 combine-requires : tie.Need-combine-requires
 combine-requires c κs =
     let s = c.before.before.before.before.before.args in
-    fault-free s.arity s.first.now s.second.now (sym c.before.first-fault.ensures ∙ c.if1.false)
+    fault_free s.arity s.first.now s.second.now (sym c.before.first-fault.ensures ∙ c.if1.false)
 
 count-requires : tie.Need-count-requires
 count-requires c κs = search rules
@@ -53,7 +53,7 @@ put-masks-requires : tie.Need-put-masks-requires
 put-masks-requires c κs =
     let k = c.before.before.before.before in
     let n : k.count.result ≡ length (members k.before.combine.result) = k.count.ensures.0 in
-    let h = room-enough _ _ _ c.before.before.before.in-room.ensures (λ z. omega arith) in
+    let h = room_enough _ _ _ c.before.before.before.in-room.ensures (λ z. omega arith) in
     omega arith
 
 same_length : tie.Need-same-length
@@ -63,16 +63,16 @@ returns-2 : tie.Need-returns-2
 returns-2 c =
     let k = c.before.before.before.before.before.before.before in
     let s = k.before.before.before.before.before.before.before.args in
-    rw (joining-done s.arity s.first.now s.second.now s.way (sym k.before.before.before.first-fault.ensures ∙ k.before.before.if1.false))
-    (answers-done _ _ _ c.before.before.before.before.before.before.in-room.ensures _ (size k) (omega arith) (λ z. omega arith)
+    rw (joining_done s.arity s.first.now s.second.now s.way (sym k.before.before.before.first-fault.ensures ∙ k.before.before.if1.false))
+    (answers_done _ _ _ c.before.before.before.before.before.before.in-room.ensures _ (size k) (omega arith) (λ z. omega arith)
     (c.before.before.put-masks.ensures.0 ∙ ap (sets s.out.now 0) (is k)))
 
 returns-3 : tie.Need-returns-3
 returns-3 c =
     let k = c.before.before.before in
     let s = k.before.before.before.before.before.before.before.args in
-    rw (joining-done s.arity s.first.now s.second.now s.way (sym k.before.before.before.first-fault.ensures ∙ k.before.before.if1.false))
-    (answers-short _ _ _ c.before.before.in-room.ensures _ (size k) (omega arith) c.if2.false)
+    rw (joining_done s.arity s.first.now s.second.now s.way (sym k.before.before.before.first-fault.ensures ∙ k.before.before.if1.false))
+    (answers_short _ _ _ c.before.before.in-room.ensures _ (size k) (omega arith) c.if2.false)
 
 pub join-spec : {M : Type 1} → statement M
 join-spec =

@@ -7,8 +7,8 @@ use borrow.Author.Rules.{rules}
 use Rattle.masks.specs.Set.{Holds}
 use Rattle.masks.specs.Lists.{has}
 use Rattle.masks.specs.Constraint.{unions}
-use Rattle.masks.proofs.Laws.Joining.{joint-start, joint-next, joint-held}
-use Rattle.masks.proofs.Laws.Constraint.{in_range-at}
+use Rattle.masks.proofs.Laws.Joining.{joint_start, joint_next, joint_held}
+use Rattle.masks.proofs.Laws.Constraint.{in_range_at}
 use Rattle.masks.proofs.joint_of.Statement.{statement}
 use Rattle.masks.proofs.joint_of.Tie as tie
 
@@ -19,7 +19,7 @@ abbrev decreases-loop : tie.decreases-loop
 decreases-loop first second set₀ i₀ set i = length first - i
 
 loop-holds : tie.Need-loop-init invariant-loop decreases-loop
-loop-holds c = (omega arith, joint-start c.before.before.args.first.now c.before.before.args.second.now)
+loop-holds c = (omega arith, joint_start c.before.before.args.first.now c.before.before.args.second.now)
 
 shared-slice-read-with-unions : tie.Need-shared-slice-read-with-unions invariant-loop decreases-loop
 shared-slice-read-with-unions c = search rules
@@ -29,13 +29,13 @@ with-unions-requires c κs =
     let l = c.before.before.loop in
     let p = c.before.before.before.before.before.requires in
     let s = c.before.before.before.before.before.args in
-    (in_range-at 64 s.first.now l.i p.0 (omega arith), p.1)
+    (in_range_at 64 s.first.now l.i p.0 (omega arith), p.1)
 
 loop-again : tie.Need-loop-preserved invariant-loop decreases-loop
 loop-again c =
     let s = c.before.before.before.before.before.before.args in
     let l = c.before.before.before.loop in
-    (omega arith, joint-next l.set c.with-unions.result s.first.now s.second.now l.i (omega arith) l.invariant.1 c.with-unions.ensures)
+    (omega arith, joint_next l.set c.with-unions.result s.first.now s.second.now l.i (omega arith) l.invariant.1 c.with-unions.ensures)
 
 written-requires : tie.Need-written-requires invariant-loop decreases-loop
 written-requires c κs = search rules
@@ -44,7 +44,7 @@ returns : tie.Need-returns invariant-loop decreases-loop
 returns c =
     let s = c.before.before.before.before.before.args in
     let l = c.before.before.loop in
-    c.written.ensures ∙ joint-held l.set s.first.now s.second.now l.i (omega arith) l.invariant.1
+    c.written.ensures ∙ joint_held l.set s.first.now s.second.now l.i (omega arith) l.invariant.1
 
 pub joint-of-spec : {M : Type 1} → statement M
 joint-of-spec =

@@ -15,100 +15,100 @@ use borrow.Author.Tests.{eqb-true, eqb-false, ltb-true, leb-true}
 use Rattle.masks.specs.Set.{bit_at}
 use Rattle.masks.specs.Constraint.{admits}
 use Rattle.masks.specs.Patterns.{EachLane}
-use Rattle.masks.proofs.Laws.Logic.{byBool, clash, same, and_left, and_right, and_intro, or_case}
-use Rattle.masks.proofs.Laws.Set.{bitAt-zero, bitAt-more}
+use Rattle.masks.proofs.Laws.Logic.{by_bool, clash, same, and_left, and_right, and_intro, or_case}
+use Rattle.masks.proofs.Laws.Set.{bit_at_zero, bit_at_more}
 use Rattle.masks.proofs.Laws.Words.{new_none}
-use Rattle.book.specs.Limits.{maxPredicates, maxClauses}
+use Rattle.book.specs.Limits.{max_predicates, max_clauses}
 use Rattle.book.specs.Book.{Clause, Book}
-use Rattle.book.specs.Held.{clauseAt}
-use Rattle.book.specs.Table.{Table, entry, entryIn, tableIn, Admitted}
+use Rattle.book.specs.Held.{clause_at}
+use Rattle.book.specs.Table.{Table, entry, entry_in, table_in, Admitted}
 use Rattle.book.specs.Sets.{callable, Callable}
-use Rattle.book.proofs.Laws.Held.{clausesOf-at}
-use Rattle.book.proofs.Laws.Table.{tableIn-at}
+use Rattle.book.proofs.Laws.Held.{clauses_of_at}
+use Rattle.book.proofs.Laws.Table.{table_in_at}
 use Rattle.tables.specs.Table.{good, defined, step}
-use Rattle.tables.proofs.Laws.Valid.{defined-known, bodies-known, clause-callable}
-use Rattle.tables.proofs.Laws.Round.{gets-good, good-gets, good-cut}
-use Rattle.tables.proofs.Laws.Full.{step-full}
-use Rattle.needs.specs.Round.{allGood, Stays, Given, Due, Stepped, AllSame, Compares}
-use Rattle.needs.proofs.Laws.Calls.{own-good}
+use Rattle.tables.proofs.Laws.Valid.{defined_known, bodies_known, clause_callable}
+use Rattle.tables.proofs.Laws.Round.{gets_good, good_gets, good_cut}
+use Rattle.tables.proofs.Laws.Full.{step_full}
+use Rattle.needs.specs.Round.{all_good, Stays, Given, Due, Stepped, AllSame, Compares}
+use Rattle.needs.proofs.Laws.Calls.{own_good}
 
 -- ---- what a book in the arrays gives
 
 module _ (B : Book) (rules own· : List ℕ) (g : Given B rules own·) where
-  pub few-predicates : length B.arities ≤ maxPredicates
-  few-predicates = leb-true (length B.arities) maxPredicates g.well.fewPredicates
+  pub few_predicates_lem : length B.arities ≤ max_predicates
+  few_predicates_lem = leb-true (length B.arities) max_predicates g.well.few_predicates
 
-  few-clauses : length B.clauses ≤ maxClauses
-  few-clauses = leb-true (length B.clauses) maxClauses g.well.fewClauses
+  few_clauses_lem : length B.clauses ≤ max_clauses
+  few_clauses_lem = leb-true (length B.clauses) max_clauses g.well.few_clauses
 
-  pub given-callable : (p : ℕ) → p < maxPredicates → Callable rules (get_or own· p 0)
-  given-callable p h k l e =
+  pub given_callable : (p : ℕ) → p < max_predicates → Callable rules (get_or own· p 0)
+  given_callable p h k l e =
       let n = length B.clauses in
-      let m = ltb-true k n (and_left (ltb k n) (eqb (clauseAt rules k).head.pred p) (sym (g.owns p h k) ∙ e)) in
-      let c = clauseAt rules k in
-      let q : get_or B.clauses k c ≡ clauseAt rules k = ap (λ (cs : List Clause). get_or cs k c) (sym g.clauses·) ∙ clausesOf-at rules c n k m in
-      subst (λ (d : Clause). callable d.body ≡ true) q (clause-callable B g.well c k m)
+      let m = ltb-true k n (and_left (ltb k n) (eqb (clause_at rules k).head.pred p) (sym (g.owns p h k) ∙ e)) in
+      let c = clause_at rules k in
+      let q : get_or B.clauses k c ≡ clause_at rules k = ap (λ (cs : List Clause). get_or cs k c) (sym g.clauses·) ∙ clauses_of_at rules c n k m in
+      subst (λ (d : Clause). callable d.body ≡ true) q (clause_callable B g.well c k m)
 
   -- the clauses of a predicate are good where its patterns are
-  all-good : (table : List ℕ) (p a : ℕ) → p < maxPredicates → allGood rules (get_or own· p 0) table a ≡ good (tableIn table (length B.arities)) B.clauses p a
-  all-good table p a h =
-      own-good rules (length B.clauses) (get_or own· p 0) p (tableIn table maxPredicates) a few-clauses (g.owns p h)
-      ∙ ap (λ (cs : List Clause). good (tableIn table maxPredicates) cs p a) g.clauses·
-      ∙ good-cut table (length B.arities) maxPredicates few-predicates B.clauses (bodies-known B g.well) p a
+  all_good_lem : (table : List ℕ) (p a : ℕ) → p < max_predicates → all_good rules (get_or own· p 0) table a ≡ good (table_in table (length B.arities)) B.clauses p a
+  all_good_lem table p a h =
+      own_good rules (length B.clauses) (get_or own· p 0) p (table_in table max_predicates) a few_clauses_lem (g.owns p h)
+      ∙ ap (λ (cs : List Clause). good (table_in table max_predicates) cs p a) g.clauses·
+      ∙ good_cut table (length B.arities) max_predicates few_predicates_lem B.clauses (bodies_known B g.well) p a
 
   -- so what stays of the patterns that it had is what the step gives it, since the tables fall and lie inside the MO
-  pub good-stepped : (table old : List ℕ) {due : ℕ} → Admitted table old → Due B (tableIn table (length B.arities)) due → (p : ℕ) → bit_at due p ≡ true
-      → (word : ℕ) → EachLane (λ a. bit_at word a ≡ (bit_at (get_or old p 0) a && allGood rules (get_or own· p 0) table a))
-      → EachLane (λ a. bit_at word a ≡ admits (entry (step B (tableIn table (length B.arities))) p) a)
-  good-stepped table old t d p e word f a l =
+  pub good_stepped : (table old : List ℕ) {due : ℕ} → Admitted table old → Due B (table_in table (length B.arities)) due → (p : ℕ) → bit_at due p ≡ true
+      → (word : ℕ) → EachLane (λ a. bit_at word a ≡ (bit_at (get_or old p 0) a && all_good rules (get_or own· p 0) table a))
+      → EachLane (λ a. bit_at word a ≡ admits (entry (step B (table_in table (length B.arities))) p) a)
+  good_stepped table old t d p e word f a l =
       let n = length B.arities in
-      let T = tableIn table n in
-      let h = defined-known B g.well p (d.defined· p e) in
-      let few = few-predicates in
-      let m : p < maxPredicates = omega arith in
-      let now = step-full B g.well T p h (d.defined· p e) a in
+      let T = table_in table n in
+      let h = defined_known B g.well p (d.defined· p e) in
+      let few = few_predicates_lem in
+      let m : p < max_predicates = omega arith in
+      let now = step_full B g.well T p h (d.defined· p e) a in
       let ok = good T B.clauses p a in
       f a l
-      ∙ ap₂ (λ (x y : Bool). x && y) (t p m a l ∙ ap (λ (c : List ℕ). admits c a) (sym (tableIn-at table n p h))) (all-good table p a m)
+      ∙ ap₂ (λ (x y : Bool). x && y) (t p m a l ∙ ap (λ (c : List ℕ). admits c a) (sym (table_in_at table n p h))) (all_good_lem table p a m)
       ∙ same (admits (entry T p) a && ok) (admits (entry (step B T) p) a)
-      (λ q. now ∙ good-gets B T p a (d.inside p a (and_left (admits (entry T p) a) ok q)) (and_right (admits (entry T p) a) ok q))
-      (λ q. and_intro (d.falls p a q) (gets-good B T p a (sym now ∙ q)).1)
+      (λ q. now ∙ good_gets B T p a (d.inside p a (and_left (admits (entry T p) a) ok q)) (and_right (admits (entry T p) a) ok q))
+      (λ q. and_intro (d.falls p a q) (gets_good B T p a (sym now ∙ q)).1)
 
 -- ---- the loop over the predicates due: those below n are done
 
 module _ (rules own· table old : List ℕ) (due : ℕ) where
   -- what p has where it is due
   abbrev Gets : ℕ → ℕ → Type 0
-  Gets p word = EachLane (λ a. bit_at word a ≡ (bit_at (get_or old p 0) a && allGood rules (get_or own· p 0) table a))
+  Gets p word = EachLane (λ a. bit_at word a ≡ (bit_at (get_or old p 0) a && all_good rules (get_or own· p 0) table a))
 
   -- the same patterns
   abbrev Alike : ℕ → ℕ → Type 0
   Alike x y = EachLane (λ a. bit_at x a ≡ bit_at y a)
 
   pub record Rounding (new : List ℕ) (changed n : ℕ) : Type 0 where
-    pub size : length new ≡ maxPredicates
+    pub size : length new ≡ max_predicates
     pub done : (p : ℕ) → p < n → bit_at due p ≡ true → Gets p (get_or new p 0)
     pub kept : (p : ℕ) → (bit_at due p ≡ true → n ≤ p) → get_or new p 0 ≡ get_or old p 0
     pub unmarked : (p : ℕ) → bit_at changed p ≡ false → get_or new p 0 ≡ get_or old p 0
     pub marked : (p : ℕ) → bit_at changed p ≡ true → (bit_at due p ≡ true) × (Alike (get_or new p 0) (get_or old p 0) → ⊥)
 
-  pub rounding-start : length old ≡ maxPredicates → Rounding old 0 0
-  rounding-start e =
+  pub rounding_start : length old ≡ max_predicates → Rounding old 0 0
+  rounding_start e =
       record {
         size = e;
         done = λ p h. absurd (omega arith);
         kept = λ p h. refl;
         unmarked = λ p h. refl;
-        marked = λ p t. clash t (bitAt-zero p);
+        marked = λ p t. clash t (bit_at_zero p);
       }
 
   module _ (new : List ℕ) (changed n : ℕ) where
     -- n is not due
-    pub rounding-skip : bit_at due n ≡ false → Rounding new changed n → Rounding new changed (suc n)
-    rounding-skip e r =
+    pub rounding_skip : bit_at due n ≡ false → Rounding new changed n → Rounding new changed (suc n)
+    rounding_skip e r =
         record {
           size = r.size;
-          done = λ p h d. byBool (eqb p n) (λ t. clash d (ap (bit_at due) (eqb-true p n t) ∙ e)) (λ t. let ne = eqb-false p n t in r.done p (omega arith) d);
+          done = λ p h d. by_bool (eqb p n) (λ t. clash d (ap (bit_at due) (eqb-true p n t) ∙ e)) (λ t. let ne = eqb-false p n t in r.done p (omega arith) d);
           kept = λ p h. r.kept p (λ d. let l = h d in omega arith);
           unmarked = r.unmarked;
           marked = r.marked;
@@ -119,12 +119,12 @@ module _ (rules own· table old : List ℕ) (due : ℕ) where
       g = h.lanes
 
       -- it has what it had
-      pub rounding-same : good ≡ get_or old n 0 → Rounding new changed (suc n)
-      rounding-same q =
+      pub rounding_same : good ≡ get_or old n 0 → Rounding new changed (suc n)
+      rounding_same q =
           record {
             size = r.size;
             done = λ p h d.
-                byBool (eqb p n)
+                by_bool (eqb p n)
                 (λ t.
                 let z = eqb-true p n t in
                 subst (λ (i : ℕ). Gets i (get_or new i 0)) (sym z) (subst (Gets n) (q ∙ sym (r.kept n (λ d. omega arith))) g))
@@ -135,14 +135,14 @@ module _ (rules own· table old : List ℕ) (due : ℕ) where
           }
 
       -- it has others, which are stored, and is marked
-      pub rounding-new : n < maxPredicates → (good ≡ get_or old n 0 → ⊥) → Rounding (set new n good) (bit_or changed (2 ^ n)) (suc n)
-      rounding-new l other =
+      pub rounding_new : n < max_predicates → (good ≡ get_or old n 0 → ⊥) → Rounding (set new n good) (bit_or changed (2 ^ n)) (suc n)
+      rounding_new l other =
           let s = r.size in
           let here = get_or-set_same new n good 0 (omega arith) in
           record {
             size = length-set new n good ∙ s;
             done = λ p h d.
-                byBool (eqb p n)
+                by_bool (eqb p n)
                 (λ t. let z = eqb-true p n t in subst (λ (i : ℕ). Gets i (get_or (set new n good) i 0)) (sym z) (subst (Gets n) (sym here) g))
                 (λ t.
                 let ne = eqb-false p n t in
@@ -150,24 +150,24 @@ module _ (rules own· table old : List ℕ) (due : ℕ) where
             kept = λ p h.
                 get_or-set_other new n p good 0 (λ z. let k = h (ap (bit_at due) z ∙ e) in omega arith) ∙ r.kept p (λ d. let k = h d in omega arith);
             unmarked = λ p q.
-                let parts = sym (bitAt-more changed n p) ∙ q in
-                byBool (eqb n p) (λ t. clash (rw t (or-true' (bit_at changed p))) parts)
+                let parts = sym (bit_at_more changed n p) ∙ q in
+                by_bool (eqb n p) (λ t. clash (rw t (or_true' (bit_at changed p))) parts)
                 (λ t.
                 get_or-set_other new n p good 0 (λ z. eqb-false n p t (sym z))
                 ∙ r.unmarked p (sym (or-false (bit_at changed p)) ∙ ap (λ (b : Bool). bit_at changed p || b) (sym t) ∙ parts));
             marked = λ p q.
-                or_case (bit_at changed p) (eqb n p) (sym (bitAt-more changed n p) ∙ q)
+                or_case (bit_at changed p) (eqb n p) (sym (bit_at_more changed n p) ∙ q)
                 (λ t.
-                byBool (eqb n p) (λ z. own p (eqb-true n p z))
+                by_bool (eqb n p) (λ z. own p (eqb-true n p z))
                 (λ z.
                 let m = r.marked p t in
                 (m.0, λ i. m.1 (subst (λ (word : ℕ). Alike word (get_or old p 0)) (get_or-set_other new n p good 0 (λ j. eqb-false n p z (sym j))) i))))
                 (λ z. own p (eqb-true n p z));
           }
         where
-          or-true' : (b : Bool) → (b || true) ≡ true
-          or-true' true = refl
-          or-true' false = refl
+          or_true' : (b : Bool) → (b || true) ≡ true
+          or_true' true = refl
+          or_true' false = refl
 
           own : (p : ℕ) → n ≡ p → (bit_at due p ≡ true) × (Alike (get_or (set new n good) p 0) (get_or old p 0) → ⊥)
           own p z =
@@ -181,32 +181,32 @@ module _ (rules own· table old : List ℕ) (due : ℕ) where
 
   -- ---- the end: what a round made is a step
 
-  module _ (B : Book) (g : Given B rules own·) (t : Admitted table old) (d : Due B (tableIn table (length B.arities)) due) where
-    stepped : {new : List ℕ} {changed : ℕ} → Rounding new changed maxPredicates → (p : ℕ) → p < length B.arities
-        → EachLane (λ a. bit_at (get_or new p 0) a ≡ admits (entry (step B (tableIn table (length B.arities))) p) a)
+  module _ (B : Book) (g : Given B rules own·) (t : Admitted table old) (d : Due B (table_in table (length B.arities)) due) where
+    stepped : {new : List ℕ} {changed : ℕ} → Rounding new changed max_predicates → (p : ℕ) → p < length B.arities
+        → EachLane (λ a. bit_at (get_or new p 0) a ≡ admits (entry (step B (table_in table (length B.arities))) p) a)
     stepped {new} r p h a l =
         let n = length B.arities in
-        let few = few-predicates B rules own· g in
-        byBool (bit_at due p)
-        (λ e. good-stepped B rules own· g table old t d p e (get_or new p 0) (r.done p (omega arith) e) a l)
+        let few = few_predicates_lem B rules own· g in
+        by_bool (bit_at due p)
+        (λ e. good_stepped B rules own· g table old t d p e (get_or new p 0) (r.done p (omega arith) e) a l)
         (λ e.
         ap (λ (w : ℕ). bit_at w a) (r.kept p (λ q. clash q e))
-        ∙ t p (omega arith) a l ∙ ap (λ (c : List ℕ). admits c a) (sym (tableIn-at table n p h) ∙ sym (d.others p h e)))
+        ∙ t p (omega arith) a l ∙ ap (λ (c : List ℕ). admits c a) (sym (table_in_at table n p h) ∙ sym (d.others p h e)))
 
     -- the tables are not the same
-    pub rounding-end : {new : List ℕ} {changed : ℕ} → Rounding new changed maxPredicates → Stepped B (tableIn table (length B.arities)) old new changed
-    rounding-end r =
+    pub rounding_end : {new : List ℕ} {changed : ℕ} → Rounding new changed max_predicates → Stepped B (table_in table (length B.arities)) old new changed
+    rounding_end r =
         record {
           admitted = stepped r;
           unmarked = λ p h. r.unmarked p;
-          marked = λ p e. let m = r.marked p e in (defined-known B g.well p (d.defined· p m.0), m.1);
+          marked = λ p e. let m = r.marked p e in (defined_known B g.well p (d.defined· p m.0), m.1);
         }
 
     -- they are
-    pub rounding-still : {new : List ℕ} {changed : ℕ} → Rounding new changed maxPredicates → AllSame old new
-        → Stepped B (tableIn table (length B.arities)) old new 0
-    rounding-still r s =
-        record { admitted = stepped r; unmarked = λ p h e. s p h; marked = λ p e. clash e (bitAt-zero p) }
+    pub rounding_still : {new : List ℕ} {changed : ℕ} → Rounding new changed max_predicates → AllSame old new
+        → Stepped B (table_in table (length B.arities)) old new 0
+    rounding_still r s =
+        record { admitted = stepped r; unmarked = λ p h e. s p h; marked = λ p e. clash e (bit_at_zero p) }
 
 -- ---- the two tables compared: nothing differs exactly where the first n words are the same
 
@@ -215,31 +215,31 @@ pub record Comparing (old new : List ℕ) (differ n : ℕ) : Type 0 where
   pub some : ((p : ℕ) → p < n → get_or new p 0 ≡ get_or old p 0) → differ ≡ 0
 
 module _ (old new : List ℕ) where
-  pub comparing-start : Comparing old new 0 0
-  comparing-start = record { none = λ e p h. absurd (omega arith); some = λ f. refl }
+  pub comparing_start : Comparing old new 0 0
+  comparing_start = record { none = λ e p h. absurd (omega arith); some = λ f. refl }
 
-  pub comparing-next : (differ n : ℕ) → Comparing old new differ n → Comparing old new (bit_or differ (bit_xor (get_or old n 0) (get_or new n 0))) (n + 1)
-  comparing-next differ n g =
+  pub comparing_next : (differ n : ℕ) → Comparing old new differ n → Comparing old new (bit_or differ (bit_xor (get_or old n 0) (get_or new n 0))) (n + 1)
+  comparing_next differ n g =
       let x = bit_xor (get_or old n 0) (get_or new n 0) in
       let l = and_le_l differ x in
       let r = and_le_r differ x in
       let s = or_add_and differ x in
       record {
         none = λ e p h.
-            byBool (eqb p n)
+            by_bool (eqb p n)
             (λ t. let z = eqb-true p n t in rw z (sym (new_none (get_or old n 0) (get_or new n 0) (omega arith))))
             (λ t. let ne = eqb-false p n t in g.none (omega arith) p (omega arith));
         some = λ f.
             let d = g.some (λ p h. f p (omega arith)) in
             let z : x ≡ 0 = ap (bit_xor (get_or old n 0)) (f n (omega arith)) ∙ xor_self (get_or old n 0) in
-            ap₂ bit_or d z ∙ or-zero;
+            ap₂ bit_or d z ∙ or_zero;
       }
     where
-      or-zero : bit_or 0 0 ≡ 0
-      or-zero = refl
+      or_zero : bit_or 0 0 ≡ 0
+      or_zero = refl
 
-  pub comparing-end : (differ n : ℕ) → n ≡ maxPredicates → Comparing old new differ n → Compares old new (eqb differ 0)
-  comparing-end differ n e g =
+  pub comparing_end : (differ n : ℕ) → n ≡ max_predicates → Comparing old new differ n → Compares old new (eqb differ 0)
+  comparing_end differ n e g =
       record {
         same· = λ t p h. g.none (eqb-true differ 0 t) p (omega arith);
         other = λ t f. eqb-false differ 0 t (g.some (λ p h. f p (omega arith)));

@@ -7,11 +7,11 @@ use native.Mathlib.Omega.{arith}
 use borrow.Author.Rules.{rules}
 use Rattle.book.specs.Book.{Book}
 use Rattle.tables.specs.Table.{rounds}
-use Rattle.tables.proofs.Laws.Rounds.{rounds-few}
+use Rattle.tables.proofs.Laws.Rounds.{rounds_few}
 use Rattle.needs.specs.Round.{Held}
-use Rattle.book.proofs.Laws.Sets.{cleared-zeros}
-use Rattle.needs.proofs.Laws.AtRound.{AtRound, at-round-start, at-round-final, at-round-rounds, at-round-kept, at-round-less, at-round-next}
-use Rattle.needs.proofs.Laws.Settling.{held-few, held-known, held-given, held-heads, held-calling, held-modes, held_start}
+use Rattle.book.proofs.Laws.Sets.{cleared_zeros}
+use Rattle.needs.proofs.Laws.AtRound.{AtRound, at_round_start, at_round_final, at_round_rounds, at_round_kept, at_round_less, at_round_next}
+use Rattle.needs.proofs.Laws.Settling.{held_few, held_known, held_given, held_heads, held_calling, held_modes, held_start}
 use Rattle.needs.proofs.settle.Statement.{statement}
 use Rattle.needs.proofs.settle.Tie as tie
 
@@ -23,26 +23,26 @@ abbrev decreases-loop : tie.decreases-loop
 decreases-loop preds modes clauses rules own table₀ admits₀ due₀ callers k₀ table admits due k = 4096 - k
 
 own-clauses-requires : tie.Need-own-clauses-requires invariant-loop decreases-loop
-own-clauses-requires c κs = let p = c.before.requires in let h = p.0.1 in (h.few, held-known h, p.1)
+own-clauses-requires c κs = let p = c.before.requires in let h = p.0.1 in (h.few, held_known h, p.1)
 
 first-table-requires : tie.Need-first-table-requires invariant-loop decreases-loop
-first-table-requires c κs = let p = c.before.before.before.before.requires in let h = p.0.1 in (held-few h, held-modes h, p.2, p.3)
+first-table-requires c κs = let p = c.before.before.before.before.requires in let h = p.0.1 in (held_few h, held_modes h, p.2, p.3)
 
 put-callers-requires : tie.Need-put-callers-requires invariant-loop decreases-loop
-put-callers-requires c κs = let h = c.before.before.before.before.before.before.requires.0.1 in (h.few, held-known h, cleared-zeros)
+put-callers-requires c κs = let h = c.before.before.before.before.before.before.requires.0.1 in (h.few, held_known h, cleared_zeros)
 
 loop-holds : tie.Need-loop-init invariant-loop decreases-loop
 loop-holds c =
     let first = c.before.before.first-table in
     let own = c.before.before.before.before.before.own-clauses in
     λ B h.
-    at-round-start B h.well _ _ own.result (held_start h _ first.ensures.0) first.ensures.1 (held-heads h own.result own.ensures.1)
+    at_round_start B h.well _ _ own.result (held_start h _ first.ensures.0) first.ensures.1 (held_heads h own.result own.ensures.1)
 
 round-requires : tie.Need-round-requires invariant-loop decreases-loop
 round-requires c κs =
     let b = c.before.before.before.before.before.before.before.before.before.before.before.before.requires.0 in
     let r = c.before.before.before.before.loop.invariant b.0 b.1 in
-    ((b.0, held-given b.1 c.before.before.before.before.before.before.before.before.before.before.own-clauses.ensures.0, r.admitted, r.due·), refl)
+    ((b.0, held_given b.1 c.before.before.before.before.before.before.before.before.before.before.own-clauses.ensures.0, r.admitted, r.due·), refl)
 
 small : (c : tie.After-round invariant-loop decreases-loop) → c.round.result < 2 ^ 64
 small c = search rules
@@ -52,12 +52,12 @@ returns c =
     let d = c.before in
     let l = d.before.before.before.before.before.loop in
     λ B h.
-    let s = d.round.ensures B (held-given h d.before.before.before.before.before.before.before.before.before.before.before.own-clauses.ensures.0) (d.before.before.before.before.before.loop.invariant B h).due· in
+    let s = d.round.ensures B (held_given h d.before.before.before.before.before.before.before.before.before.before.before.own-clauses.ensures.0) (d.before.before.before.before.before.loop.invariant B h).due· in
     record {
       owns = d.before.before.before.before.before.before.before.before.before.before.before.own-clauses.ensures.0;
-      final· = at-round-final B h.well l.k l.table l.admits l.due (l.invariant B h) _ _ s c.if1.true;
-      admitted = at-round-kept B h.well l.k l.table l.admits l.due (l.invariant B h) _ _ s c.if1.true;
-      rounds· = at-round-rounds B h.well l.k l.table l.admits l.due (l.invariant B h) _ _ s c.if1.true;
+      final· = at_round_final B h.well l.k l.table l.admits l.due (l.invariant B h) _ _ s c.if1.true;
+      admitted = at_round_kept B h.well l.k l.table l.admits l.due (l.invariant B h) _ _ s c.if1.true;
+      rounds· = at_round_rounds B h.well l.k l.table l.admits l.due (l.invariant B h) _ _ s c.if1.true;
     }
 
 renew-requires : tie.Need-renew-requires invariant-loop decreases-loop
@@ -72,8 +72,8 @@ less c =
     let d = c.before in
     let b = d.before.before.before.before.before.before.before.before.before.before.before.before.before.requires.0 in
     let l = d.before.before.before.before.before.loop in
-    let k = at-round-less b.0 b.1.well l.k l.table l.admits l.due (l.invariant b.0 b.1) _ _ (d.round.ensures b.0 (held-given b.1 d.before.before.before.before.before.before.before.before.before.before.before.own-clauses.ensures.0) (d.before.before.before.before.before.loop.invariant b.0 b.1).due·) (small d) c.if1.false in
-    let m = rounds-few b.0 b.1.well in
+    let k = at_round_less b.0 b.1.well l.k l.table l.admits l.due (l.invariant b.0 b.1) _ _ (d.round.ensures b.0 (held_given b.1 d.before.before.before.before.before.before.before.before.before.before.before.own-clauses.ensures.0) (d.before.before.before.before.before.loop.invariant b.0 b.1).due·) (small d) c.if1.false in
+    let m = rounds_few b.0 b.1.well in
     omega arith
 
 add-k : tie.Need-overflow-add-k invariant-loop decreases-loop
@@ -88,8 +88,8 @@ loop-again c =
     let l = d.before.before.before.before.before.loop in
     λ B h.
     rw add-one
-    (at-round-next B h.well l.k l.table l.admits l.due (l.invariant B h) _ _ (d.round.ensures B (held-given h d.before.before.before.before.before.before.before.before.before.before.before.own-clauses.ensures.0) (d.before.before.before.before.before.loop.invariant B h).due·) (small d) c.before.before.before.before.before.if1.false c.before.before.renew.ensures
-    (held-calling h _ _ c.calling.result d.before.before.before.before.before.before.put-callers.ensures c.calling.ensures))
+    (at_round_next B h.well l.k l.table l.admits l.due (l.invariant B h) _ _ (d.round.ensures B (held_given h d.before.before.before.before.before.before.before.before.before.before.before.own-clauses.ensures.0) (d.before.before.before.before.before.loop.invariant B h).due·) (small d) c.before.before.before.before.before.if1.false c.before.before.renew.ensures
+    (held_calling h _ _ c.calling.result d.before.before.before.before.before.before.put-callers.ensures c.calling.ensures))
 
 pub settle-spec : {M : Type 1} → statement M
 settle-spec =

@@ -9,36 +9,36 @@ use native.Mathlib.Omega.{arith}
 use lib.Bits.{bit_xor}
 use lib.ListN.{length, get_or, set, take, length-set}
 use lib.Seq.{length-take-le, take-suc, take-suc-set}
-use Rattle.masks.specs.Limits.{maxArity, allPatterns}
+use Rattle.masks.specs.Limits.{max_arity, all_patterns}
 use Rattle.masks.specs.Lists.{values}
-use Rattle.book.specs.Limits.{maxSubgoals}
-use Rattle.book.specs.Book.{Call, noCall}
+use Rattle.book.specs.Limits.{max_subgoals}
+use Rattle.book.specs.Book.{Call, no_call}
 use Rattle.book.specs.Held.{call_in}
 use Rattle.book.specs.Table.{Table}
-use Rattle.ordering.specs.Adorn.{Bound, patternOf}
-use Rattle.ordering.specs.Turns.{allAfter}
-use Rattle.ordering.specs.Good.{at, readyAt, after_at, ran, firstGood}
-use Rattle.ordering.specs.Asks.{Asked, asks, patternsIn}
-use Rattle.ordering.specs.Held.{order_of, orNone, places_of, patternsOf, picked, PatternAt}
+use Rattle.ordering.specs.Adorn.{Bound, pattern_of}
+use Rattle.ordering.specs.Turns.{all_after}
+use Rattle.ordering.specs.Good.{at, ready_at, after_at, ran, first_good}
+use Rattle.ordering.specs.Asks.{Asked, asks, patterns_in}
+use Rattle.ordering.specs.Held.{order_of, or_none, places_of, patterns_of, picked, PatternAt}
 use Rattle.ordering.specs.declared.Order.{Order}
 use Rattle.book.proofs.Laws.Held.{args_count}
-use Rattle.ordering.proofs.Laws.Good.{greedy-is-first, first_below}
-use Rattle.ordering.proofs.Laws.Asks.{asks-snoc, after-snoc}
-use Rattle.ordering.proofs.Laws.Run.{Run, run-start, run-next, run-stuck, run_end}
-use Rattle.ordering.proofs.Laws.Steps.{first-at, pattern-small}
-use Rattle.ordering.proofs.Laws.Held.{order-length-at}
+use Rattle.ordering.proofs.Laws.Good.{greedy_is_first, first_below}
+use Rattle.ordering.proofs.Laws.Asks.{asks_snoc, after_snoc}
+use Rattle.ordering.proofs.Laws.Run.{Run, run_start, run_next, run_stuck, run_end}
+use Rattle.ordering.proofs.Laws.Steps.{first_at, pattern_small}
+use Rattle.ordering.proofs.Laws.Held.{order_length_at}
 
 -- ---- the patterns of an order, one place more
 
-patterns-nil : (body : List Call) (b : Bound) → patternsIn body b [] ≡ []
+patterns_nil : (body : List Call) (b : Bound) → patterns_in body b [] ≡ []
 unfolding asks
-patterns-nil body b = refl
+patterns_nil body b = refl
 
-patterns-snoc : (body : List Call) (b : Bound) (σ : List ℕ) (p : ℕ)
-    → patternsIn body b (σ ++ (p ∷ [])) ≡ patternsIn body b σ ++ (patternOf (ran body b σ) (at body p).args ∷ [])
-patterns-snoc body b σ p =
-    ap (map (λ (x : Asked). x.pattern)) (asks-snoc body b σ p)
-    ∙ map-append (λ (x : Asked). x.pattern) (asks body b σ) (record { pred = (at body p).pred; pattern = patternOf (ran body b σ) (at body p).args } ∷ [])
+patterns_snoc : (body : List Call) (b : Bound) (σ : List ℕ) (p : ℕ)
+    → patterns_in body b (σ ++ (p ∷ [])) ≡ patterns_in body b σ ++ (pattern_of (ran body b σ) (at body p).args ∷ [])
+patterns_snoc body b σ p =
+    ap (map (λ (x : Asked). x.pattern)) (asks_snoc body b σ p)
+    ∙ map-append (λ (x : Asked). x.pattern) (asks body b σ) (record { pred = (at body p).pred; pattern = pattern_of (ran body b σ) (at body p).args } ∷ [])
 
 -- ---- the patterns that are stored
 
@@ -46,12 +46,12 @@ patterns-snoc body b σ p =
 pub record Turns (body : List Call) (b₀ : Bound) (i : ℕ) (b : Bound) (places patterns : List ℕ) : Type 0 where
   pub room : (length body ≤ length places) × (length body ≤ length patterns)
   pub taken : b ≡ ran body b₀ (take i places)
-  pub told : take i patterns ≡ patternsIn body b₀ (take i places)
+  pub told : take i patterns ≡ patterns_in body b₀ (take i places)
 
-turns-start : (body : List Call) (b : Bound) (places patterns : List ℕ) → length body ≤ length places → length body ≤ length patterns
+turns_start : (body : List Call) (b : Bound) (places patterns : List ℕ) → length body ≤ length places → length body ≤ length patterns
     → Turns body b 0 b places patterns
-unfolding allAfter
-turns-start body b places patterns h k = record { room = (h, k); taken = refl; told = sym (patterns-nil body b) }
+unfolding all_after
+turns_start body b places patterns h k = record { room = (h, k); taken = refl; told = sym (patterns_nil body b) }
 
 module _ {body : List Call} {b₀ b : Bound} {i : ℕ} {places patterns : List ℕ} (w : Turns body b₀ i b places patterns) where
   -- a place is taken: it is stored behind the others, and its pattern beside it
@@ -64,116 +64,116 @@ module _ {body : List Call} {b₀ b : Bound} {i : ℕ} {places patterns : List �
         room = (rw (ep, length-set places i p) l, rw (ea, length-set patterns i a) m);
         taken =
             rw (eb, ep, add-one i, take-suc-set places i p (omega arith))
-            (ap (λ (c : Bound). after_at body c p) w.taken ∙ sym (after-snoc body b₀ (take i places) p));
+            (ap (λ (c : Bound). after_at body c p) w.taken ∙ sym (after_snoc body b₀ (take i places) p));
         told =
             rw (ep, ea, add-one i, take-suc-set places i p (omega arith), take-suc-set patterns i a (omega arith))
-            (ap₂ (λ (l : List ℕ) (x : ℕ). l ++ (x ∷ [])) w.told (t k ∙ ap (λ (c : Bound). patternOf c (at body p).args) w.taken)
-            ∙ sym (patterns-snoc body b₀ (take i places) p));
+            (ap₂ (λ (l : List ℕ) (x : ℕ). l ++ (x ∷ [])) w.told (t k ∙ ap (λ (c : Bound). pattern_of c (at body p).args) w.taken)
+            ∙ sym (patterns_snoc body b₀ (take i places) p));
       }
 
-  turns-end : (n : ℕ) → i ≡ n → n ≤ length body → take (length (take n places)) patterns ≡ patternsIn body b₀ (take n places)
-  turns-end n e h = let l = w.room.0 in rw (length-take-le n places (omega arith), ← e) w.told
+  turns_end : (n : ℕ) → i ≡ n → n ≤ length body → take (length (take n places)) patterns ≡ patterns_in body b₀ (take n places)
+  turns_end n e h = let l = w.room.0 in rw (length-take-le n places (omega arith), ← e) w.told
 
 -- ---- the loop
 
 -- the run of the greedy rule, and the patterns beside its places
 pub record Going (T : Table) (body : List Call) (b₀ : Bound) (i : ℕ) (b : Bound) (left : ℕ) (places patterns : List ℕ) : Type 0 where
-  pub run : Run (readyAt T body) (after_at body) b₀ (length body) i b left places
+  pub run : Run (ready_at T body) (after_at body) b₀ (length body) i b left places
   pub turns : Turns body b₀ i b places patterns
 
 pub going_start : (T : Table) (body : List Call) (b₀ : Bound) {b : Bound} {left : ℕ} (places patterns : List ℕ) → b ≡ b₀ → left ≡ 2 ^ length body - 1
-    → length body ≤ maxSubgoals → length body ≤ length places → length body ≤ length patterns → Going T body b₀ 0 b left places patterns
+    → length body ≤ max_subgoals → length body ≤ length places → length body ≤ length patterns → Going T body b₀ 0 b left places patterns
 going_start T body b₀ places patterns eb el h k l =
-    rw (eb, el) (record { run = run-start b₀ (length body) places h k; turns = turns-start body b₀ places patterns k l })
+    rw (eb, el) (record { run = run_start b₀ (length body) places h k; turns = turns_start body b₀ places patterns k l })
 
 module _ {T : Table} {body : List Call} {b₀ b : Bound} {i left : ℕ} {places patterns : List ℕ} (w : Going T body b₀ i b left places patterns) where
   -- the first place that is ready is taken, with its subgoal's pattern
-  pub going_next : (p a : ℕ) → p ≡ picked left (readyAt T body b) → PatternAt body b p a → i < length body → p < length body
+  pub going_next : (p a : ℕ) → p ≡ picked left (ready_at T body b) → PatternAt body b p a → i < length body → p < length body
       → {b' : Bound} {left' : ℕ} {places' patterns' : List ℕ} → b' ≡ after_at body b p → left' ≡ bit_xor left (2 ^ p) → places' ≡ set places i p → patterns' ≡ set patterns i a
       → Going T body b₀ (i + 1) b' left' places' patterns'
   going_next p a e t h k eb eu ep ea =
-      record { run = run-next w.run p e h k eb eu ep; turns = turns_next w.turns p a h k t eb ep ea }
+      record { run = run_next w.run p e h k eb eu ep; turns = turns_next w.turns p a h k t eb ep ea }
 
   -- where no place is ready, no order is good
-  pub going-stuck : (p : ℕ) → p ≡ picked left (readyAt T body b) → i < length body → length body ≤ p → none ≡ firstGood T body b₀
-  going-stuck p e h k = sym (run-stuck w.run p e h k) ∙ greedy-is-first T body b₀
+  pub going_stuck : (p : ℕ) → p ≡ picked left (ready_at T body b) → i < length body → length body ≤ p → none ≡ first_good T body b₀
+  going_stuck p e h k = sym (run_stuck w.run p e h k) ∙ greedy_is_first T body b₀
 
   pub going_end : (n : ℕ) → n ≡ length body → n ≤ i
-      → (some (take n places) ≡ firstGood T body b₀) × (take (length (take n places)) patterns ≡ patternsIn body b₀ (take n places))
+      → (some (take n places) ≡ first_good T body b₀) × (take (length (take n places)) patterns ≡ patterns_in body b₀ (take n places))
   going_end n e h =
       let m = w.run.most in (
-        ap (λ (j : ℕ). some (take j places)) e ∙ sym (run_end w.run (omega arith)) ∙ greedy-is-first T body b₀,
-        turns-end w.turns n (omega arith) (omega arith),
+        ap (λ (j : ℕ). some (take j places)) e ∙ sym (run_end w.run (omega arith)) ∙ greedy_is_first T body b₀,
+        turns_end w.turns n (omega arith) (omega arith),
       )
 
 -- ---- the pattern beside a place
 
-patterns-at : (body : List Call) (b : Bound) (σ : List ℕ) (i : ℕ) → i < length σ
-    → get_or (patternsIn body b σ) i 0 ≡ patternOf (ran body b (take i σ)) (at body (get_or σ i 0)).args
-unfolding asks allAfter
-patterns-at body b [] i h = absurd (omega arith)
-patterns-at body b (p ∷ σ) zero h = refl
-patterns-at body b (p ∷ σ) (suc i) h = patterns-at body (after_at body b p) σ i (omega arith)
+patterns_at : (body : List Call) (b : Bound) (σ : List ℕ) (i : ℕ) → i < length σ
+    → get_or (patterns_in body b σ) i 0 ≡ pattern_of (ran body b (take i σ)) (at body (get_or σ i 0)).args
+unfolding asks all_after
+patterns_at body b [] i h = absurd (omega arith)
+patterns_at body b (p ∷ σ) zero h = refl
+patterns_at body b (p ∷ σ) (suc i) h = patterns_at body (after_at body b p) σ i (omega arith)
 
-patterns-long : (body : List Call) (b : Bound) (σ : List ℕ) → length (patternsIn body b σ) ≡ length σ
+patterns_long : (body : List Call) (b : Bound) (σ : List ℕ) → length (patterns_in body b σ) ≡ length σ
 unfolding asks
-patterns-long body b [] = refl
-patterns-long body b (p ∷ σ) = ap suc (patterns-long body (after_at body b p) σ)
+patterns_long body b [] = refl
+patterns_long body b (p ∷ σ) = ap suc (patterns_long body (after_at body b p) σ)
 
 -- of an order
-pub pattern-beside : (body : List Call) (b : Bound) (o : Order) → patternsOf o ≡ patternsIn body b (places_of o) → (i : ℕ) → i < length (places_of o)
-    → get_or o.patterns i 0 ≡ patternOf (ran body b (take i (places_of o))) (at body (get_or (places_of o) i 0)).args
-pattern-beside body b o e i h =
-    let l = ap length e ∙ patterns-long body b (places_of o) in
-    sym (first-at (length (places_of o)) o.patterns i (omega arith)) ∙ ap (λ (l : List ℕ). get_or l i 0) e ∙ patterns-at body b (places_of o) i h
+pub pattern_beside : (body : List Call) (b : Bound) (o : Order) → patterns_of o ≡ patterns_in body b (places_of o) → (i : ℕ) → i < length (places_of o)
+    → get_or o.patterns i 0 ≡ pattern_of (ran body b (take i (places_of o))) (at body (get_or (places_of o) i 0)).args
+pattern_beside body b o e i h =
+    let l = ap length e ∙ patterns_long body b (places_of o) in
+    sym (first_at (length (places_of o)) o.patterns i (omega arith)) ∙ ap (λ (l : List ℕ). get_or l i 0) e ∙ patterns_at body b (places_of o) i h
 
 -- of no order
-pub patterns-none : (body : List Call) (b : Bound) (o : Order) → order_of o ≡ none → patternsOf o ≡ patternsIn body b (places_of o)
-patterns-none body b o e =
-    let n : places_of o ≡ [] = ap orNone e in
-    ap (λ (σ : List ℕ). take (length σ) o.patterns) n ∙ sym (patterns-nil body b) ∙ ap (patternsIn body b) (sym n)
+pub patterns_none : (body : List Call) (b : Bound) (o : Order) → order_of o ≡ none → patterns_of o ≡ patterns_in body b (places_of o)
+patterns_none body b o e =
+    let n : places_of o ≡ [] = ap or_none e in
+    ap (λ (σ : List ℕ). take (length σ) o.patterns) n ∙ sym (patterns_nil body b) ∙ ap (patterns_in body b) (sym n)
 
 -- ---- the places of the order that was found
 
-module _ (T : Table) (body : List Call) (b : Bound) (o : Order) (e : order_of o ≡ firstGood T body b) where
+module _ (T : Table) (body : List Call) (b : Bound) (o : Order) (e : order_of o ≡ first_good T body b) where
   abbrev pub order : List ℕ
-  order = orNone (firstGood T body b)
+  order = or_none (first_good T body b)
 
-  pub order-long : length (places_of o) ≡ length order
-  order-long = ap (λ σ. length (orNone σ)) e
+  pub order_long : length (places_of o) ≡ length order
+  order_long = ap (λ σ. length (or_none σ)) e
 
-  pub order-at : (i : ℕ) → i < length (places_of o) → get_or o.places i 0 ≡ get_or order i 0
-  order-at i h = order-length-at o i h ∙ ap (λ σ. get_or (orNone σ) i 0) e
+  pub order_at : (i : ℕ) → i < length (places_of o) → get_or o.places i 0 ≡ get_or order i 0
+  order_at i h = order_length_at o i h ∙ ap (λ σ. get_or (or_none σ) i 0) e
 
   pub order_below : (i : ℕ) → i < length (places_of o) → get_or o.places i 0 < length body
-  order_below i h = let q = order-at i h in let l = order-long in let r = first_below T body b i (omega arith) in omega arith
+  order_below i h = let q = order_at i h in let l = order_long in let r = first_below T body b i (omega arith) in omega arith
 
   -- the pattern beside a place is that of the call there
-  pub order-pattern : patternsOf o ≡ patternsIn body b (places_of o) → (i : ℕ) → i < length (places_of o)
-      → get_or o.patterns i 0 ≡ patternOf (ran body b (take i order)) (at body (get_or order i 0)).args
-  order-pattern t i h =
-      pattern-beside body b o t i h
-      ∙ ap (λ (σ : Option (List ℕ)). patternOf (ran body b (take i (orNone σ))) (at body (get_or (orNone σ) i 0)).args) e
+  pub order_pattern : patterns_of o ≡ patterns_in body b (places_of o) → (i : ℕ) → i < length (places_of o)
+      → get_or o.patterns i 0 ≡ pattern_of (ran body b (take i order)) (at body (get_or order i 0)).args
+  order_pattern t i h =
+      pattern_beside body b o t i h
+      ∙ ap (λ (σ : Option (List ℕ)). pattern_of (ran body b (take i (or_none σ))) (at body (get_or (or_none σ) i 0)).args) e
 
   -- of a call that was read, with six arguments at most
-  pub pattern-low : patternsOf o ≡ patternsIn body b (places_of o) → (i : ℕ) → i < length (places_of o) → (s : ℕ)
-      → call_in s ≡ get_or body (get_or o.places i 0) noCall → get_or o.patterns i 0 < allPatterns
+  pub pattern_low : patterns_of o ≡ patterns_in body b (places_of o) → (i : ℕ) → i < length (places_of o) → (s : ℕ)
+      → call_in s ≡ get_or body (get_or o.places i 0) no_call → get_or o.patterns i 0 < all_patterns
   unfolding at
-  pattern-low t i h s q =
-      let r = order-pattern t i h in
+  pattern_low t i h s q =
+      let r = order_pattern t i h in
       let n = args_count s in
-      let a : (call_in s).args ≡ (at body (get_or order i 0)).args = ap (λ (c : Call). c.args) (q ∙ ap (λ (p : ℕ). get_or body p noCall) (order-at i h)) in
-      let l = pattern-small (ran body b (take i order)) maxArity (at body (get_or order i 0)).args (rw (← a) (omega arith)) in
+      let a : (call_in s).args ≡ (at body (get_or order i 0)).args = ap (λ (c : Call). c.args) (q ∙ ap (λ (p : ℕ). get_or body p no_call) (order_at i h)) in
+      let l = pattern_small (ran body b (take i order)) max_arity (at body (get_or order i 0)).args (rw (← a) (omega arith)) in
       omega arith
 
 -- ---- the calls of an order, one by one
 
-pub asks-values : (body : List Call) (b : Bound) (σ : List ℕ) (i : ℕ) → i ≤ length σ
-    → values (λ j. record { pred = (at body (get_or σ j 0)).pred; pattern = patternOf (ran body b (take j σ)) (at body (get_or σ j 0)).args }) i
+pub asks_values : (body : List Call) (b : Bound) (σ : List ℕ) (i : ℕ) → i ≤ length σ
+    → values (λ j. record { pred = (at body (get_or σ j 0)).pred; pattern = pattern_of (ran body b (take j σ)) (at body (get_or σ j 0)).args }) i
     ≡ asks body b (take i σ)
 unfolding asks
-asks-values body b σ zero h = refl
-asks-values body b σ (suc i) h =
-    rw (take-suc σ i 0 (omega arith), asks-snoc body b (take i σ) (get_or σ i 0))
-    (ap (λ (l : List Asked). l ++ (record { pred = (at body (get_or σ i 0)).pred; pattern = patternOf (ran body b (take i σ)) (at body (get_or σ i 0)).args } ∷ []))
-    (asks-values body b σ i (omega arith)))
+asks_values body b σ zero h = refl
+asks_values body b σ (suc i) h =
+    rw (take-suc σ i 0 (omega arith), asks_snoc body b (take i σ) (get_or σ i 0))
+    (ap (λ (l : List Asked). l ++ (record { pred = (at body (get_or σ i 0)).pred; pattern = pattern_of (ran body b (take i σ)) (at body (get_or σ i 0)).args } ∷ []))
+    (asks_values body b σ i (omega arith)))

@@ -15,53 +15,53 @@ use lib.ListN.{length, get_or, set, take, length-set}
 use lib.Pow.{pow_pos, pow-lt}
 use lib.Seq.{take-suc-set}
 use borrow.Author.Tests.{eq-eqb, ne_eqb}
-use Rattle.masks.specs.Limits.{maxArity}
+use Rattle.masks.specs.Limits.{max_arity}
 use Rattle.masks.specs.Lists.{all}
 use Rattle.masks.specs.Set.{bit_at}
-use Rattle.book.specs.Limits.{maxPredicates, maxSubgoals}
-use Rattle.book.specs.Book.{Call, noCall}
+use Rattle.book.specs.Limits.{max_predicates, max_subgoals}
+use Rattle.book.specs.Book.{Call, no_call}
 use Rattle.book.specs.Format.{allows}
-use Rattle.book.specs.Table.{tableIn, Full}
+use Rattle.book.specs.Table.{table_in, Full}
 use Rattle.book.specs.Sets.{callable}
 use Rattle.book.specs.declared.range.Range.TheVariants.{Argument}
 use Rattle.ordering.specs.Orders.{In, find, without, count}
-use Rattle.ordering.specs.Adorn.{Bound, patternOf, ready, after}
-use Rattle.ordering.specs.Good.{at, readyAt, after_at}
-use Rattle.ordering.specs.Held.{foundOr, picked, can_run, PatternAt}
-use Rattle.masks.proofs.Laws.Logic.{byRange, clash, and_left, and_right}
-use Rattle.masks.proofs.Laws.Set.{bitAt-power}
-use Rattle.masks.proofs.Laws.Members.{bitAt-xor}
+use Rattle.ordering.specs.Adorn.{Bound, pattern_of, ready, after}
+use Rattle.ordering.specs.Good.{at, ready_at, after_at}
+use Rattle.ordering.specs.Held.{found_or, picked, can_run, PatternAt}
+use Rattle.masks.proofs.Laws.Logic.{by_range, clash, and_left, and_right}
+use Rattle.masks.proofs.Laws.Set.{bit_at_power}
+use Rattle.masks.proofs.Laws.Members.{bit_at_xor}
 use Rattle.masks.proofs.Laws.Patterns.{member_below}
-use Rattle.book.proofs.Laws.Sets.{callable-low, callable-args}
-use Rattle.ordering.proofs.Laws.Orders.{find-some, find_none, find-least, without_in, without-keeps, without_gone, Ascends, ascends-distinct, ascends-without, count-in, in_count, count-ascends}
-use Rattle.ordering.proofs.Laws.Greedy.{greedyOf, greedy}
-use Rattle.ordering.proofs.Laws.Steps.{pattern-small, known-pattern}
+use Rattle.book.proofs.Laws.Sets.{callable_low, callable_args}
+use Rattle.ordering.proofs.Laws.Orders.{find_some, find_none, find_least, without_in, without_keeps, without_gone, Ascends, ascends_distinct, ascends_without, count_in_lem, in_count, count_ascends}
+use Rattle.ordering.proofs.Laws.Greedy.{greedy_of, greedy}
+use Rattle.ordering.proofs.Laws.Steps.{pattern_small, known_pattern}
 use Rattle.ordering.proofs.Laws.Held.{ready_held}
 
 -- ---- a subgoal as it is read
 
-module _ (body : List Call) (p : ℕ) {s : Call} (e : s ≡ get_or body p noCall) where
-  pub pred-read : callable body ≡ true → p < length body → s.pred < maxPredicates
-  pred-read t h = rw e (callable-low body p t h)
+module _ (body : List Call) (p : ℕ) {s : Call} (e : s ≡ get_or body p no_call) where
+  pub pred_read : callable body ≡ true → p < length body → s.pred < max_predicates
+  pred_read t h = rw e (callable_low body p t h)
 
   pub args_read : callable body ≡ true → p < length body → all (allows Argument) s.args ≡ true
-  args_read t h = rw e (callable-args body p t h)
+  args_read t h = rw e (callable_args body p t h)
 
   -- with its pattern, which fits where it is a member of the predicate's set; of a negated one it must be the greatest
-  pub ready_read : (table : List ℕ) (b : Bound) {q a : ℕ} → callable body ≡ true → Full table → length s.args ≤ maxArity → p < length body → q ≡ s.pred
-      → a ≡ patternOf b s.args → readyAt (tableIn table maxPredicates) body b p ≡ can_run (get_or table q 0) s a
+  pub ready_read : (table : List ℕ) (b : Bound) {q a : ℕ} → callable body ≡ true → Full table → length s.args ≤ max_arity → p < length body → q ≡ s.pred
+      → a ≡ pattern_of b s.args → ready_at (table_in table max_predicates) body b p ≡ can_run (get_or table q 0) s a
   unfolding at
   ready_read table b {q} {a} t full few h r i =
-      let l = pred-read t h in
-      sym (ap (ready (tableIn table maxPredicates) b) e)
-      ∙ ready_held table maxPredicates b s l
+      let l = pred_read t h in
+      sym (ap (ready (table_in table max_predicates) b) e)
+      ∙ ready_held table max_predicates b s l
       ∙ ap₂ (λ (c d : Bool). c && d)
-      (sym (full s.pred l (patternOf b s.args) (pattern-small b maxArity s.args few)) ∙ ap₂ (λ (j x : ℕ). bit_at (get_or table j 0) x) (sym r) (sym i))
-      (known-pattern b s ∙ ap (λ (x : ℕ). not s.negated || eqb (x + 1) (2 ^ length s.args)) (sym i))
+      (sym (full s.pred l (pattern_of b s.args) (pattern_small b max_arity s.args few)) ∙ ap₂ (λ (j x : ℕ). bit_at (get_or table j 0) x) (sym r) (sym i))
+      (known_pattern b s ∙ ap (λ (x : ℕ). not s.negated || eqb (x + 1) (2 ^ length s.args)) (sym i))
 
-  pub pattern-read : (b : Bound) {a : ℕ} → a ≡ patternOf b s.args → PatternAt body b p a
+  pub pattern_read : (b : Bound) {a : ℕ} → a ≡ pattern_of b s.args → PatternAt body b p a
   unfolding at
-  pattern-read b r h = r ∙ ap (λ (c : Call). patternOf b c.args) e
+  pattern_read b r h = r ∙ ap (λ (c : Call). pattern_of b c.args) e
 
   pub after_read : (b : Bound) {b' : Bound} → b' ≡ after b s → b' ≡ after_at body b p
   unfolding at
@@ -74,56 +74,56 @@ free left passes p = bit_at left p && passes p
 
 -- the first that is left and passes is the first from p on
 abbrev pub Scan : ℕ → (ℕ → Bool) → ℕ → Type 0
-Scan left passes p = picked left passes ≡ foundOr maxSubgoals (find (free left passes) (count p (maxSubgoals - p)))
+Scan left passes p = picked left passes ≡ found_or max_subgoals (find (free left passes) (count p (max_subgoals - p)))
 
 module _ (left : ℕ) (passes : ℕ → Bool) where
-  pub scan-start : Scan left passes 0
+  pub scan_start : Scan left passes 0
   unfolding picked
-  scan-start = refl
+  scan_start = refl
 
-  scan-on : (p : ℕ) → free left passes p ≡ false → Scan left passes p → Scan left passes (suc p)
+  scan_on : (p : ℕ) → free left passes p ≡ false → Scan left passes p → Scan left passes (suc p)
   unfolding find count
-  scan-on p t s =
-      byRange p maxSubgoals
-      (λ h. let e : maxSubgoals - p ≡ suc (maxSubgoals - suc p) = omega arith in s ∙ rw (e, t))
+  scan_on p t s =
+      by_range p max_subgoals
+      (λ h. let e : max_subgoals - p ≡ suc (max_subgoals - suc p) = omega arith in s ∙ rw (e, t))
       (λ h.
-      let e : maxSubgoals - p ≡ 0 = omega arith in
-      let f : maxSubgoals - suc p ≡ 0 = omega arith in
+      let e : max_subgoals - p ≡ 0 = omega arith in
+      let f : max_subgoals - suc p ≡ 0 = omega arith in
       s ∙ rw (e, f))
 
   -- a place that is not left
-  pub scan-skip : (p : ℕ) → bit_at left p ≡ false → Scan left passes p → Scan left passes (suc p)
-  scan-skip p t = scan-on p (rw t)
+  pub scan_skip : (p : ℕ) → bit_at left p ≡ false → Scan left passes p → Scan left passes (suc p)
+  scan_skip p t = scan_on p (rw t)
 
-  pub scan-waits : (p : ℕ) → passes p ≡ false → Scan left passes p → Scan left passes (suc p)
-  scan-waits p t = scan-on p (rw t (and-false (bit_at left p)))
+  pub scan_waits : (p : ℕ) → passes p ≡ false → Scan left passes p → Scan left passes (suc p)
+  scan_waits p t = scan_on p (rw t (and-false (bit_at left p)))
 
-  pub scan-here : (p : ℕ) → p < maxSubgoals → bit_at left p ≡ true → passes p ≡ true → Scan left passes p → p ≡ picked left passes
+  pub scan_here : (p : ℕ) → p < max_subgoals → bit_at left p ≡ true → passes p ≡ true → Scan left passes p → p ≡ picked left passes
   unfolding find count
-  scan-here p h u t s = let e : maxSubgoals - p ≡ suc (maxSubgoals - suc p) = omega arith in sym (s ∙ rw (e, u, t))
+  scan_here p h u t s = let e : max_subgoals - p ≡ suc (max_subgoals - suc p) = omega arith in sym (s ∙ rw (e, u, t))
 
-  pub scan-end : (p : ℕ) → maxSubgoals ≤ p → Scan left passes p → maxSubgoals ≡ picked left passes
+  pub scan_end : (p : ℕ) → max_subgoals ≤ p → Scan left passes p → max_subgoals ≡ picked left passes
   unfolding find count
-  scan-end p h s = let e : maxSubgoals - p ≡ 0 = omega arith in sym (s ∙ rw e)
+  scan_end p h s = let e : max_subgoals - p ≡ 0 = omega arith in sym (s ∙ rw e)
 
 -- ---- the places that are left
 
 -- two ascending lists with the same members that pass
-find-same : (p q : ℕ → Bool) (l m : List ℕ) → Ascends l → Ascends m → ((x : ℕ) → In x l × (p x ≡ true) → In x m × (q x ≡ true))
+find_same : (p q : ℕ → Bool) (l m : List ℕ) → Ascends l → Ascends m → ((x : ℕ) → In x l × (p x ≡ true) → In x m × (q x ≡ true))
     → ((x : ℕ) → In x m × (q x ≡ true) → In x l × (p x ≡ true)) → find p l ≡ find q m
-find-same p q l m a b f g = go (find p l) (find q m) refl refl
+find_same p q l m a b f g = go (find p l) (find q m) refl refl
   where
     go : (o o' : Option ℕ) → find p l ≡ o → find q m ≡ o' → o ≡ o'
     go none none d e = refl
-    go none (some y) d e = let h = g y (find-some q m y e) in absurd (find_none p l d y h.0 h.1)
-    go (some x) none d e = let h = f x (find-some p l x d) in absurd (find_none q m e x h.0 h.1)
+    go none (some y) d e = let h = g y (find_some q m y e) in absurd (find_none p l d y h.0 h.1)
+    go (some x) none d e = let h = f x (find_some p l x d) in absurd (find_none q m e x h.0 h.1)
     go (some x) (some y) d e =
-        let h = f x (find-some p l x d) in
-        let k = g y (find-some q m y e) in
+        let h = f x (find_some p l x d) in
+        let k = g y (find_some q m y e) in
         ap some
         (⊎_elim (λ z. z)
-        (λ u. ⊎_elim (λ z. sym z) (λ v. absurd (omega arith)) (find-least q (λ (i j : ℕ). i < j) m y b e x h.0 h.1))
-        (find-least p (λ (i j : ℕ). i < j) l x a d y k.0 k.1))
+        (λ u. ⊎_elim (λ z. sym z) (λ v. absurd (omega arith)) (find_least q (λ (i j : ℕ). i < j) m y b e x h.0 h.1))
+        (find_least p (λ (i j : ℕ). i < j) l x a d y k.0 k.1))
 
 -- rem has, ascending, the places of a word, which are some of the first n
 pub record Left (n left : ℕ) (rem : List ℕ) : Type 0 where
@@ -133,82 +133,82 @@ pub record Left (n left : ℕ) (rem : List ℕ) : Type 0 where
   pub only : (p : ℕ) → In p rem → bit_at left p ≡ true
 
 -- the first n
-first-places : (n p : ℕ) → p < n → bit_at (2 ^ n - 1) p ≡ true
+first_places : (n p : ℕ) → p < n → bit_at (2 ^ n - 1) p ≡ true
 unfolding bit_at
-first-places zero p h = absurd (omega arith)
-first-places (suc n) zero h = let e = pow-suc 2 n in let q = pow_pos n in eq-eqb ((2 ^ suc n - 1) % 2) 1 (omega arith)
-first-places (suc n) (suc p) h =
+first_places zero p h = absurd (omega arith)
+first_places (suc n) zero h = let e = pow-suc 2 n in let q = pow_pos n in eq-eqb ((2 ^ suc n - 1) % 2) 1 (omega arith)
+first_places (suc n) (suc p) h =
     let e = pow-suc 2 n in
     let q = pow_pos n in
     let f : (2 ^ suc n - 1) / 2 ≡ 2 ^ n - 1 = omega arith in
-    ap (λ (w : ℕ). bit_at w p) f ∙ first-places n p (omega arith)
+    ap (λ (w : ℕ). bit_at w p) f ∙ first_places n p (omega arith)
 
-left-start : (n : ℕ) → Left n (2 ^ n - 1) (count 0 n)
-left-start n =
+left_start : (n : ℕ) → Left n (2 ^ n - 1) (count 0 n)
+left_start n =
     let q = pow_pos n in
     record {
       small = omega arith;
-      rising = count-ascends 0 n;
+      rising = count_ascends 0 n;
       has = λ p t. let h = member_below n (2 ^ n - 1) p (omega arith) t in in_count 0 n p (omega arith) (omega arith);
-      only = λ p k. let e = count-in 0 n p k in first-places n p (omega arith);
+      only = λ p k. let e = count_in_lem 0 n p k in first_places n p (omega arith);
     }
 
 module _ {n left : ℕ} {rem : List ℕ} (l : Left n left rem) where
   -- one is taken
-  taken-bit : (p q : ℕ) → (q ≡ p → ⊥) → bit_at (bit_xor left (2 ^ p)) q ≡ bit_at left q
-  taken-bit p q ne = bitAt-xor left (2 ^ p) q ∙ rw (bitAt-power p q, ne_eqb q p ne) (go (bit_at left q))
+  taken_bit : (p q : ℕ) → (q ≡ p → ⊥) → bit_at (bit_xor left (2 ^ p)) q ≡ bit_at left q
+  taken_bit p q ne = bit_at_xor left (2 ^ p) q ∙ rw (bit_at_power p q, ne_eqb q p ne) (go (bit_at left q))
     where
       go : (b : Bool) → cond b true false ≡ b
       go true = refl
       go false = refl
 
-  left-next : (p : ℕ) → bit_at left p ≡ true → Left n (bit_xor left (2 ^ p)) (without p rem)
-  left-next p t =
-      let gone : bit_at (bit_xor left (2 ^ p)) p ≡ false = bitAt-xor left (2 ^ p) p ∙ rw (t, bitAt-power p p, eq-eqb p p refl) in
+  left_next : (p : ℕ) → bit_at left p ≡ true → Left n (bit_xor left (2 ^ p)) (without p rem)
+  left_next p t =
+      let gone : bit_at (bit_xor left (2 ^ p)) p ≡ false = bit_at_xor left (2 ^ p) p ∙ rw (t, bit_at_power p p, eq-eqb p p refl) in
       record {
         small = xor_lt n left (2 ^ p) l.small (pow-lt (member_below n left p l.small t));
-        rising = ascends-without p rem l.rising;
+        rising = ascends_without p rem l.rising;
         has = λ q u.
             let ne : q ≡ p → ⊥ = λ e. clash u (ap (bit_at (bit_xor left (2 ^ p))) e ∙ gone) in
-            without-keeps p q rem (λ e. ne (sym e)) (l.has q (sym (taken-bit p q ne) ∙ u));
+            without_keeps p q rem (λ e. ne (sym e)) (l.has q (sym (taken_bit p q ne) ∙ u));
         only = λ q k.
-            let ne : q ≡ p → ⊥ = λ e. without_gone p rem (ascends-distinct rem l.rising) (subst (λ (j : ℕ). In j (without p rem)) e k) in
-            taken-bit p q ne ∙ l.only q (without_in p q rem k);
+            let ne : q ≡ p → ⊥ = λ e. without_gone p rem (ascends_distinct rem l.rising) (subst (λ (j : ℕ). In j (without p rem)) e k) in
+            taken_bit p q ne ∙ l.only q (without_in p q rem k);
       }
 
   -- what the scan finds is the first of them that passes
-  left-picked : (passes : ℕ → Bool) → n ≤ maxSubgoals → picked left passes ≡ foundOr maxSubgoals (find passes rem)
+  left_picked : (passes : ℕ → Bool) → n ≤ max_subgoals → picked left passes ≡ found_or max_subgoals (find passes rem)
   unfolding picked
-  left-picked passes most =
-      ap (foundOr maxSubgoals)
-      (find-same (free left passes) passes (count 0 maxSubgoals) rem (count-ascends 0 maxSubgoals) l.rising
+  left_picked passes most =
+      ap (found_or max_subgoals)
+      (find_same (free left passes) passes (count 0 max_subgoals) rem (count_ascends 0 max_subgoals) l.rising
       (λ p m. (l.has p (and_left (bit_at left p) (passes p) m.1), and_right (bit_at left p) (passes p) m.1))
       (λ p m.
       let t = l.only p m.0 in
       let k = member_below n left p l.small t in
-      (in_count 0 maxSubgoals p (omega arith) (omega arith), rw t m.1)))
+      (in_count 0 max_subgoals p (omega arith) (omega arith), rw t m.1)))
 
 -- ---- the run
 
 -- i places are taken, and stand first in `places`: with what the greedy rule makes of those left, they are what it makes of all
 pub record Run {B : Type 0} (ready : B → ℕ → Bool) (after : B → ℕ → B) (b₀ : B) (n i : ℕ) (b : B) (left : ℕ) (places : List ℕ) : Type 0 where
   pub most : i ≤ n
-  pub few : n ≤ maxSubgoals
+  pub few : n ≤ max_subgoals
   pub room : n ≤ length places
   pub rem : List ℕ
   pub remain : Left n left rem
-  pub rest : map (λ σ. take i places ++ σ) (greedyOf ready after (n - i) b rem) ≡ greedy ready after b₀ n
+  pub rest : map (λ σ. take i places ++ σ) (greedy_of ready after (n - i) b rem) ≡ greedy ready after b₀ n
 
 module _ {B : Type 0} {ready : B → ℕ → Bool} {after : B → ℕ → B} where
-  pub run-start : (b : B) (n : ℕ) (places : List ℕ) → n ≤ maxSubgoals → n ≤ length places → Run ready after b n 0 b (2 ^ n - 1) places
+  pub run_start : (b : B) (n : ℕ) (places : List ℕ) → n ≤ max_subgoals → n ≤ length places → Run ready after b n 0 b (2 ^ n - 1) places
   unfolding greedy
-  run-start b n places h k = record {
+  run_start b n places h k = record {
     most = omega arith;
     few = h;
     room = k;
     rem = count 0 n;
-    remain = left-start n;
-    rest = rw (sub-zero n) (go (greedyOf ready after n b (count 0 n)));
+    remain = left_start n;
+    rest = rw (sub-zero n) (go (greedy_of ready after n b (count 0 n)));
   }
     where
       go : (o : Option (List ℕ)) → map (λ σ. σ) o ≡ o
@@ -217,7 +217,7 @@ module _ {B : Type 0} {ready : B → ℕ → Bool} {after : B → ℕ → B} whe
 
   module _ {b₀ b : B} {n i left : ℕ} {places : List ℕ} (w : Run ready after b₀ n i b left places) where
     pub run_end : n ≤ i → greedy ready after b₀ n ≡ some (take n places)
-    unfolding greedyOf
+    unfolding greedy_of
     run_end h =
         let k = w.most in
         let e : n - i ≡ 0 = omega arith in
@@ -225,28 +225,28 @@ module _ {B : Type 0} {ready : B → ℕ → Bool} {after : B → ℕ → B} whe
         sym w.rest ∙ rw (e, append-nil (take i places)) (ap (λ (j : ℕ). some (take j places)) q)
 
     module _ (r : ℕ) (p : r ≡ picked left (ready b)) (h : i < n) where
-      found : r ≡ foundOr maxSubgoals (find (ready b) w.rem)
-      found = p ∙ left-picked w.remain (ready b) w.few
+      found : r ≡ found_or max_subgoals (find (ready b) w.rem)
+      found = p ∙ left_picked w.remain (ready b) w.few
 
       -- nothing that is left is ready
-      pub run-stuck : n ≤ r → greedy ready after b₀ n ≡ none
-      unfolding greedyOf
-      run-stuck k =
+      pub run_stuck : n ≤ r → greedy ready after b₀ n ≡ none
+      unfolding greedy_of
+      run_stuck k =
           let s : n - i ≡ suc (n - (i + 1)) = omega arith in
           let e : find (ready b) w.rem ≡ none = go (find (ready b) w.rem) refl found in
           sym w.rest ∙ rw (s, e)
         where
-          go : (o : Option ℕ) → find (ready b) w.rem ≡ o → r ≡ foundOr maxSubgoals o → o ≡ none
+          go : (o : Option ℕ) → find (ready b) w.rem ≡ o → r ≡ found_or max_subgoals o → o ≡ none
           go none q e = refl
           go (some x) q e =
-              let m = member_below n left x w.remain.small (w.remain.only x (find-some (ready b) w.rem x q).0) in
+              let m = member_below n left x w.remain.small (w.remain.only x (find_some (ready b) w.rem x q).0) in
               absurd (omega arith)
 
       -- it is taken: stored behind the others, and no longer left
-      pub run-next : {b' : B} {left' : ℕ} {places' : List ℕ} → r < n → b' ≡ after b r → left' ≡ bit_xor left (2 ^ r) → places' ≡ set places i r
+      pub run_next : {b' : B} {left' : ℕ} {places' : List ℕ} → r < n → b' ≡ after b r → left' ≡ bit_xor left (2 ^ r) → places' ≡ set places i r
           → Run ready after b₀ n (i + 1) b' left' places'
-      unfolding greedyOf
-      run-next k eb eu ep =
+      unfolding greedy_of
+      run_next k eb eu ep =
           let f = w.few in
           let t = w.room in
           let s : n - i ≡ suc (n - (i + 1)) = omega arith in
@@ -256,13 +256,13 @@ module _ {B : Type 0} {ready : B → ℕ → Bool} {after : B → ℕ → B} whe
             few = f;
             room = rw (ep, length-set places i r) t;
             rem = without r w.rem;
-            remain = rw eu (left-next w.remain r (w.remain.only r (find-some (ready b) w.rem r e).0));
+            remain = rw eu (left_next w.remain r (w.remain.only r (find_some (ready b) w.rem r e).0));
             rest =
                 rw (eb, ep, add-one i, take-suc-set places i r (omega arith))
-                (sym (joined (greedyOf ready after (n - suc i) (after b r) (without r w.rem))) ∙ rw (s, e, add-one i) at w.rest);
+                (sym (joined (greedy_of ready after (n - suc i) (after b r) (without r w.rem))) ∙ rw (s, e, add-one i) at w.rest);
           }
         where
-          go : (o : Option ℕ) → r ≡ foundOr maxSubgoals o → o ≡ some r
+          go : (o : Option ℕ) → r ≡ found_or max_subgoals o → o ≡ some r
           go none e = let f = w.few in absurd (omega arith)
           go (some x) e = ap some (sym e)
 

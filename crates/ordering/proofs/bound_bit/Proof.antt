@@ -2,7 +2,7 @@
 use Prim.Native.Nat.{◌%◌}
 use native.Mathlib.Omega.{arith}
 use borrow.Author.Rules.{rules}
-use Rattle.ordering.proofs.Laws.Bound.{shift-bit}
+use Rattle.ordering.proofs.Laws.Bound.{shift_bit}
 use Rattle.ordering.proofs.bound_bit.Statement.{statement}
 use Rattle.ordering.proofs.bound_bit.Tie as tie
 
@@ -13,7 +13,7 @@ shr-result : tie.Need-overflow-shr-result
 shr-result c = search rules
 
 returns : tie.Need-returns
-returns c = (shift-bit c.args.bound (c.args.arg % 32), omega arith)
+returns c = (shift_bit c.args.bound (c.args.arg % 32), omega arith)
 
 pub bound-bit-spec : {M : Type 1} → statement M
 bound-bit-spec = tie.close (tie.spec cast-result shr-result returns)

@@ -5,7 +5,7 @@ use native.Mathlib.Omega.{arith}
 use lib.Dec.{eqb}
 use borrow.Author.Rules.{rules}
 use borrow.Author.Tests.{not-true, not-false}
-use Rattle.ordering.proofs.Laws.Bound.{shift-true, shift-false, power-is}
+use Rattle.ordering.proofs.Laws.Bound.{shift_true, shift_false, power_is}
 use Rattle.ordering.proofs.can_run.Statement.{statement}
 use Rattle.ordering.proofs.can_run.Tie as tie
 
@@ -16,7 +16,7 @@ returns : tie.Need-returns
 returns c =
     let s = c.before.args in
     let z = c.if1.true in
-    rw (shift-false s.set s.a (λ e. omega arith))
+    rw (shift_false s.set s.a (λ e. omega arith))
 
 negated-requires : tie.Need-negated-requires
 negated-requires c κs = search rules
@@ -25,7 +25,7 @@ returns-2 : tie.Need-returns-2
 returns-2 c =
     let s = c.before.before.before.args in
     let o = c.before.before.if1.false in
-    rw (shift-true s.set s.a (omega (arith, o)), sym c.before.negated.ensures ∙ not-true _ c.if2.true)
+    rw (shift_true s.set s.a (omega (arith, o)), sym c.before.negated.ensures ∙ not-true _ c.if2.true)
 
 add-result : tie.Need-overflow-add-result
 add-result c = search rules
@@ -42,8 +42,8 @@ returns-3 c =
     let o = c.before.before.before.before.if1.false in
     let n = c.before.arguments.ensures in
     let m = n.1 in
-    rw (shift-true s.set s.a (omega (arith, o)), sym c.before.before.before.negated.ensures ∙ not-false _ c.before.before.if2.false)
-    (ap (λ (x : ℕ). eqb (s.a + 1) x) (power-is _ _ c.power.ensures (omega (arith, n.0, n.1))))
+    rw (shift_true s.set s.a (omega (arith, o)), sym c.before.before.before.negated.ensures ∙ not-false _ c.before.before.if2.false)
+    (ap (λ (x : ℕ). eqb (s.a + 1) x) (power_is _ _ c.power.ensures (omega (arith, n.0, n.1))))
 
 pub can-run-spec : {M : Type 1} → statement M
 can-run-spec =

@@ -10,21 +10,21 @@ use lib.ListN.{length}
 use lib.Pow.{pow_pos}
 use borrow.Author.Rules.{rules}
 use Rattle.masks.specs.Set.{bit_at}
-use Rattle.book.specs.Limits.{maxPredicates, maxSubgoals}
+use Rattle.book.specs.Limits.{max_predicates, max_subgoals}
 use Rattle.book.specs.Book.{Call}
-use Rattle.book.specs.Held.{clauseAt}
-use Rattle.book.specs.Table.{tableIn}
-use Rattle.book.proofs.Laws.Held.{clauseAt-few}
-use Rattle.ordering.specs.Held.{boundOf, Marked}
-use Rattle.ordering.proofs.Laws.Bound.{power-is, start-bound, start-marked}
+use Rattle.book.specs.Held.{clause_at}
+use Rattle.book.specs.Table.{table_in}
+use Rattle.book.proofs.Laws.Held.{clause_at_few}
+use Rattle.ordering.specs.Held.{bound_of, Marked}
+use Rattle.ordering.proofs.Laws.Bound.{power_is, start_bound, start_marked}
 use Rattle.ordering.proofs.Laws.Run.{args_read, after_read}
-use Rattle.ordering.proofs.Laws.Patterns.{patterns-none, Going, going_start, going_next, going-stuck, going_end}
+use Rattle.ordering.proofs.Laws.Patterns.{patterns_none, Going, going_start, going_next, going_stuck, going_end}
 use Rattle.ordering.proofs.first_order.Statement.{statement}
 use Rattle.ordering.proofs.first_order.Tie as tie
 
 abbrev invariant-loop : tie.invariant-loop
 invariant-loop rules k table bound n places₀ patterns₀ left₀ now₀ i₀ places patterns left now i =
-    Marked now × Going (tableIn table maxPredicates) (clauseAt rules k).body (boundOf bound) i (boundOf now) left places patterns
+    Marked now × Going (table_in table max_predicates) (clause_at rules k).body (bound_of bound) i (bound_of now) left places patterns
 
 abbrev decreases-loop : tie.decreases-loop
 decreases-loop rules k table bound n places₀ patterns₀ left₀ now₀ i₀ places patterns left now i = n - i
@@ -32,10 +32,10 @@ decreases-loop rules k table bound n places₀ patterns₀ left₀ now₀ i₀ p
 -- the subgoals that are ordered, and how many they are
 module _ (c : tie.After-subgoals-at invariant-loop decreases-loop) where
   abbrev body : List Call
-  body = (clauseAt c.before.args.rules.now c.before.args.k).body
+  body = (clause_at c.before.args.rules.now c.before.args.k).body
 
-  few : length body ≤ maxSubgoals
-  few = clauseAt-few c.before.args.rules.now c.before.args.k
+  few : length body ≤ max_subgoals
+  few = clause_at_few c.before.args.rules.now c.before.args.k
 
   count : c.subgoals-at.result ≡ length body
   count = c.subgoals-at.ensures
@@ -51,7 +51,7 @@ all_left : (c : tie.After-power invariant-loop decreases-loop) → c.power.resul
 all_left c =
     let l = few c.before in
     let n = count c.before in
-    power-is _ (length (body c.before)) c.power.ensures (omega arith)
+    power_is _ (length (body c.before)) c.power.ensures (omega arith)
 
 sub-left : tie.Need-overflow-sub-left invariant-loop decreases-loop
 sub-left c = let e = all_left c in let h = pow_pos (length (body c.before)) in omega arith
@@ -61,8 +61,8 @@ unfolding bit_at
 loop-holds c =
     let s = c.before.before.args in
     let l = few c.before in (
-      start-marked _ refl s.bound (search rules),
-      going_start _ (body c.before) (boundOf s.bound) _ _ (start-bound _ refl s.bound) (ap (λ (k : ℕ). k - 1) (all_left c)) l (omega arith) (omega arith),
+      start_marked _ refl s.bound (search rules),
+      going_start _ (body c.before) (bound_of s.bound) _ _ (start_bound _ refl s.bound) (ap (λ (k : ℕ). k - 1) (all_left c)) l (omega arith) (omega arith),
     )
 
 first-ready-requires : tie.Need-first-ready-requires invariant-loop decreases-loop
@@ -80,8 +80,8 @@ returns c =
     let n = count k in
     let r = c.before.before.first-ready in
     let o = c.no-order in (
-      o.ensures ∙ going-stuck c.before.before.before.before.loop.invariant.1 r.result.place r.ensures.0 (omega arith) (omega arith),
-      patterns-none (body k) (boundOf k.before.args.bound) o.result o.ensures,
+      o.ensures ∙ going_stuck c.before.before.before.before.loop.invariant.1 r.result.place r.ensures.0 (omega arith) (omega arith),
+      patterns_none (body k) (bound_of k.before.args.bound) o.result o.ensures,
     )
 
 -- a place is found
@@ -112,7 +112,7 @@ bind-all-requires : tie.Need-bind-all-requires invariant-loop decreases-loop
 bind-all-requires c κs =
     let k = c.before.before.before.before.before.before in (
       c.before.before.before.before.loop.invariant.0,
-      args_read (body k) c.before.before.first-ready.result.place c.subgoal-at.ensures k.before.requires.1 (inside c.before),
+      args_read (body k) c.before.before.first-ready.result.place c.subgoal_at_lem.ensures k.before.requires.1 (inside c.before),
     )
 
 power-requires-2 : tie.Need-power-requires-2 invariant-loop decreases-loop
@@ -135,8 +135,8 @@ loop-again c =
     let g = f.before.before.before.loop in (
       c.before.bind_all.ensures.1,
       going_next g.invariant.1 r.result.place r.result.pattern r.ensures.0 r.ensures.1 (omega arith) h
-          (after_read (body k) r.result.place c.before.before.subgoal-at.ensures (boundOf g.now) c.before.bind_all.ensures.0)
-          (ap (bit_xor g.left) (power-is _ r.result.place c.power2.ensures (omega arith))) refl refl,
+          (after_read (body k) r.result.place c.before.before.subgoal_at_lem.ensures (bound_of g.now) c.before.bind_all.ensures.0)
+          (ap (bit_xor g.left) (power_is _ r.result.place c.power2.ensures (omega arith))) refl refl,
     )
 
 cast-count : tie.Need-overflow-cast-count invariant-loop decreases-loop

@@ -8,25 +8,25 @@ use native.Mathlib.Omega.{arith}
 use lib.Count.{count_trailing_zeros}
 use lib.ListN.{length, get_or}
 use borrow.Author.Rules.{rules}
-use Rattle.masks.specs.Limits.{maxArity}
+use Rattle.masks.specs.Limits.{max_arity}
 use Rattle.masks.specs.Set.{bit_at}
-use Rattle.masks.proofs.Laws.Members.{others-less, Over, over-start, over-end, over-lowest, over-member, over-here, over-next}
+use Rattle.masks.proofs.Laws.Members.{others_less, Over, over_start, over_end, over_lowest, over_member, over_here, over_next}
 use Rattle.masks.proofs.Laws.Patterns.{member_below}
-use Rattle.book.specs.Limits.{maxPredicates}
+use Rattle.book.specs.Limits.{max_predicates}
 use Rattle.book.specs.Book.{Call}
-use Rattle.book.specs.Held.{call_in, clauseAt}
-use Rattle.book.specs.Table.{tableIn}
-use Rattle.book.proofs.Laws.Held.{args_count, clauseAt-few}
-use Rattle.ordering.specs.Good.{readyAt}
-use Rattle.ordering.specs.Held.{boundOf, can_run}
-use Rattle.ordering.proofs.Laws.Steps.{pattern-small}
-use Rattle.ordering.proofs.Laws.Run.{pred-read, args_read, ready_read, pattern-read, Scan, scan-start, scan-skip, scan-waits, scan-here, scan-end}
+use Rattle.book.specs.Held.{call_in, clause_at}
+use Rattle.book.specs.Table.{table_in}
+use Rattle.book.proofs.Laws.Held.{args_count, clause_at_few}
+use Rattle.ordering.specs.Good.{ready_at}
+use Rattle.ordering.specs.Held.{bound_of, can_run}
+use Rattle.ordering.proofs.Laws.Steps.{pattern_small}
+use Rattle.ordering.proofs.Laws.Run.{pred_read, args_read, ready_read, pattern_read, Scan, scan_start, scan_skip, scan_waits, scan_here, scan_end}
 use Rattle.ordering.proofs.first_ready.Statement.{statement}
 use Rattle.ordering.proofs.first_ready.Tie as tie
 
 abbrev invariant-loop : tie.invariant-loop
 invariant-loop rules k table bound left rest₀ rest =
-    Over (Scan left (readyAt (tableIn table maxPredicates) (clauseAt rules k).body (boundOf bound))) 32 left rest
+    Over (Scan left (ready_at (table_in table max_predicates) (clause_at rules k).body (bound_of bound))) 32 left rest
 
 abbrev decreases-loop : tie.decreases-loop
 decreases-loop rules k table bound left rest₀ rest = rest
@@ -34,13 +34,13 @@ decreases-loop rules k table bound left rest₀ rest = rest
 -- what is scanned
 module _ (c : tie.Start invariant-loop decreases-loop) where
   abbrev body : List Call
-  body = (clauseAt c.args.rules.now c.args.k).body
+  body = (clause_at c.args.rules.now c.args.k).body
 
   abbrev passes : ℕ → Bool
-  passes = readyAt (tableIn c.args.table.now maxPredicates) body (boundOf c.args.bound)
+  passes = ready_at (table_in c.args.table.now max_predicates) body (bound_of c.args.bound)
 
 loop-holds : tie.Need-loop-init invariant-loop decreases-loop
-loop-holds c = over-start (Scan c.args.left (passes c)) 32 c.args.left (search rules) (scan-start c.args.left (passes c))
+loop-holds c = over_start (Scan c.args.left (passes c)) 32 c.args.left (search rules) (scan_start c.args.left (passes c))
 
 -- in a turn: p is the lowest place of those left
 module _ (c : tie.In-loop invariant-loop decreases-loop) where
@@ -57,16 +57,16 @@ module _ (c : tie.In-loop invariant-loop decreases-loop) where
   Here = Scan left (passes c.before.before)
 
   abbrev skip : (k : ℕ) → bit_at left k ≡ false → Here k → Here (suc k)
-  skip = scan-skip left (passes c.before.before)
+  skip = scan_skip left (passes c.before.before)
 
   low : p < 32
-  low = (over-lowest Here 32 left rest skip c.before.loop.invariant c.loop-test.true).small
+  low = (over_lowest Here 32 left rest skip c.before.loop.invariant c.loop-test.true).small
 
   member : bit_at left p ≡ true
-  member = over-member Here 32 left rest skip c.before.loop.invariant c.loop-test.true
+  member = over_member Here 32 left rest skip c.before.loop.invariant c.loop-test.true
 
   here : Here p
-  here = over-here Here 32 left rest skip c.before.loop.invariant c.loop-test.true
+  here = over_here Here 32 left rest skip c.before.loop.invariant c.loop-test.true
 
   inside : p < length (body c.before.before)
   inside = member_below (length (body c.before.before)) left p c.before.before.requires.4 member
@@ -83,35 +83,35 @@ subgoal-at-requires c κs = (c.before.before.requires.0, inside c)
 pattern-requires : tie.Need-pattern-requires invariant-loop decreases-loop
 pattern-requires c κs =
     let k = c.before.before.before in
-    (k.requires.3, args_read (body k) (p c.before) c.subgoal-at.ensures k.requires.1 (inside c.before))
+    (k.requires.3, args_read (body k) (p c.before) c.subgoal_at_lem.ensures k.requires.1 (inside c.before))
 
 predicate-requires : tie.Need-predicate-requires invariant-loop decreases-loop
 predicate-requires c κs = search rules
 
 -- the subgoal's predicate and its pattern
 module _ (c : tie.After-predicate invariant-loop decreases-loop) where
-  pred-low : c.predicate.result < maxPredicates
+  pred-low : c.predicate.result < max_predicates
   pred-low =
       let k = c.before.before.before.before.before in
       let e = c.predicate.ensures in
-      let l = pred-read (body k) (p c.before.before.before) c.before.before.subgoal-at.ensures k.requires.1 (inside c.before.before.before) in
+      let l = pred_read (body k) (p c.before.before.before) c.before.before.subgoal_at_lem.ensures k.requires.1 (inside c.before.before.before) in
       omega arith
 
-  few : length (call_in c.before.before.subgoal-at.result).args ≤ maxArity
-  few = let n = args_count c.before.before.subgoal-at.result in omega arith
+  few : length (call_in c.before.before.subgoal_at_lem.result).args ≤ max_arity
+  few = let n = args_count c.before.before.subgoal_at_lem.result in omega arith
 
-  pattern-low : c.before.pattern.result < 64
-  pattern-low =
+  pattern_low : c.before.pattern.result < 64
+  pattern_low =
       let k = c.before.before.before.before.before in
       let e = c.before.pattern.ensures in
-      let l = pattern-small (boundOf k.args.bound) maxArity (call_in c.before.before.subgoal-at.result).args few in
+      let l = pattern_small (bound_of k.args.bound) max_arity (call_in c.before.before.subgoal_at_lem.result).args few in
       omega arith
 
   passes-here : passes c.before.before.before.before.before (p c.before.before.before)
-      ≡ can_run (get_or c.before.before.before.before.before.args.table.now c.predicate.result 0) (call_in c.before.before.subgoal-at.result) c.before.pattern.result
+      ≡ can_run (get_or c.before.before.before.before.before.args.table.now c.predicate.result 0) (call_in c.before.before.subgoal_at_lem.result) c.before.pattern.result
   passes-here =
       let k = c.before.before.before.before.before in
-      ready_read (body k) (p c.before.before.before) c.before.before.subgoal-at.ensures k.args.table.now (boundOf k.args.bound) k.requires.1 k.requires.2 few
+      ready_read (body k) (p c.before.before.before) c.before.before.subgoal_at_lem.ensures k.args.table.now (bound_of k.args.bound) k.requires.1 k.requires.2 few
       (inside c.before.before.before) c.predicate.ensures c.before.pattern.ensures
 
 cast-can-run : tie.Need-overflow-cast-can-run invariant-loop decreases-loop
@@ -124,7 +124,7 @@ element-copy-out-can-run : tie.Need-element-copy-out-can-run invariant-loop decr
 element-copy-out-can-run c = let l = pred-low c in search rules
 
 can-run-requires : tie.Need-can-run-requires invariant-loop decreases-loop
-can-run-requires c κs = pattern-low c.before
+can-run-requires c κs = pattern_low c.before
 
 returns : tie.Need-returns invariant-loop decreases-loop
 returns c =
@@ -132,27 +132,27 @@ returns c =
     let t = d.before.before.before in
     let k = t.before.before in
     let i = inside t in
-    let n = clauseAt-few k.args.rules.now k.args.k in (
-      scan-here (left t) (passes k) (p t) (omega arith) (member t) (passes-here d ∙ sym c.before.can-run.ensures ∙ c.if1.true) (here t),
-      pattern-read (body k) (p t) d.before.before.subgoal-at.ensures (boundOf k.args.bound) d.before.pattern.ensures,
+    let n = clause_at_few k.args.rules.now k.args.k in (
+      scan_here (left t) (passes k) (p t) (omega arith) (member t) (passes-here d ∙ sym c.before.can-run.ensures ∙ c.if1.true) (here t),
+      pattern_read (body k) (p t) d.before.before.subgoal_at_lem.ensures (bound_of k.args.bound) d.before.pattern.ensures,
     )
 
 loop-less : tie.Need-loop-smaller invariant-loop decreases-loop
-loop-less c = let t = c.before.before.before.before.before.before in others-less (rest t) t.loop-test.true
+loop-less c = let t = c.before.before.before.before.before.before in others_less (rest t) t.loop-test.true
 
 loop-again : tie.Need-loop-preserved invariant-loop decreases-loop
 loop-again c =
     let d = c.before.before.before in
     let t = d.before.before.before in
-    over-next (Here t) 32 (left t) (rest t) (skip t) t.before.loop.invariant t.loop-test.true (Here t)
-    (scan-waits (left t) (passes t.before.before) (p t) (passes-here d ∙ sym c.before.can-run.ensures ∙ c.if1.false) (here t))
+    over_next (Here t) 32 (left t) (rest t) (skip t) t.before.loop.invariant t.loop-test.true (Here t)
+    (scan_waits (left t) (passes t.before.before) (p t) (passes-here d ∙ sym c.before.can-run.ensures ∙ c.if1.false) (here t))
 
 returns-2 : tie.Need-returns-2 invariant-loop decreases-loop
 returns-2 c =
     let k = c.before.before in
     let l = k.args.left in
-    let n = clauseAt-few k.args.rules.now k.args.k in (
-      scan-end l (passes k) 32 (omega arith) (over-end (Scan l (passes k)) 32 l c.before.loop.rest (scan-skip l (passes k)) c.before.loop.invariant c.loop-test.false),
+    let n = clause_at_few k.args.rules.now k.args.k in (
+      scan_end l (passes k) 32 (omega arith) (over_end (Scan l (passes k)) 32 l c.before.loop.rest (scan_skip l (passes k)) c.before.loop.invariant c.loop-test.false),
       λ h. absurd (omega arith),
     )
 

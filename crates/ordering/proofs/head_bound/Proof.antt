@@ -4,15 +4,15 @@ use mathlib.Core.Logic.{⊎_elim}
 use Prim.Native.Nat.{◌-◌}
 use native.Mathlib.Omega.{arith}
 use borrow.Author.Rules.{rules}
-use Rattle.book.specs.Held.{headIn}
-use Rattle.ordering.specs.Held.{boundOf}
-use Rattle.ordering.proofs.Laws.Steps.{Heading, heading-start, heading-bound, heading-free, heading-end}
-use Rattle.ordering.proofs.Laws.Bound.{boundOf-zero}
+use Rattle.book.specs.Held.{head_in}
+use Rattle.ordering.specs.Held.{bound_of}
+use Rattle.ordering.proofs.Laws.Steps.{Heading, heading_start, heading_bound, heading_free, heading_end}
+use Rattle.ordering.proofs.Laws.Bound.{bound_of_zero}
 use Rattle.ordering.proofs.head_bound.Statement.{statement}
 use Rattle.ordering.proofs.head_bound.Tie as tie
 
 abbrev invariant-loop : tie.invariant-loop
-invariant-loop head pattern n b₀ rest₀ i₀ b rest i = Heading rest₀ (headIn head).args i rest (boundOf b)
+invariant-loop head pattern n b₀ rest₀ i₀ b rest i = Heading rest₀ (head_in head).args i rest (bound_of b)
 
 abbrev decreases-loop : tie.decreases-loop
 decreases-loop head pattern n b₀ rest₀ i₀ b rest i = n - i
@@ -21,7 +21,7 @@ arguments-requires : tie.Need-arguments-requires invariant-loop decreases-loop
 arguments-requires c κs = search rules
 
 loop-holds : tie.Need-loop-init invariant-loop decreases-loop
-loop-holds c = rw boundOf-zero (heading-start c.before.args.pattern (headIn c.before.args.head).args)
+loop-holds c = rw bound_of_zero (heading_start c.before.args.pattern (head_in c.before.args.head).args)
 
 argument-requires : tie.Need-argument-requires invariant-loop decreases-loop
 argument-requires c κs = let n = c.before.before.before.arguments.ensures.0 in omega arith
@@ -39,11 +39,11 @@ loop-again : tie.Need-loop-preserved invariant-loop decreases-loop
 loop-again c =
     let n = c.before.before.before.arguments.ensures.0 in
     let l = c.before.before.loop.invariant in
-    ⊎_elim (λ w. rw (w.3, w.2.ensures, w.1.ensures) (heading-bound l (omega arith) (omega arith)))
-    (λ w. rw w.1 (heading-free l (omega arith) (λ e. omega arith))) c.if1.branch
+    ⊎_elim (λ w. rw (w.3, w.2.ensures, w.1.ensures) (heading_bound l (omega arith) (omega arith)))
+    (λ w. rw w.1 (heading_free l (omega arith) (λ e. omega arith))) c.if1.branch
 
 returns : tie.Need-returns invariant-loop decreases-loop
-returns c = let n = c.before.before.arguments.ensures.0 in heading-end c.before.loop.invariant (omega arith)
+returns c = let n = c.before.before.arguments.ensures.0 in heading_end c.before.loop.invariant (omega arith)
 
 pub head-bound-spec : {M : Type 1} → statement M
 head-bound-spec =

@@ -7,7 +7,7 @@ use native.Mathlib.Nat.{mod-lt}
 use native.Mathlib.Omega.{arith}
 use lib.Pow.{pow_pos, pow-lt}
 use borrow.Author.Rules.{rules}
-use Rattle.ordering.proofs.Laws.Bound.{power-is, counted, pattern-three, pattern-six}
+use Rattle.ordering.proofs.Laws.Bound.{power_is, counted, pattern_three, pattern_six}
 use Rattle.ordering.proofs.pattern.Statement.{statement}
 use Rattle.ordering.proofs.pattern.Tie as tie
 
@@ -28,7 +28,7 @@ power-requires c κs = search rules
 
 -- what is divided by
 divisor : (c : tie.After-row-known) → c.before.power.result ≡ 2 ^ counted c.before.before.before.before.args.s
-divisor c = power-is _ (counted c.before.before.before.before.args.s) c.before.power.ensures (omega arith)
+divisor c = power_is _ (counted c.before.before.before.before.args.s) c.before.power.ensures (omega arith)
 
 rem-result : tie.Need-nonzero-rem-result
 rem-result c = let d = divisor c in let p = pow_pos (counted c.before.before.before.before.args.s) in omega arith
@@ -48,10 +48,10 @@ returns c =
     let low = c.before.before.before.three-bits.ensures.0 in
     ap (λ (d : ℕ). c.before.before.if1.all % d) (divisor c)
     ∙ ⊎_elim
-    (λ w. ap (λ (x : ℕ). x % 2 ^ counted s.s) (w.1 ∙ low) ∙ pattern-three s.bound s.s k.requires.0 k.requires.1 (omega arith))
+    (λ w. ap (λ (x : ℕ). x % 2 ^ counted s.s) (w.1 ∙ low) ∙ pattern_three s.bound s.s k.requires.0 k.requires.1 (omega arith))
     (λ w.
     ap (λ (x : ℕ). x % 2 ^ counted s.s) (w.2 ∙ ap₂ (λ (x y : ℕ). x + 8 * y) low w.1.ensures.0)
-    ∙ pattern-six s.bound s.s k.requires.0 k.requires.1)
+    ∙ pattern_six s.bound s.s k.requires.0 k.requires.1)
     c.before.before.if1.branch
 
 pub pattern-spec : {M : Type 1} → statement M

@@ -1,6 +1,6 @@
 -- `ordering::three_bits` meets its contract. The five lowest bits of a word moved down by a byte are those of its next byte. Assumes nothing.
 use borrow.Author.Rules.{rules}
-use Rattle.ordering.proofs.Laws.Bound.{marks-three}
+use Rattle.ordering.proofs.Laws.Bound.{marks_three}
 use Rattle.ordering.proofs.three_bits.Statement.{statement}
 use Rattle.ordering.proofs.three_bits.Tie as tie
 
@@ -28,7 +28,7 @@ add-result-2 c = search rules
 returns : tie.Need-returns
 returns c =
     let s = c.before.before.before.args in
-    marks-three s.bound s.args _ _ _ c.before.before.bound-bit.ensures.0 c.before.bound-bit2.ensures.0 c.bound-bit3.ensures.0
+    marks_three s.bound s.args _ _ _ c.before.before.bound-bit.ensures.0 c.before.bound-bit2.ensures.0 c.bound-bit3.ensures.0
 
 pub three-bits-spec : {M : Type 1} → statement M
 three-bits-spec =

@@ -4,22 +4,22 @@ use native.Mathlib.Omega.{arith}
 use lib.ListN.{take, length-replicate}
 use borrow.Author.Rules.{rules}
 use Rattle.printing.specs.Sheet.{printing}
-use Rattle.masks.proofs.Laws.Outcome.{answers-zero, Told, result-told}
-use Rattle.book.specs.Limits.{longestSheet}
-use Rattle.printing.proofs.Laws.Length.{sheet-length}
+use Rattle.masks.proofs.Laws.Outcome.{answers_zero, Told, result_told}
+use Rattle.book.specs.Limits.{longest_sheet}
+use Rattle.printing.proofs.Laws.Length.{sheet_length}
 use Rattle.orders.proofs.main.Statement.{statement}
 use Rattle.orders.proofs.main.Tie as tie
 
 -- the sheet stands at the front of the text
 there : (c : tie.After-sheet) → let i = c.before.before.before.before.before.read-input in
-    Told 0 longestSheet (printing (take i.result.n i.new.0)) c.sheet.result c.sheet.new.1.0
+    Told 0 longest_sheet (printing (take i.result.n i.new.0)) c.sheet.result c.sheet.new.1.0
 there c =
     let i = c.before.before.before.before.before.read-input in
     let s = take i.result.n i.new.0 in
-    let l = sheet-length s in
-    let z = length-replicate {A = ℕ} longestSheet 0 in
+    let l = sheet_length s in
+    let z = length-replicate {A = ℕ} longest_sheet 0 in
     let a = c.sheet.ensures in
-    result-told 0 longestSheet (printing s) (omega arith, l) a z (answers-zero a (omega arith))
+    result_told 0 longest_sheet (printing s) (omega arith, l) a z (answers_zero a (omega arith))
 
 slice-aggregate-read-input : tie.Need-slice-aggregate-read-input
 slice-aggregate-read-input c = search rules

@@ -5,10 +5,10 @@ use mathlib.Core.List.{List, [], ◌∷◌, ◌++◌, map, map-append, append-ni
 use Prim.Native.Nat.{ℕ, ◌+◌, ◌-◌, ◌*◌, ◌≤◌, ◌<◌}
 use native.Mathlib.Omega.{arith}
 use lib.ListN.{length, drop}
-use Rattle.book.specs.Limits.{maxClauses, maxQueries, longestPage}
+use Rattle.book.specs.Limits.{max_clauses, max_queries, longest_page}
 use Rattle.book.specs.Book.{Call, Clause}
-use Rattle.book.specs.Format.{spelling, leads, markAt, turn, Got, got, many, query}
-use Rattle.book.specs.Held.{rulesSize, clauseAt}
+use Rattle.book.specs.Format.{spelling, leads, mark_at, turn, Got, got, many, query}
+use Rattle.book.specs.Held.{rules_size, clause_at}
 use Rattle.book.specs.Sets.{callable}
 use Rattle.book.specs.Table.{Table}
 use Rattle.book.specs.declared.fault.Fault.{Fault}
@@ -16,39 +16,39 @@ use Rattle.book.specs.declared.fault.Fault.TheVariants.{TooMany}
 use Rattle.book.specs.declared.mark.Mark.TheVariants.{Qu}
 use Rattle.book.specs.declared.mark.Phase.TheVariants.{Queries, PageQuery}
 use Rattle.book.specs.declared.mark.Turn.TheVariants.{Mine}
-use Rattle.book.proofs.Laws.Encode.{run-append}
-use Rattle.book.proofs.Laws.Marks.{sole-queries}
-use Rattle.book.proofs.Laws.Sets.{fit-callable}
+use Rattle.book.proofs.Laws.Encode.{run_append}
+use Rattle.book.proofs.Laws.Marks.{sole_queries}
+use Rattle.book.proofs.Laws.Sets.{fit_callable}
 use Rattle.records.specs.declared.field.Found.{Found}
 use Rattle.records.specs.declared.field.Found.TheVariants.{Next, Bad}
 use Rattle.records.specs.Found.{Reads, Arities, means, stops}
 use Rattle.reading.specs.Stored.{ReadsQuery}
-use Rattle.reading.proofs.Laws.Runs.{Going, mine-at, not-mine-at, mark-there, going_start, going-full, going-bad, going_next, going_end}
+use Rattle.reading.proofs.Laws.Runs.{Going, mine_at, not_mine_at, mark_there, going_start, going_full, going_bad, going_next, going_end}
 use Rattle.writing.specs.Wrote.{Wrote}
-use Rattle.writing.proofs.Laws.Wrote.{wrote-nil, wrote-append, wrote_as, wrote-length, wrote-front}
+use Rattle.writing.proofs.Laws.Wrote.{wrote_nil, wrote_append, wrote_as, wrote_length, wrote_front}
 use Rattle.tally.specs.declared.Tally.{Tally}
-use Rattle.tally.specs.Tallied.{tallied, tallyFrom, zeroes}
-use Rattle.tally.proofs.Laws.Tallied.{AtMost, tallied-at-most, tally-append}
-use Rattle.paging.specs.Run.{readRun, faulty, judgedRun, judgeRun}
+use Rattle.tally.specs.Tallied.{tallied, tally_from, zeroes}
+use Rattle.tally.proofs.Laws.Tallied.{AtMost, tallied_at_most, tally_append}
+use Rattle.paging.specs.Run.{read_run, faulty, judged_run, judge_run}
 use Rattle.paging.specs.Page.{answer, accepts, answers}
-use Rattle.paging.proofs.Laws.Run.{query-inv, query-calls}
+use Rattle.paging.proofs.Laws.Run.{query_inv, query_calls_lem}
 use Rattle.page.specs.Lent.{QueryRead, Kept, CameTo, RunAnswered}
 
 -- ---- a query that is read is stored, where there is room
 
-pub query-stored : {ar run : List ℕ} {at : ℕ} {r : Found} {before after : List ℕ} → ReadsQuery PageQuery ar run at r before after → length before ≡ rulesSize → QueryRead ar run at r after
-query-stored w room = record { goals = w.goals; reads = w.reads; stored = λ end n e. ap (λ (c : Clause). c.body) (w.stored end n e room).is }
+pub query_stored : {ar run : List ℕ} {at : ℕ} {r : Found} {before after : List ℕ} → ReadsQuery PageQuery ar run at r before after → length before ≡ rules_size → QueryRead ar run at r after
+query_stored w room = record { goals = w.goals; reads = w.reads; stored = λ end n e. ap (λ (c : Clause). c.body) (w.stored end n e room).is }
 
 -- ---- one more query
 
 module _ (T : Table) (qs : List (List Call)) (q : List Call) where
-  answers-more : answers T qs ++ answer T q ≡ answers T (qs ++ (q ∷ []))
+  answers_more : answers T qs ++ answer T q ≡ answers T (qs ++ (q ∷ []))
   unfolding answers
-  answers-more = ap (λ (l : List ℕ). answers T qs ++ l) (sym (append-nil (answer T q))) ∙ sym (run-append (answer T) qs (q ∷ []))
+  answers_more = ap (λ (l : List ℕ). answers T qs ++ l) (sym (append-nil (answer T q))) ∙ sym (run_append (answer T) qs (q ∷ []))
 
-  tally-more : tallied (tallyFrom zeroes (map (accepts T) qs)) (accepts T q) ≡ tallyFrom zeroes (map (accepts T) (qs ++ (q ∷ [])))
-  unfolding tallyFrom
-  tally-more = sym (ap (tallyFrom zeroes) (map-append (accepts T) qs (q ∷ [])) ∙ tally-append zeroes (map (accepts T) qs) (accepts T q ∷ []))
+  tally_more : tallied (tally_from zeroes (map (accepts T) qs)) (accepts T q) ≡ tally_from zeroes (map (accepts T) (qs ++ (q ∷ [])))
+  unfolding tally_from
+  tally_more = sym (ap (tally_from zeroes) (map-append (accepts T) qs (q ∷ [])) ∙ tally_append zeroes (map (accepts T) qs) (accepts T q ∷ []))
 
 -- ---- the loop
 
@@ -59,20 +59,20 @@ item ar before s = query PageQuery ar s
 -- so far n queries are read, their answers stand at the image's front, and they are counted
 pub record Asking (ar run : List ℕ) (T : Table) (image₀ image : List ℕ) (at n size : ℕ) (t : Tally) : Type 0 where
   pub qs : List (List Call)
-  pub going : Going Queries (item ar) run maxQueries 0 at n qs
+  pub going : Going Queries (item ar) run max_queries 0 at n qs
   pub wrote : Wrote image₀ image 0 size (answers T qs)
   pub short : size ≤ 12 * n
-  pub room : length image₀ ≡ longestPage
-  pub counted : t ≡ tallyFrom zeroes (map (accepts T) qs)
+  pub room : length image₀ ≡ longest_page
+  pub counted : t ≡ tally_from zeroes (map (accepts T) qs)
   pub few : AtMost n t
 
 module _ (ar run : List ℕ) (T : Table) where
-  pub asking-start : (image : List ℕ) → length image ≡ longestPage → Asking ar run T image image 0 0 0 zeroes
-  unfolding answers tallyFrom
-  asking-start image h = record {
+  pub asking_start : (image : List ℕ) → length image ≡ longest_page → Asking ar run T image image 0 0 0 zeroes
+  unfolding answers tally_from
+  asking_start image h = record {
     qs = [];
-    going = going_start Queries (item ar) run maxQueries 0 (omega arith);
-    wrote = wrote-nil image 0;
+    going = going_start Queries (item ar) run max_queries 0 (omega arith);
+    wrote = wrote_nil image 0;
     short = omega arith;
     room = h;
     counted = refl;
@@ -80,60 +80,60 @@ module _ (ar run : List ℕ) (T : Table) where
   }
 
   module _ {image₀ image : List ℕ} {at n size : ℕ} {t : Tally} (l : Asking ar run T image₀ image at n size t) where
-    pub asking-long : length image ≡ longestPage
-    asking-long = wrote-length l.wrote ∙ l.room
+    pub asking_long : length image ≡ longest_page
+    asking_long = wrote_length l.wrote ∙ l.room
 
     -- ---- what the run comes to
 
-    judge-bad : {k : ℕ → List (List Call)} {v : Fault} {p : ℕ} → Reads run (Bad v p) k (many Queries (item ar) maxQueries [] (drop 0 run))
-        → judgeRun ar run ≡ faulty v p
-    unfolding judgeRun readRun
-    judge-bad {v = v} {p = p} w =
+    judge_bad : {k : ℕ → List (List Call)} {v : Fault} {p : ℕ} → Reads run (Bad v p) k (many Queries (item ar) max_queries [] (drop 0 run))
+        → judge_run ar run ≡ faulty v p
+    unfolding judge_run read_run
+    judge_bad {v = v} {p = p} w =
         let i = w.inside in
         let z : length run - (length run - p) ≡ p = omega arith in
-        ap (judgedRun run) (sym w.is) ∙ ap (faulty v) z
+        ap (judged_run run) (sym w.is) ∙ ap (faulty v) z
 
     module _ (mark : leads (spelling Qu) (drop at run) ≡ true) where
-      mine : turn Queries (markAt (drop at run)) ≡ Mine
-      mine = mine-at Queries Qu run at refl mark
+      mine : turn Queries (mark_at (drop at run)) ≡ Mine
+      mine = mine_at Queries Qu run at refl mark
 
-      pub asking-there : at + 2 ≤ length run
-      asking-there = mark-there Queries run at mine
+      pub asking_there : at + 2 ≤ length run
+      asking_there = mark_there Queries run at mine
 
-      pub asking-full : maxQueries ≤ n → (o : List ℕ) (s : ℕ) (u : Tally) → RunAnswered ar run T (Bad TooMany at) o s u
-      asking-full h o s u = record { comes = judge-bad {k = λ j. []} (going-full Queries (item ar) run maxQueries 0 l.going mine h) }
+      pub asking_full : max_queries ≤ n → (o : List ℕ) (s : ℕ) (u : Tally) → RunAnswered ar run T (Bad TooMany at) o s u
+      asking_full h o s u = record { comes = judge_bad {k = λ j. []} (going_full Queries (item ar) run max_queries 0 l.going mine h) }
 
       module _ {g : Found} {rules : List ℕ} (w : QueryRead ar run at g rules) where
-        pub asking-bad : n < maxQueries → {v : Fault} {p : ℕ} → g ≡ Bad v p → (o : List ℕ) (s : ℕ) (u : Tally) → RunAnswered ar run T g o s u
-        asking-bad h e o s u =
-            let x : Reads run g (λ j. []) (many Queries (item ar) maxQueries [] (drop 0 run)) =
-            going-bad Queries (item ar) run maxQueries 0 l.going mine h w.reads {k = λ j. []} e in
+        pub asking_bad : n < max_queries → {v : Fault} {p : ℕ} → g ≡ Bad v p → (o : List ℕ) (s : ℕ) (u : Tally) → RunAnswered ar run T g o s u
+        asking_bad h e o s u =
+            let x : Reads run g (λ j. []) (many Queries (item ar) max_queries [] (drop 0 run)) =
+            going_bad Queries (item ar) run max_queries 0 l.going mine h w.reads {k = λ j. []} e in
             record {
-              comes = rw e (judge-bad {k = λ j. []} (subst (λ (y : Found). Reads run y (λ j. []) (many Queries (item ar) maxQueries [] (drop 0 run))) e x));
+              comes = rw e (judge_bad {k = λ j. []} (subst (λ (y : Found). Reads run y (λ j. []) (many Queries (item ar) max_queries [] (drop 0 run))) e x));
             }
 
         module _ {next m : ℕ} (e : g ≡ Next next m) where
           -- what it calls can be called
-          pub asking-callable : Arities ar → callable (clauseAt rules maxClauses).body ≡ true
-          asking-callable a =
+          pub asking_callable : Arities ar → callable (clause_at rules max_clauses).body ≡ true
+          asking_callable a =
               let d : got w.goals (drop next run) ≡ query PageQuery ar (drop at run) =
               subst (λ (y : Found). means run y (λ j. w.goals) ≡ query PageQuery ar (drop at run)) e w.reads.is in
-              let f = (query-inv ar (drop at run) w.goals (drop next run) mine (sym d)).1 in
-              rw (w.stored next m e) (fit-callable ar a.few w.goals (query-calls ar w.goals f))
+              let f = (query_inv ar (drop at run) w.goals (drop next run) mine (sym d)).1 in
+              rw (w.stored next m e) (fit_callable ar a.few w.goals (query_calls_lem ar w.goals f))
 
-          pub asking-next : n < maxQueries → {after : List ℕ} {size' : ℕ} → Wrote image after size size' (answer T (clauseAt rules maxClauses).body) → size' ≤ size + 12
-              → {b : Bool} → b ≡ accepts T (clauseAt rules maxClauses).body → {u : Tally} → u ≡ tallied t b → Asking ar run T image₀ after next (n + 1) size' u
-          asking-next h v s {b} d {u} c =
+          pub asking_next : n < max_queries → {after : List ℕ} {size' : ℕ} → Wrote image after size size' (answer T (clause_at rules max_clauses).body) → size' ≤ size + 12
+              → {b : Bool} → b ≡ accepts T (clause_at rules max_clauses).body → {u : Tally} → u ≡ tallied t b → Asking ar run T image₀ after next (n + 1) size' u
+          asking_next h v s {b} d {u} c =
               let q = w.goals in
               let is = w.stored next m e in
               record {
                 qs = l.qs ++ (q ∷ []);
-                going = going_next Queries (item ar) run maxQueries 0 l.going mine h w.reads e refl;
-                wrote = wrote_as (answers-more T l.qs q) (wrote-append l.wrote (wrote_as (ap (answer T) is) v));
+                going = going_next Queries (item ar) run max_queries 0 l.going mine h w.reads e refl;
+                wrote = wrote_as (answers_more T l.qs q) (wrote_append l.wrote (wrote_as (ap (answer T) is) v));
                 short = let k = l.short in omega arith;
                 room = l.room;
-                counted = c ∙ ap₂ tallied l.counted (d ∙ ap (accepts T) is) ∙ tally-more T l.qs q;
-                few = subst (AtMost (n + 1)) (sym c) (tallied-at-most t b l.few);
+                counted = c ∙ ap₂ tallied l.counted (d ∙ ap (accepts T) is) ∙ tally_more T l.qs q;
+                few = subst (AtMost (n + 1)) (sym c) (tallied_at_most t b l.few);
               }
 
     kept : Kept T l.qs image size t
@@ -145,15 +145,15 @@ module _ (ar run : List ℕ) (T : Table) where
         let z : size ≡ length (answers T l.qs) = omega arith in
         record {
           long = z;
-          bytes = wrote-front l.wrote (let r : 0 + length (answers T l.qs) ≤ length image₀ = omega arith in r);
+          bytes = wrote_front l.wrote (let r : 0 + length (answers T l.qs) ≤ length image₀ = omega arith in r);
           counted = l.counted;
         }
 
-    pub asking-end : leads (spelling Qu) (drop at run) ≡ false → {r : Found} → Reads run r (λ k. k) (stops Queries 0 (drop at run)) → RunAnswered ar run T r image size t
-    unfolding judgeRun readRun
-    asking-end mark {r} w =
-        record { comes = go r (going_end Queries (item ar) run maxQueries 0 l.going (not-mine-at Queries Qu run at sole-queries mark) w) }
+    pub asking_end : leads (spelling Qu) (drop at run) ≡ false → {r : Found} → Reads run r (λ k. k) (stops Queries 0 (drop at run)) → RunAnswered ar run T r image size t
+    unfolding judge_run read_run
+    asking_end mark {r} w =
+        record { comes = go r (going_end Queries (item ar) run max_queries 0 l.going (not_mine_at Queries Qu run at sole_queries mark) w) }
       where
-        go : (x : Found) → Reads run x (λ j. l.qs) (many Queries (item ar) maxQueries [] (drop 0 run)) → CameTo ar run T x image size t
-        go (Bad v p) y = judge-bad y
-        go (Next p k) y = (l.qs, ap (judgedRun run) (sym y.is), kept)
+        go : (x : Found) → Reads run x (λ j. l.qs) (many Queries (item ar) max_queries [] (drop 0 run)) → CameTo ar run T x image size t
+        go (Bad v p) y = judge_bad y
+        go (Next p k) y = (l.qs, ap (judged_run run) (sym y.is), kept)

@@ -6,22 +6,22 @@ use Prim.Native.Nat.{◌-◌}
 use native.Mathlib.Omega.{arith}
 use lib.ListN.{drop}
 use borrow.Author.Rules.{rules}
-use Rattle.book.specs.Limits.{maxPredicates}
+use Rattle.book.specs.Limits.{max_predicates}
 use Rattle.book.specs.Format.{spelling, leads}
-use Rattle.book.specs.Table.{tableIn}
+use Rattle.book.specs.Table.{table_in}
 use Rattle.book.specs.declared.mark.Mark.TheVariants.{Qu}
-use Rattle.page.proofs.Laws.Asking.{Asking, asking-start, asking-long, asking-there, asking-full, asking-bad, asking-callable, asking-next, asking-end}
+use Rattle.page.proofs.Laws.Asking.{Asking, asking_start, asking_long, asking_there, asking_full, asking_bad, asking_callable, asking_next, asking_end}
 use Rattle.page.proofs.answer_run.Statement.{statement}
 use Rattle.page.proofs.answer_run.Tie as tie
 
 abbrev invariant-loop : tie.invariant-loop
-invariant-loop run ar admits rules₀ bytes₀ tally₀ at₀ n₀ size₀ t16 rules bytes tally at n size = Asking ar run (tableIn admits maxPredicates) bytes₀ bytes at n size tally
+invariant-loop run ar admits rules₀ bytes₀ tally₀ at₀ n₀ size₀ t16 rules bytes tally at n size = Asking ar run (table_in admits max_predicates) bytes₀ bytes at n size tally
 
 abbrev decreases-loop : tie.decreases-loop
 decreases-loop run ar admits rules₀ bytes₀ tally₀ at₀ n₀ size₀ t16 rules bytes tally at n size = 256 - n
 
 loop-holds : tie.Need-loop-init invariant-loop decreases-loop
-loop-holds c = asking-start _ _ _ _ c.bytes.given.0.1
+loop-holds c = asking_start _ _ _ _ c.bytes.given.0.1
 
 is-mark-requires : tie.Need-is-mark-requires invariant-loop decreases-loop
 is-mark-requires c κs = c.before.loop.invariant.going.inside
@@ -34,12 +34,12 @@ mark c = sym c.before.is-mark.ensures ∙ c.if1.true
 returns : tie.Need-returns invariant-loop decreases-loop
 returns c =
     let t = c.before in
-    asking-full _ _ _ t.before.before.before.loop.invariant (mark t) (omega arith) _ _ _
+    asking_full _ _ _ t.before.before.before.loop.invariant (mark t) (omega arith) _ _ _
 
 read-page-query-requires : tie.Need-read-page-query-requires invariant-loop decreases-loop
 read-page-query-requires c κs =
     let t = c.before.before in
-    (asking-there _ _ _ t.before.before.before.loop.invariant (mark t), t.before.before.before.before.before.before.before.requires.0)
+    (asking_there _ _ _ t.before.before.before.loop.invariant (mark t), t.before.before.before.before.before.before.before.requires.0)
 
 enum_told : tie.Need-enum-told invariant-loop decreases-loop
 enum_told c = search rules
@@ -48,7 +48,7 @@ returns-2 : tie.Need-returns-2 invariant-loop decreases-loop
 returns-2 c =
     let r = c.before.before in
     let t = r.before.before.before in
-    asking-bad _ _ _ t.before.before.before.loop.invariant (mark t) r.read-page-query.ensures (omega arith) c.enum_told.given.1 _ _ _
+    asking_bad _ _ _ t.before.before.before.loop.invariant (mark t) r.read-page-query.ensures (omega arith) c.enum_told.given.1 _ _ _
 
 enum-known-found : tie.Need-enum-known-found invariant-loop decreases-loop
 enum-known-found c = search rules
@@ -59,9 +59,9 @@ answer-query-requires c κs =
     let t = r.before.before.before in
     let inv = t.before.before.before.loop.invariant in
     let pre = t.before.before.before.before.before.before.before.requires in
-    let long = asking-long _ _ _ inv in
+    let long = asking_long _ _ _ inv in
     let short = inv.short in
-    (asking-callable _ _ _ inv (mark t) r.read-page-query.ensures c.before.before.before.found.given.1 pre.0, pre.1, omega arith)
+    (asking_callable _ _ _ inv (mark t) r.read-page-query.ensures c.before.before.before.found.given.1 pre.0, pre.1, omega arith)
 
 stepped-requires : tie.Need-stepped-requires invariant-loop decreases-loop
 stepped-requires c κs =
@@ -79,7 +79,7 @@ loop-again c =
     let a = c.before.before.before in
     let r = a.before.before.before.before.before.before in
     let t = r.before.before.before in
-    asking-next _ _ _ t.before.before.before.loop.invariant (mark t) r.read-page-query.ensures a.before.before.before.before.found.given.1 (omega arith)
+    asking_next _ _ _ t.before.before.before.loop.invariant (mark t) r.read-page-query.ensures a.before.before.before.before.found.given.1 (omega arith)
     a.answer-query.ensures.0 a.answer-query.ensures.1.1 a.answer-query.ensures.1.0 c.stepped.ensures
 
 run-end-requires : tie.Need-run-end-requires invariant-loop decreases-loop
@@ -87,7 +87,7 @@ run-end-requires c κs = c.before.before.before.loop.invariant.going.inside
 
 returns-3 : tie.Need-returns-3 invariant-loop decreases-loop
 returns-3 c =
-    asking-end _ _ _ c.before.before.before.before.loop.invariant (sym c.before.before.is-mark.ensures ∙ c.before.if1.false) c.run_end.ensures
+    asking_end _ _ _ c.before.before.before.before.loop.invariant (sym c.before.before.is-mark.ensures ∙ c.before.if1.false) c.run_end.ensures
 
 pub answer-run-spec : {M : Type 1} → statement M
 answer-run-spec =

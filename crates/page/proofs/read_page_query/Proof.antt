@@ -3,13 +3,13 @@
 use mathlib.Core.Path.{refl}
 use native.Mathlib.Omega.{arith}
 use borrow.Author.Rules.{rules}
-use Rattle.book.specs.Format.{markAt}
+use Rattle.book.specs.Format.{mark_at}
 use Rattle.book.specs.declared.mark.Mark.TheVariants.{Qu}
 use Rattle.book.specs.declared.mark.Phase.TheVariants.{PageQuery}
-use Rattle.book.proofs.Laws.Marks.{in-page}
-use Rattle.reading.proofs.Laws.Clauses.{query-bad, query-ended}
+use Rattle.book.proofs.Laws.Marks.{in_page}
+use Rattle.reading.proofs.Laws.Clauses.{query_bad, query_ended}
 use Rattle.reading.proofs.Laws.Runs.{ends_at}
-use Rattle.page.proofs.Laws.Asking.{query-stored}
+use Rattle.page.proofs.Laws.Asking.{query_stored}
 use Rattle.page.proofs.read_page_query.Statement.{statement}
 use Rattle.page.proofs.read_page_query.Tie as tie
 
@@ -28,7 +28,7 @@ enum-known-b : tie.Need-enum-known-b
 enum-known-b c = search rules
 
 ended-requires : tie.Need-ended-requires
-unfolding markAt
+unfolding mark_at
 ended-requires c κs =
     let r = c.before.before.before.before in
     (rw c.before.before.b.given.1 at r.read-body.ensures.inside, ends_at PageQuery _ _ Qu (λ t. refl) refl)
@@ -36,12 +36,12 @@ ended-requires c κs =
 returns : tie.Need-returns
 returns c =
     let r = c.before.before in
-    query-stored (query-bad PageQuery in-page _ _ _ r.read-body.ensures c.enum_told.given.1) r.before.words.given.0.1
+    query_stored (query_bad PageQuery in_page _ _ _ r.read-body.ensures c.enum_told.given.1) r.before.words.given.0.1
 
 returns-2 : tie.Need-returns-2
 returns-2 c =
     let r = c.before.before.before.before.before in
-    query-stored (query-ended PageQuery in-page _ _ _ r.read-body.ensures c.before.before.before.b.given.1 c.ended.ensures) r.before.words.given.0.1
+    query_stored (query_ended PageQuery in_page _ _ _ r.read-body.ensures c.before.before.before.b.given.1 c.ended.ensures) r.before.words.given.0.1
 
 pub read-page-query-spec : {M : Type 1} → statement M
 read-page-query-spec =

@@ -6,20 +6,20 @@ use Prim.Native.Nat.{ℕ, ◌^◌, ◌<◌}
 use lib.Bits.{bit_or}
 use lib.Dec.{eqb}
 use lib.ListN.{length, get_or, set}
-use Rattle.book.specs.Limits.{maxPredicates}
+use Rattle.book.specs.Limits.{max_predicates}
 use Rattle.book.specs.Book.{Head}
-use Rattle.book.specs.Held.{headIn, clauseAt}
-use Rattle.book.specs.Table.{tableIn}
-use Rattle.ordering.specs.Adorn.{Bound, headBound}
+use Rattle.book.specs.Held.{head_in, clause_at}
+use Rattle.book.specs.Table.{table_in}
+use Rattle.ordering.specs.Adorn.{Bound, head_bound}
 use Rattle.ordering.specs.Asks.{Asked, called}
 use Rattle.ordering.specs.declared.Order.{Order}
-use Rattle.reach.specs.Marked.{markedAt, Marked, Found}
+use Rattle.reach.specs.Marked.{marked_at, Marked, Found}
 use Rattle.masks.proofs.Laws.Lists.{any_append}
-use Rattle.masks.proofs.Laws.Set.{bitAt-zero, bitAt-or, bitAt-power, eqb_comm}
+use Rattle.masks.proofs.Laws.Set.{bit_at_zero, bit_at_or, bit_at_power, eqb_comm}
 use Rattle.book.proofs.Laws.Sets.{stored_more}
 
-pub marked-nil : (words : List ℕ) → Marked words words 0 []
-marked-nil words = record { marks = λ q b. sym (or-false (markedAt words q b)); names· = bitAt-zero }
+pub marked_nil : (words : List ℕ) → Marked words words 0 []
+marked_nil words = record { marks = λ q b. sym (or-false (marked_at words q b)); names· = bit_at_zero }
 
 pub marked_append : {before between after : List ℕ} {n m : ℕ} {xs ys : List Asked} → Marked before between n xs → Marked between after m ys
     → Marked before after (bit_or n m) (xs ++ ys)
@@ -27,28 +27,28 @@ marked_append {before} {n = n} {m} {xs} {ys} f g = record {
   marks = λ q b.
       g.marks q b
       ∙ ap (λ (x : Bool). x || called q b ys) (f.marks q b)
-      ∙ or_assoc (markedAt before q b) (called q b xs) (called q b ys)
-      ∙ ap (λ (x : Bool). markedAt before q b || x) (sym (any_append (λ (x : Asked). eqb x.pred q && eqb x.pattern b) xs ys));
+      ∙ or_assoc (marked_at before q b) (called q b xs) (called q b ys)
+      ∙ ap (λ (x : Bool). marked_at before q b || x) (sym (any_append (λ (x : Asked). eqb x.pred q && eqb x.pattern b) xs ys));
   names· = λ q.
-      bitAt-or n m q
+      bit_at_or n m q
       ∙ ap₂ (λ (x y : Bool). x || y) (f.names· q) (g.names· q)
       ∙ sym (any_append (λ (x : Asked). eqb x.pred q) xs ys);
 }
 
 -- pattern a of predicate p
-pub marked-one : (words : List ℕ) (p a : ℕ) → p < length words
+pub marked_one : (words : List ℕ) (p a : ℕ) → p < length words
     → Marked words (set words p (bit_or (get_or words p 0) (2 ^ a))) (2 ^ p) (record { pred = p; pattern = a } ∷ [])
-marked-one words p a h = record {
+marked_one words p a h = record {
   marks = λ q b.
       stored_more words p a h q b
-      ∙ ap (λ (x : Bool). markedAt words q b || (x && eqb a b)) (eqb_comm q p)
-      ∙ ap (λ (x : Bool). markedAt words q b || x) (sym (or-false (eqb p q && eqb a b)));
-  names· = λ q. bitAt-power p q ∙ eqb_comm q p ∙ sym (or-false (eqb p q));
+      ∙ ap (λ (x : Bool). marked_at words q b || (x && eqb a b)) (eqb_comm q p)
+      ∙ ap (λ (x : Bool). marked_at words q b || x) (sym (or-false (eqb p q && eqb a b)));
+  names· = λ q. bit_at_power p q ∙ eqb_comm q p ∙ sym (or-false (eqb p q));
 }
 
 -- the calls of a clause, by its head as it was read and what that binds
-pub found-clause : (rules table : List ℕ) (k a head : ℕ) {b : Bound} {o : Order} → headIn head ≡ (clauseAt rules k).head → b ≡ headBound (headIn head).args a
-    → Found (tableIn table maxPredicates) (clauseAt rules k).body b o
-    → Found (tableIn table maxPredicates) (clauseAt rules k).body (headBound (clauseAt rules k).head.args a) o
-found-clause rules table k a head {o = o} e f =
-    subst (λ (c : Bound). Found (tableIn table maxPredicates) (clauseAt rules k).body c o) (f ∙ ap (λ (c : Head). headBound c.args a) e)
+pub found_clause : (rules table : List ℕ) (k a head : ℕ) {b : Bound} {o : Order} → head_in head ≡ (clause_at rules k).head → b ≡ head_bound (head_in head).args a
+    → Found (table_in table max_predicates) (clause_at rules k).body b o
+    → Found (table_in table max_predicates) (clause_at rules k).body (head_bound (clause_at rules k).head.args a) o
+found_clause rules table k a head {o = o} e f =
+    subst (λ (c : Bound). Found (table_in table max_predicates) (clause_at rules k).body c o) (f ∙ ap (λ (c : Head). head_bound c.args a) e)

@@ -6,13 +6,13 @@ use mathlib.Core.List.{List, [], append-nil}
 use Prim.Native.Nat.{ℕ, suc, ◌-◌, ◌^◌, ◌<◌}
 use lib.Bits.{bit_and, bit_or}
 use lib.Count.{count_trailing_zeros}
-use Rattle.masks.specs.Limits.{allPatterns}
+use Rattle.masks.specs.Limits.{all_patterns}
 use Rattle.masks.specs.Lists.{joined}
 use Rattle.masks.specs.Set.{bit_at}
 use Rattle.ordering.specs.Asks.{Asked}
 use Rattle.reach.specs.Marked.{Marked}
-use Rattle.masks.proofs.Laws.Members.{Over, over-start, over-end, over-lowest, over-member, over-here, over-next}
-use Rattle.reach.proofs.Laws.Marked.{marked-nil, marked_append}
+use Rattle.masks.proofs.Laws.Members.{Over, over_start, over_end, over_lowest, over_member, over_here, over_next}
+use Rattle.reach.proofs.Laws.Marked.{marked_nil, marked_append}
 
 module _ (f : ℕ → List Asked) (set : ℕ) (before : List ℕ) where
   -- those below n
@@ -20,30 +20,30 @@ module _ (f : ℕ → List Asked) (set : ℕ) (before : List ℕ) where
   Passed words names n = Marked before words names (joined (λ k. cond (bit_at set k) (f k) []) n)
 
   abbrev pub Passing : List ℕ → ℕ → ℕ → Type 0
-  Passing words names rest = Over (Passed words names) allPatterns set rest
+  Passing words names rest = Over (Passed words names) all_patterns set rest
 
-  pub passing-start : set < 2 ^ allPatterns → Passing before 0 set
-  passing-start l = over-start (Passed before 0) allPatterns set l (marked-nil before)
+  pub passing_start : set < 2 ^ all_patterns → Passing before 0 set
+  passing_start l = over_start (Passed before 0) all_patterns set l (marked_nil before)
 
   module _ (words : List ℕ) (names rest : ℕ) (g : Passing words names rest) where
     absent : (k : ℕ) → bit_at set k ≡ false → Passed words names k → Passed words names (suc k)
     absent k t p = rw (t, append-nil (joined (λ k. cond (bit_at set k) (f k) []) k)) p
 
-    pub passing-end : rest ≡ 0 → Marked before words names (joined (λ k. cond (bit_at set k) (f k) []) allPatterns)
-    passing-end z = over-end (Passed words names) allPatterns set rest absent g z
+    pub passing_end : rest ≡ 0 → Marked before words names (joined (λ k. cond (bit_at set k) (f k) []) all_patterns)
+    passing_end z = over_end (Passed words names) all_patterns set rest absent g z
 
     module _ (z : rest ≡ 0 → ⊥) where
       abbrev k : ℕ
-      k = count_trailing_zeros allPatterns rest
+      k = count_trailing_zeros all_patterns rest
 
-      pub passing-low : k < allPatterns
-      passing-low = (over-lowest (Passed words names) allPatterns set rest absent g z).small
+      pub passing_low : k < all_patterns
+      passing_low = (over_lowest (Passed words names) all_patterns set rest absent g z).small
 
-      pub passing-member : bit_at set k ≡ true
-      passing-member = over-member (Passed words names) allPatterns set rest absent g z
+      pub passing_member : bit_at set k ≡ true
+      passing_member = over_member (Passed words names) all_patterns set rest absent g z
 
-      pub passing-next : {after : List ℕ} {more : ℕ} → Marked words after more (f k) → Passing after (bit_or names more) (bit_and rest (rest - 1))
-      passing-next {after} {more} m =
+      pub passing_next : {after : List ℕ} {more : ℕ} → Marked words after more (f k) → Passing after (bit_or names more) (bit_and rest (rest - 1))
+      passing_next {after} {more} m =
           let P = Passed words names in
-          over-next P allPatterns set rest absent g z (Passed after (bit_or names more))
-          (rw passing-member (marked_append (over-here P allPatterns set rest absent g z) m))
+          over_next P all_patterns set rest absent g z (Passed after (bit_or names more))
+          (rw passing_member (marked_append (over_here P all_patterns set rest absent g z) m))

@@ -3,15 +3,15 @@ use Prim.Native.Nat.{◌-◌, ◌<◌}
 use native.Mathlib.Omega.{arith}
 use lib.ListN.{length, get_or}
 use borrow.Author.Rules.{rules}
-use Rattle.book.specs.Held.{clauseAt}
-use Rattle.ordering.proofs.Laws.Run.{pred-read}
-use Rattle.ordering.proofs.Laws.Patterns.{order_below, pattern-low}
-use Rattle.reach.proofs.Laws.Marking.{Marking, marking-start, marking-next, marking-end}
+use Rattle.book.specs.Held.{clause_at}
+use Rattle.ordering.proofs.Laws.Run.{pred_read}
+use Rattle.ordering.proofs.Laws.Patterns.{order_below, pattern_low}
+use Rattle.reach.proofs.Laws.Marking.{Marking, marking_start, marking_next, marking_end}
 use Rattle.reach.proofs.mark_calls.Statement.{statement}
 use Rattle.reach.proofs.mark_calls.Tie as tie
 
 abbrev invariant-loop : tie.invariant-loop
-invariant-loop rules k o words₀ n names₀ i₀ words names i = Marking (clauseAt rules k).body o.places o.patterns words₀ n i words names
+invariant-loop rules k o words₀ n names₀ i₀ words names i = Marking (clause_at rules k).body o.places o.patterns words₀ n i words names
 
 abbrev decreases-loop : tie.decreases-loop
 decreases-loop rules k o words₀ n names₀ i₀ words names i = n - i
@@ -20,17 +20,17 @@ order-length-requires : tie.Need-order-length-requires invariant-loop decreases-
 order-length-requires c κs = search rules
 
 loop-holds : tie.Need-loop-init invariant-loop decreases-loop
-loop-holds c = marking-start c.before.words.given.0.1
+loop-holds c = marking_start c.before.words.given.0.1
 
 -- in a turn: the next place is that of a subgoal
 place : (c : tie.In-loop invariant-loop decreases-loop)
     → let s = c.before.before.before.before.args in
-    get_or s.t3.places c.before.loop.i 0 < length (clauseAt s.rules.now s.k).body
+    get_or s.t3.places c.before.loop.i 0 < length (clause_at s.rules.now s.k).body
 place c =
     let s = c.before.before.before.before in
     let f = s.requires.2 in
     let n = c.before.before.order-length.ensures.0 in
-    order_below f.0 (clauseAt s.args.rules.now s.args.k).body f.1 s.args.t3 f.2.first c.before.loop.i (omega arith)
+    order_below f.0 (clause_at s.args.rules.now s.args.k).body f.1 s.args.t3 f.2.first c.before.loop.i (omega arith)
 
 element-copy-out-subgoal-at : tie.Need-element-copy-out-subgoal-at invariant-loop decreases-loop
 element-copy-out-subgoal-at c = search rules
@@ -49,7 +49,7 @@ low : (c : tie.After-predicate invariant-loop decreases-loop) → c.predicate.re
 low c =
     let s = c.before.before.before.before.before.before.before in
     let e = c.predicate.ensures in
-    let l = pred-read (clauseAt s.args.rules.now s.args.k).body _ c.before.subgoal-at.ensures s.requires.1 (place c.before.before.before) in
+    let l = pred_read (clause_at s.args.rules.now s.args.k).body _ c.before.subgoal_at_lem.ensures s.requires.1 (place c.before.before.before) in
     omega arith
 
 cast-q : tie.Need-overflow-cast-q invariant-loop decreases-loop
@@ -71,8 +71,8 @@ with-member-requires c κs =
     let f = s.requires.2 in
     let n = d.before.before.before.before.order-length.ensures.0 in
     let l =
-    pattern-low f.0 (clauseAt s.args.rules.now s.args.k).body f.1 s.args.t3 f.2.first f.2.beside
-    d.before.before.before.loop.i (omega arith) d.subgoal-at.result d.subgoal-at.ensures in
+    pattern_low f.0 (clause_at s.args.rules.now s.args.k).body f.1 s.args.t3 f.2.first f.2.beside
+    d.before.before.before.loop.i (omega arith) d.subgoal_at_lem.result d.subgoal_at_lem.ensures in
     omega arith
 
 mul_words : tie.Need-overflow-mul-words invariant-loop decreases-loop
@@ -88,13 +88,13 @@ loop-again : tie.Need-loop-preserved invariant-loop decreases-loop
 loop-again c =
     let d = c.before.before.before.before in
     let s = d.before in
-    marking-next s.subgoal-at.result s.before.before.before.loop.invariant (omega arith) s.subgoal-at.ensures d.predicate.ensures (low d) c.before.with-member.ensures c.with-member2.ensures
+    marking_next s.subgoal_at_lem.result s.before.before.before.loop.invariant (omega arith) s.subgoal_at_lem.ensures d.predicate.ensures (low d) c.before.with-member.ensures c.with-member2.ensures
 
 returns : tie.Need-returns invariant-loop decreases-loop
 returns c =
     let s = c.before.before.before.before.args in
     let n = c.before.before.order-length.ensures.0 in (
-      λ T b found. marking-end T (clauseAt s.rules.now s.k).body b s.t3 found c.before.loop.invariant n (omega arith),
+      λ T b found. marking_end T (clause_at s.rules.now s.k).body b s.t3 found c.before.loop.invariant n (omega arith),
       c.before.before.before.words.given.0.1,
     )
 

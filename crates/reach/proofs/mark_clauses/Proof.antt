@@ -7,38 +7,38 @@ use Prim.Native.Nat.{ℕ, ◌<◌}
 use native.Mathlib.Omega.{arith}
 use lib.Count.{count_trailing_zeros}
 use borrow.Author.Rules.{rules}
-use Rattle.book.specs.Limits.{maxPredicates}
-use Rattle.book.specs.Held.{clauseAt}
-use Rattle.book.specs.Table.{tableIn}
+use Rattle.book.specs.Limits.{max_predicates}
+use Rattle.book.specs.Held.{clause_at}
+use Rattle.book.specs.Table.{table_in}
 use Rattle.book.specs.Sets.{callable}
-use Rattle.ordering.specs.Adorn.{headBound}
+use Rattle.ordering.specs.Adorn.{head_bound}
 use Rattle.ordering.specs.Asks.{Asked}
-use Rattle.reach.specs.Marked.{Found, clauseBy, clausesBy}
-use Rattle.masks.proofs.Laws.Members.{others-less}
-use Rattle.reach.proofs.Laws.Marked.{found-clause}
-use Rattle.reach.proofs.Laws.Passing.{Passing, passing-start, passing-low, passing-member, passing-next, passing-end}
+use Rattle.reach.specs.Marked.{Found, clause_by, clauses_by}
+use Rattle.masks.proofs.Laws.Members.{others_less}
+use Rattle.reach.proofs.Laws.Marked.{found_clause}
+use Rattle.reach.proofs.Laws.Passing.{Passing, passing_start, passing_low, passing_member, passing_next, passing_end}
 use Rattle.reach.proofs.mark_clauses.Statement.{statement}
 use Rattle.reach.proofs.mark_clauses.Tie as tie
 
 abbrev invariant-loop : tie.invariant-loop
-invariant-loop rules own a table reached₀ names₀ rest₀ reached names rest = Passing (λ k. clauseBy rules table k a) own reached₀ reached names rest
+invariant-loop rules own a table reached₀ names₀ rest₀ reached names rest = Passing (λ k. clause_by rules table k a) own reached₀ reached names rest
 
 abbrev decreases-loop : tie.decreases-loop
 decreases-loop rules own a table reached₀ names₀ rest₀ reached names rest = rest
 
 loop-holds : tie.Need-loop-init invariant-loop decreases-loop
-loop-holds c = passing-start (λ k. clauseBy c.args.rules.now c.args.table.now k c.args.a) c.args.own c.args.reached.now (search rules)
+loop-holds c = passing_start (λ k. clause_by c.args.rules.now c.args.table.now k c.args.a) c.args.own c.args.reached.now (search rules)
 
 -- in a turn: k is the lowest clause of those left
 module _ (c : tie.In-loop invariant-loop decreases-loop) where
   abbrev calls : ℕ → List Asked
-  calls k = clauseBy c.before.before.args.rules.now c.before.before.args.table.now k c.before.before.args.a
+  calls k = clause_by c.before.before.args.rules.now c.before.before.args.table.now k c.before.before.args.a
 
   low : count_trailing_zeros 64 c.before.loop.rest < 64
   low =
       let s = c.before.before.args in
       let l = c.before.loop in
-      passing-low calls s.own s.reached.now l.reached l.names l.rest l.invariant c.loop-test.true
+      passing_low calls s.own s.reached.now l.reached l.names l.rest l.invariant c.loop-test.true
 
 cast-k : tie.Need-overflow-cast-k invariant-loop decreases-loop
 cast-k c = let l = low c in omega arith
@@ -50,11 +50,11 @@ head-bound-requires : tie.Need-head-bound-requires invariant-loop decreases-loop
 head-bound-requires c κs = search rules
 
 -- its subgoals can be called
-known : (c : tie.In-loop invariant-loop decreases-loop) → callable (clauseAt c.before.before.args.rules.now (count_trailing_zeros 64 c.before.loop.rest)).body ≡ true
+known : (c : tie.In-loop invariant-loop decreases-loop) → callable (clause_at c.before.before.args.rules.now (count_trailing_zeros 64 c.before.loop.rest)).body ≡ true
 known c =
     let s = c.before.before in
     let l = c.before.loop in
-    s.requires.0 _ (low c) (passing-member (calls c) s.args.own s.args.reached.now l.reached l.names l.rest l.invariant c.loop-test.true)
+    s.requires.0 _ (low c) (passing_member (calls c) s.args.own s.args.reached.now l.reached l.names l.rest l.invariant c.loop-test.true)
 
 first-order-requires : tie.Need-first-order-requires invariant-loop decreases-loop
 first-order-requires c κs = let d = c.before.before in let h = low d in (omega arith, known d, d.before.before.requires.1)
@@ -64,33 +64,33 @@ found : (c : tie.After-first-order invariant-loop decreases-loop)
     → let d = c.before.before.before in
     let s = d.before.before.args in
     let k = count_trailing_zeros 64 d.before.loop.rest in
-    Found (tableIn s.table.now maxPredicates) (clauseAt s.rules.now k).body (headBound (clauseAt s.rules.now k).head.args s.a) c.first-order.result
+    Found (table_in s.table.now max_predicates) (clause_at s.rules.now k).body (head_bound (clause_at s.rules.now k).head.args s.a) c.first_order_lem.result
 found c =
     let d = c.before.before.before in
     let s = d.before.before.args in
-    found-clause s.rules.now s.table.now (count_trailing_zeros 64 d.before.loop.rest) s.a c.before.before.head_at.result c.before.before.head_at.ensures
-    c.before.head-bound.ensures (record { first = c.first-order.ensures.0; beside = c.first-order.ensures.1 })
+    found_clause s.rules.now s.table.now (count_trailing_zeros 64 d.before.loop.rest) s.a c.before.before.head_at.result c.before.before.head_at.ensures
+    c.before.head-bound.ensures (record { first = c.first_order_lem.ensures.0; beside = c.first_order_lem.ensures.1 })
 
 mark-calls-requires : tie.Need-mark-calls-requires invariant-loop decreases-loop
 mark-calls-requires c κs = let d = c.before.before.before.before in let h = low d in (omega arith, known d, (_, _, found c.before))
 
 loop-less : tie.Need-loop-smaller invariant-loop decreases-loop
-loop-less c = others-less c.before.before.before.before.before.before.loop.rest c.before.before.before.before.before.loop-test.true
+loop-less c = others_less c.before.before.before.before.before.before.loop.rest c.before.before.before.before.before.loop-test.true
 
 loop-again : tie.Need-loop-preserved invariant-loop decreases-loop
 loop-again c =
     let d = c.before.before.before.before.before in
     let s = d.before.before.args in
     let l = d.before.loop in
-    passing-next (calls d) s.own s.reached.now l.reached l.names l.rest l.invariant d.loop-test.true
+    passing_next (calls d) s.own s.reached.now l.reached l.names l.rest l.invariant d.loop-test.true
     (c.mark-calls.ensures.0 _ _ (found c.before.before))
 
 returns : tie.Need-returns invariant-loop decreases-loop
-unfolding clausesBy
+unfolding clauses_by
 returns c =
     let s = c.before.before.args in
     let l = c.before.loop in
-    passing-end (λ k. clauseBy s.rules.now s.table.now k s.a) s.own s.reached.now l.reached l.names l.rest l.invariant c.loop-test.false
+    passing_end (λ k. clause_by s.rules.now s.table.now k s.a) s.own s.reached.now l.reached l.names l.rest l.invariant c.loop-test.false
 
 pub mark-clauses-spec : {M : Type 1} → statement M
 mark-clauses-spec =

@@ -6,7 +6,7 @@ use native.Mathlib.Omega.{arith}
 use lib.Count.{count_trailing_zeros}
 use borrow.Author.Rules.{rules}
 use Rattle.reach.proofs.Laws.Space.{space}
-use Rattle.reach.proofs.Laws.Working.{own-callable, Working, working-start, Step, working-low, working-next, working-less, working-end}
+use Rattle.reach.proofs.Laws.Working.{own_callable, Working, working_start, Step, working_low, working_next, working_less, working_end}
 use Rattle.reach.proofs.reach.Statement.{statement}
 use Rattle.reach.proofs.reach.Tie as tie
 
@@ -22,11 +22,11 @@ mark-calls-requires c κs = (omega arith, c.before.requires.0.2, (_, _, c.before
 loop-holds : tie.Need-loop-init invariant-loop decreases-loop
 loop-holds c =
     let s = c.before.before in
-    working-start (search rules) c.mark-calls.ensures.1 s.requires.1.2 (c.mark-calls.ensures.0 _ _ s.requires.1.1)
+    working_start (search rules) c.mark-calls.ensures.1 s.requires.1.2 (c.mark-calls.ensures.0 _ _ s.requires.1.1)
 
 -- in a turn: p is the lowest predicate that has work
 low : (c : tie.In-loop invariant-loop decreases-loop) → count_trailing_zeros 64 c.before.loop.work < 64
-low c = working-low c.before.loop.invariant c.loop-test.true
+low c = working_low c.before.loop.invariant c.loop-test.true
 
 cast-p : tie.Need-overflow-cast-p invariant-loop decreases-loop
 cast-p c = let l = low c in omega arith
@@ -57,7 +57,7 @@ mark-patterns-requires c κs =
     let d = c.before.before.before.before in
     let s = d.before.before.before.before in
     let l = low d in
-    (own-callable s.args.rules.now s.args.clauses s.args.own.now s.requires.0.3 _ (omega arith) s.requires.0.1, s.requires.1.0)
+    (own_callable s.args.rules.now s.args.clauses s.args.own.now s.requires.0.3 _ (omega arith) s.requires.0.1, s.requires.1.0)
 
 -- what the turn makes of the marks
 turn : (c : tie.After-mark-patterns invariant-loop decreases-loop)
@@ -77,13 +77,13 @@ turn c =
     }
 
 loop-less : tie.Need-loop-smaller invariant-loop decreases-loop
-loop-less c = let d = c.before.before.before.before.before in working-less d.before.loop.invariant d.loop-test.true (turn c)
+loop-less c = let d = c.before.before.before.before.before in working_less d.before.loop.invariant d.loop-test.true (turn c)
 
 loop-again : tie.Need-loop-preserved invariant-loop decreases-loop
-loop-again c = let d = c.before.before.before.before.before in working-next d.before.loop.invariant d.loop-test.true (turn c)
+loop-again c = let d = c.before.before.before.before.before in working_next d.before.loop.invariant d.loop-test.true (turn c)
 
 returns : tie.Need-returns invariant-loop decreases-loop
-returns c = working-end c.before.loop.invariant c.loop-test.false
+returns c = working_end c.before.loop.invariant c.loop-test.false
 
 pub reach-spec : {M : Type 1} → statement M
 reach-spec =

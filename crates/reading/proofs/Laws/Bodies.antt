@@ -9,12 +9,12 @@ use native.Mathlib.Omega.{arith}
 use lib.ListN.{length, get_or, drop, set, length-set, length-map, get_or-map}
 use lib.Seq.{sets, length-sets, get_or-set_same, get_or-set_other, ext_get_or}
 use Rattle.masks.specs.Lists.{values}
-use Rattle.masks.proofs.Laws.Logic.{byRange, clash, false_of, or_left, or_right, or_case}
-use Rattle.masks.proofs.Laws.Lists.{length-values, values-cong, getD-values}
-use Rattle.book.specs.Limits.{maxClauses, maxSubgoals}
+use Rattle.masks.proofs.Laws.Logic.{by_range, clash, false_of, or_left, or_right, or_case}
+use Rattle.masks.proofs.Laws.Lists.{length_values, values_cong, get_or_values}
+use Rattle.book.specs.Limits.{max_clauses, max_subgoals}
 use Rattle.book.specs.Book.{Head, Call}
-use Rattle.book.specs.Format.{spelling, leads, turn, Bodied, markAt, many, subgoal}
-use Rattle.book.specs.Held.{headIn, call_in, clauseSize, rulesSize, clauseAt, StoredClause}
+use Rattle.book.specs.Format.{spelling, leads, turn, Bodied, mark_at, many, subgoal}
+use Rattle.book.specs.Held.{head_in, call_in, clause_size, rules_size, clause_at, StoredClause}
 use Rattle.book.specs.declared.fault.Fault.{Fault}
 use Rattle.book.specs.declared.fault.Fault.TheVariants.{TooMany}
 use Rattle.book.specs.declared.mark.Mark.{Mark}
@@ -25,22 +25,22 @@ use Rattle.book.specs.declared.mark.Turn.TheVariants.{Mine}
 use Rattle.book.proofs.Laws.Marks.{in_body, unled}
 use Rattle.records.specs.declared.field.Found.{Found}
 use Rattle.records.specs.declared.field.Found.TheVariants.{Next, Bad}
-use Rattle.records.specs.Found.{means, Reads, stops, leadsSubgoal}
-use Rattle.records.proofs.Laws.Reads.{bad-next}
+use Rattle.records.specs.Found.{means, Reads, stops, leads_subgoal}
+use Rattle.records.proofs.Laws.Reads.{bad_next}
 use Rattle.records.proofs.Laws.Stores.{sets_last}
 use Rattle.reading.specs.Stored.{onward, ReadsBody}
-use Rattle.reading.proofs.Laws.Runs.{Going, mine-at, mark-there, stops-reads, going_start, going-full, going-bad, going_next, going-stops}
+use Rattle.reading.proofs.Laws.Runs.{Going, mine_at, mark_there, stops_reads, going_start, going_full, going_bad, going_next, going_stops}
 
 -- ---- a run of subgoals
 
 -- a mark of either kind leads the bytes at a place, or none does
 module _ (p : Phase) (b : Bodied p) (s : List ℕ) (at : ℕ) where
-  subgoal-at : leadsSubgoal (drop at s) ≡ true → turn p (markAt (drop at s)) ≡ Mine
-  subgoal-at t =
-      or_case (leads (spelling Sg) (drop at s)) (leads (spelling Ng) (drop at s)) t (mine-at p Sg s at b.positive) (mine-at p Ng s at b.negated)
+  subgoal_at_lem : leads_subgoal (drop at s) ≡ true → turn p (mark_at (drop at s)) ≡ Mine
+  subgoal_at_lem t =
+      or_case (leads (spelling Sg) (drop at s)) (leads (spelling Ng) (drop at s)) t (mine_at p Sg s at b.positive) (mine_at p Ng s at b.negated)
 
-  no-subgoal-at : leadsSubgoal (drop at s) ≡ false → turn p (markAt (drop at s)) ≡ Mine → ⊥
-  no-subgoal-at t =
+  no_subgoal_at : leads_subgoal (drop at s) ≡ false → turn p (mark_at (drop at s)) ≡ Mine → ⊥
+  no_subgoal_at t =
       let led : Mark → Bool = λ (j : Mark). leads (spelling j) (drop at s) in
       unled p (drop at s)
       (λ m e.
@@ -51,156 +51,156 @@ module _ (p : Phase) (b : Bodied p) (s : List ℕ) (at : ℕ) where
 -- so far the n words were read, and are stored
 pub record Bodying (ar s : List ℕ) (from at n base : ℕ) (before now : List ℕ) : Type 0 where
   pub words : List ℕ
-  pub going : (p : Phase) → Bodied p → Going p (subgoal ar) s maxSubgoals from at n (map call_in words)
+  pub going : (p : Phase) → Bodied p → Going p (subgoal ar) s max_subgoals from at n (map call_in words)
   pub stored : now ≡ sets before (base + 2) words
 
 module _ (ar s : List ℕ) (from k : ℕ) (before : List ℕ) where
-  pub bodying-start : from ≤ length s → Bodying ar s from from 0 (k * clauseSize) before before
-  bodying-start h = record { words = []; going = λ p b. going_start p (subgoal ar) s maxSubgoals from h; stored = refl }
+  pub bodying_start : from ≤ length s → Bodying ar s from from 0 (k * clause_size) before before
+  bodying_start h = record { words = []; going = λ p b. going_start p (subgoal ar) s max_subgoals from h; stored = refl }
 
-  module _ {at n : ℕ} {now : List ℕ} (l : Bodying ar s from at n (k * clauseSize) before now) where
-    pub bodying-inside : at ≤ length s
-    bodying-inside = (l.going Body in_body).inside
+  module _ {at n : ℕ} {now : List ℕ} (l : Bodying ar s from at n (k * clause_size) before now) where
+    pub bodying_inside : at ≤ length s
+    bodying_inside = (l.going Body in_body).inside
 
-    pub bodying-few : n ≤ maxSubgoals
-    bodying-few = (l.going Body in_body).turns
+    pub bodying_few : n ≤ max_subgoals
+    bodying_few = (l.going Body in_body).turns
 
     count : length l.words ≡ n
     count = sym (length-map l.words call_in) ∙ (l.going Body in_body).size
 
-    pub bodying-size : length now ≡ length before
-    bodying-size = ap length l.stored ∙ length-sets before (k * clauseSize + 2) l.words
+    pub bodying_size : length now ≡ length before
+    bodying_size = ap length l.stored ∙ length-sets before (k * clause_size + 2) l.words
 
     -- a fault, of the run or of a subgoal
     faulty : {g : Found} {v : Fault} {q : ℕ} → g ≡ Bad v q
-        → ((p : Phase) → Bodied p → Reads s g (λ j. map call_in l.words) (many p (subgoal ar) maxSubgoals [] (drop from s)))
+        → ((p : Phase) → Bodied p → Reads s g (λ j. map call_in l.words) (many p (subgoal ar) max_subgoals [] (drop from s)))
         → ReadsBody ar s from k g before now
     faulty {g} {v} {q} e w =
         record {
           words = l.words;
-          few = let c = count in let t = bodying-few in omega arith;
+          few = let c = count in let t = bodying_few in omega arith;
           inside = (w Body in_body).inside;
           reads = λ p b. same g e p ∙ (w p b).is;
-          stored = λ a m d. bad-next e d;
+          stored = λ a m d. bad_next e d;
         }
       where
         same : (h : Found) → h ≡ Bad v q → (p : Phase) → onward p s h (map call_in l.words) ≡ means s h (λ j. map call_in l.words)
-        same (Next a m) d p = bad-next d refl
+        same (Next a m) d p = bad_next d refl
         same (Bad u a) d p = refl
 
-    module _ (t : leadsSubgoal (drop at s) ≡ true) where
-      pub bodying-there : at + 2 ≤ length s
-      bodying-there = mark-there Body s at (subgoal-at Body in_body s at t)
+    module _ (t : leads_subgoal (drop at s) ≡ true) where
+      pub bodying_there : at + 2 ≤ length s
+      bodying_there = mark_there Body s at (subgoal_at_lem Body in_body s at t)
 
-      pub bodying-full : maxSubgoals ≤ n → ReadsBody ar s from k (Bad TooMany at) before now
-      bodying-full h = faulty refl (λ p b. going-full p (subgoal ar) s maxSubgoals from (l.going p b) (subgoal-at p b s at t) h)
+      pub bodying_full : max_subgoals ≤ n → ReadsBody ar s from k (Bad TooMany at) before now
+      bodying_full h = faulty refl (λ p b. going_full p (subgoal ar) s max_subgoals from (l.going p b) (subgoal_at_lem p b s at t) h)
 
-      module _ (h : n < maxSubgoals) (w : ℕ) {g : Found} (r : Reads s g (λ j. call_in w) (subgoal ar [] (drop at s))) where
-        pub bodying-bad : {v : Fault} {q : ℕ} → g ≡ Bad v q → ReadsBody ar s from k g before now
+      module _ (h : n < max_subgoals) (w : ℕ) {g : Found} (r : Reads s g (λ j. call_in w) (subgoal ar [] (drop at s))) where
+        pub bodying_bad : {v : Fault} {q : ℕ} → g ≡ Bad v q → ReadsBody ar s from k g before now
         unfolding subgoal
-        bodying-bad e = faulty e (λ p b. going-bad p (subgoal ar) s maxSubgoals from (l.going p b) (subgoal-at p b s at t) h r e)
+        bodying_bad e = faulty e (λ p b. going_bad p (subgoal ar) s max_subgoals from (l.going p b) (subgoal_at_lem p b s at t) h r e)
 
-        pub bodying-next : {next m : ℕ} → g ≡ Next next m → {after : List ℕ} → after ≡ set now (k * clauseSize + 2 + n) w
-            → Bodying ar s from next (n + 1) (k * clauseSize) before after
+        pub bodying_next : {next m : ℕ} → g ≡ Next next m → {after : List ℕ} → after ≡ set now (k * clause_size + 2 + n) w
+            → Bodying ar s from next (n + 1) (k * clause_size) before after
         unfolding subgoal
-        bodying-next e d =
+        bodying_next e d =
             record {
               words = l.words ++ (w ∷ []);
               going =
                   λ p b.
-                  going_next p (subgoal ar) s maxSubgoals from (l.going p b) (subgoal-at p b s at t) h r e
+                  going_next p (subgoal ar) s max_subgoals from (l.going p b) (subgoal_at_lem p b s at t) h r e
                   (map-append call_in l.words (w ∷ []));
               stored =
                   d
-                  ∙ ap (λ (x : List ℕ). set x (k * clauseSize + 2 + n) w) l.stored
-                  ∙ sets_last before (k * clauseSize + 2) n l.words w count;
+                  ∙ ap (λ (x : List ℕ). set x (k * clause_size + 2 + n) w) l.stored
+                  ∙ sets_last before (k * clause_size + 2) n l.words w count;
             }
 
-    pub bodying-end : leadsSubgoal (drop at s) ≡ false → (m : ℕ) {after : List ℕ} → after ≡ set now (k * clauseSize) n
+    pub bodying_end : leads_subgoal (drop at s) ≡ false → (m : ℕ) {after : List ℕ} → after ≡ set now (k * clause_size) n
         → ReadsBody ar s from k (Next at m) before after
-    bodying-end t m d =
+    bodying_end t m d =
         record {
           words = l.words;
-          few = let c = count in let u = bodying-few in omega arith;
-          inside = bodying-inside;
-          reads = λ p b. going-stops p (subgoal ar) s maxSubgoals from (l.going p b) (no-subgoal-at p b s at t);
+          few = let c = count in let u = bodying_few in omega arith;
+          inside = bodying_inside;
+          reads = λ p b. going_stops p (subgoal ar) s max_subgoals from (l.going p b) (no_subgoal_at p b s at t);
           stored =
               λ a j e.
-              d ∙ ap₂ (λ (x : List ℕ) (y : ℕ). set x (k * clauseSize) y) l.stored (sym count);
+              d ∙ ap₂ (λ (x : List ℕ) (y : ℕ). set x (k * clause_size) y) l.stored (sym count);
         }
 
 -- ---- what was read, once its end is judged
 
 module _ {ar s : List ℕ} {from k : ℕ} {g : Found} {before after : List ℕ} (w : ReadsBody ar s from k g before after) (p : Phase) (b : Bodied p) where
-  pub body-bad : {f : ℕ → List Call} {v : Fault} {q : ℕ} → g ≡ Bad v q → Reads s g f (many p (subgoal ar) maxSubgoals [] (drop from s))
-  body-bad {f} {v} {q} e = record { inside = w.inside; is = same g e ∙ w.reads p b }
+  pub body_bad : {f : ℕ → List Call} {v : Fault} {q : ℕ} → g ≡ Bad v q → Reads s g f (many p (subgoal ar) max_subgoals [] (drop from s))
+  body_bad {f} {v} {q} e = record { inside = w.inside; is = same g e ∙ w.reads p b }
     where
       same : (h : Found) → h ≡ Bad v q → means s h f ≡ onward p s h (map call_in w.words)
-      same (Next a m) d = bad-next d refl
+      same (Next a m) d = bad_next d refl
       same (Bad u a) d = refl
 
-  pub body-next : {end n : ℕ} → g ≡ Next end n → {r : Found} → Reads s r (λ j. j) (stops p 0 (drop end s))
-      → Reads s r (λ j. map call_in w.words) (many p (subgoal ar) maxSubgoals [] (drop from s))
-  body-next {end} {n} e v =
-      let u = stops-reads p s end (map call_in w.words) v in
+  pub body_next : {end n : ℕ} → g ≡ Next end n → {r : Found} → Reads s r (λ j. j) (stops p 0 (drop end s))
+      → Reads s r (λ j. map call_in w.words) (many p (subgoal ar) max_subgoals [] (drop from s))
+  body_next {end} {n} e v =
+      let u = stops_reads p s end (map call_in w.words) v in
       record { inside = u.inside; is = u.is ∙ ap (λ (h : Found). onward p s h (map call_in w.words)) (sym e) ∙ w.reads p b }
 
 -- ---- the words of a clause
 
-getD-sets-out : (l : List ℕ) (at : ℕ) (xs : List ℕ) (q : ℕ) → (at ≤ q → at + length xs ≤ q) → get_or (sets l at xs) q 0 ≡ get_or l q 0
-getD-sets-out l at [] q h = refl
-getD-sets-out l at (x ∷ xs) q h =
-    getD-sets-out (set l at x) (suc at) xs q (λ i. let j = h (omega arith) in omega arith)
+get_or_sets_out : (l : List ℕ) (at : ℕ) (xs : List ℕ) (q : ℕ) → (at ≤ q → at + length xs ≤ q) → get_or (sets l at xs) q 0 ≡ get_or l q 0
+get_or_sets_out l at [] q h = refl
+get_or_sets_out l at (x ∷ xs) q h =
+    get_or_sets_out (set l at x) (suc at) xs q (λ i. let j = h (omega arith) in omega arith)
     ∙ get_or-set_other l at q x 0 (λ e. let j = h (omega arith) in omega arith)
 
-getD-sets-in : (l : List ℕ) (at : ℕ) (xs : List ℕ) (j : ℕ) → at + length xs ≤ length l → j < length xs → get_or (sets l at xs) (at + j) 0 ≡ get_or xs j 0
-getD-sets-in l at [] j r h = absurd (omega arith)
-getD-sets-in l at (x ∷ xs) zero r h =
+get_or_sets_in : (l : List ℕ) (at : ℕ) (xs : List ℕ) (j : ℕ) → at + length xs ≤ length l → j < length xs → get_or (sets l at xs) (at + j) 0 ≡ get_or xs j 0
+get_or_sets_in l at [] j r h = absurd (omega arith)
+get_or_sets_in l at (x ∷ xs) zero r h =
     let e : at + 0 ≡ at = omega arith in
     ap (λ (i : ℕ). get_or (sets (set l at x) (suc at) xs) i 0) e
-    ∙ getD-sets-out (set l at x) (suc at) xs at (λ i. omega arith)
+    ∙ get_or_sets_out (set l at x) (suc at) xs at (λ i. omega arith)
     ∙ get_or-set_same l at x 0 (omega arith)
-getD-sets-in l at (x ∷ xs) (suc j) r h =
+get_or_sets_in l at (x ∷ xs) (suc j) r h =
     let e : at + suc j ≡ suc at + j = omega arith in
-    ap (λ (i : ℕ). get_or (sets (set l at x) (suc at) xs) i 0) e ∙ getD-sets-in (set l at x) (suc at) xs j (simp length-set (omega arith)) (omega arith)
+    ap (λ (i : ℕ). get_or (sets (set l at x) (suc at) xs) i 0) e ∙ get_or_sets_in (set l at x) (suc at) xs j (simp length-set (omega arith)) (omega arith)
 
 -- subgoal j of clause k
 abbrev call_at : List ℕ → ℕ → ℕ → Call
-call_at rules k j = call_in (get_or rules (k * clauseSize + 2 + j) 0)
+call_at rules k j = call_in (get_or rules (k * clause_size + 2 + j) 0)
 
 -- where its words are the same, so is the clause
-same-words : (rules after : List ℕ) (k : ℕ)
-    → ((p : ℕ) → k * clauseSize ≤ p → p < k * clauseSize + clauseSize → get_or after p 0 ≡ get_or rules p 0) → clauseAt after k ≡ clauseAt rules k
-unfolding clauseAt
-same-words rules after k same =
+same_words : (rules after : List ℕ) (k : ℕ)
+    → ((p : ℕ) → k * clause_size ≤ p → p < k * clause_size + clause_size → get_or after p 0 ≡ get_or rules p 0) → clause_at after k ≡ clause_at rules k
+unfolding clause_at
+same_words rules after k same =
     ap₂ (λ (h : Head) (b : List Call). record { head = h; body = b })
-    (ap headIn (same (k * clauseSize + 1) (omega arith) (omega arith)))
-    (ap (λ (n : ℕ). values (call_at after k) (min n maxSubgoals)) (same (k * clauseSize) (omega arith) (omega arith))
-    ∙ values-cong (call_at after k) (call_at rules k) (min (get_or rules (k * clauseSize) 0) maxSubgoals)
-    (λ j h. ap call_in (same (k * clauseSize + 2 + j) (omega arith) (omega arith))))
+    (ap head_in (same (k * clause_size + 1) (omega arith) (omega arith)))
+    (ap (λ (n : ℕ). values (call_at after k) (min n max_subgoals)) (same (k * clause_size) (omega arith) (omega arith))
+    ∙ values_cong (call_at after k) (call_at rules k) (min (get_or rules (k * clause_size) 0) max_subgoals)
+    (λ j h. ap call_in (same (k * clause_size + 2 + j) (omega arith) (omega arith))))
 
 -- the subgoals and their number are stored: the head and the other clauses are as they were
-pub body-stored : (before : List ℕ) (k : ℕ) (words : List ℕ) {after : List ℕ} → length before ≡ rulesSize → k ≤ maxClauses → length words ≤ maxSubgoals
-    → after ≡ set (sets before (k * clauseSize + 2) words) (k * clauseSize) (length words)
-    → StoredClause before after k (record { head = (clauseAt before k).head; body = map call_in words })
-unfolding clauseAt
-body-stored before k words {after} e low few is =
+pub body_stored : (before : List ℕ) (k : ℕ) (words : List ℕ) {after : List ℕ} → length before ≡ rules_size → k ≤ max_clauses → length words ≤ max_subgoals
+    → after ≡ set (sets before (k * clause_size + 2) words) (k * clause_size) (length words)
+    → StoredClause before after k (record { head = (clause_at before k).head; body = map call_in words })
+unfolding clause_at
+body_stored before k words {after} e low few is =
     record {
-      is = ap₂ (λ (h : Head) (b : List Call). record { head = h; body = b }) (ap headIn (kept (at + 1) (λ i. omega arith) (λ q. omega arith))) body;
-      others = λ i ne. same-words before after i (λ p l r. kept p (λ j. ne· i p ne l r j) (λ q. ne (omega arith)));
+      is = ap₂ (λ (h : Head) (b : List Call). record { head = h; body = b }) (ap head_in (kept (at + 1) (λ i. omega arith) (λ q. omega arith))) body;
+      others = λ i ne. same_words before after i (λ p l r. kept p (λ j. ne· i p ne l r j) (λ q. ne (omega arith)));
     }
   where
     at : ℕ
-    at = k * clauseSize
+    at = k * clause_size
 
-    ne· : (i p : ℕ) → (i ≡ k → ⊥) → i * clauseSize ≤ p → p < i * clauseSize + clauseSize → k * clauseSize + 2 ≤ p → k * clauseSize + 2 + length words ≤ p
-    ne· i p ne l r j = byRange i k (λ x. absurd (omega arith)) (λ x. omega arith)
+    ne· : (i p : ℕ) → (i ≡ k → ⊥) → i * clause_size ≤ p → p < i * clause_size + clause_size → k * clause_size + 2 ≤ p → k * clause_size + 2 + length words ≤ p
+    ne· i p ne l r j = by_range i k (λ x. absurd (omega arith)) (λ x. omega arith)
 
-    kept : (p : ℕ) → (k * clauseSize + 2 ≤ p → k * clauseSize + 2 + length words ≤ p) → (p ≡ k * clauseSize → ⊥) → get_or after p 0 ≡ get_or before p 0
+    kept : (p : ℕ) → (k * clause_size + 2 ≤ p → k * clause_size + 2 + length words ≤ p) → (p ≡ k * clause_size → ⊥) → get_or after p 0 ≡ get_or before p 0
     kept p out ne =
         ap (λ (l : List ℕ). get_or l p 0) is
-        ∙ get_or-set_other (sets before (k * clauseSize + 2) words) (k * clauseSize) p (length words) 0 ne
-        ∙ getD-sets-out before (k * clauseSize + 2) words p out
+        ∙ get_or-set_other (sets before (k * clause_size + 2) words) (k * clause_size) p (length words) 0 ne
+        ∙ get_or_sets_out before (k * clause_size + 2) words p out
 
     number : get_or after at 0 ≡ length words
     number =
@@ -212,31 +212,31 @@ body-stored before k words {after} e low few is =
         ap call_in
         (ap (λ (l : List ℕ). get_or l (at + 2 + j) 0) is
         ∙ get_or-set_other (sets before (at + 2) words) at (at + 2 + j) (length words) 0 (λ q. omega arith)
-        ∙ getD-sets-in before (at + 2) words j (omega arith) h)
+        ∙ get_or_sets_in before (at + 2) words j (omega arith) h)
 
-    body : values (call_at after k) (min (get_or after at 0) maxSubgoals) ≡ map call_in words
+    body : values (call_at after k) (min (get_or after at 0) max_subgoals) ≡ map call_in words
     body =
-        let m : min (length words) maxSubgoals ≡ length words = omega arith in
-        let long = length-values (call_at after k) (length words) in
-        ap (λ (n : ℕ). values (call_at after k) (min n maxSubgoals)) number
+        let m : min (length words) max_subgoals ≡ length words = omega arith in
+        let long = length_values (call_at after k) (length words) in
+        ap (λ (n : ℕ). values (call_at after k) (min n max_subgoals)) number
         ∙ ap (values (call_at after k)) m
         ∙ ext_get_or (call_in 0) (values (call_at after k) (length words)) (map call_in words) (long ∙ sym (length-map words call_in))
-        (λ j h. getD-values (call_at after k) (call_in 0) (length words) j (omega arith) ∙ each j (omega arith) ∙ sym (get_or-map call_in words j 0))
+        (λ j h. get_or_values (call_at after k) (call_in 0) (length words) j (omega arith) ∙ each j (omega arith) ∙ sym (get_or-map call_in words j 0))
 
 -- and the head before them
-pub clause-stored : (before : List ℕ) (k w : ℕ) (words : List ℕ) {one after : List ℕ} → length before ≡ rulesSize → k < maxClauses → length words ≤ maxSubgoals
-    → one ≡ set before (k * clauseSize + 1) w → after ≡ set (sets one (k * clauseSize + 2) words) (k * clauseSize) (length words)
-    → StoredClause before after k (record { head = headIn w; body = map call_in words })
-unfolding clauseAt
-clause-stored before k w words {one} {after} e low few first is =
-    let size : length one ≡ rulesSize = ap length first ∙ simp length-set e in
-    let b = body-stored one k words size (omega arith) few is in
-    let head : get_or one (k * clauseSize + 1) 0 ≡ w = ap (λ (l : List ℕ). get_or l (k * clauseSize + 1) 0) first ∙ get_or-set_same before (k * clauseSize + 1) w 0 (omega arith) in
+pub clause_stored : (before : List ℕ) (k w : ℕ) (words : List ℕ) {one after : List ℕ} → length before ≡ rules_size → k < max_clauses → length words ≤ max_subgoals
+    → one ≡ set before (k * clause_size + 1) w → after ≡ set (sets one (k * clause_size + 2) words) (k * clause_size) (length words)
+    → StoredClause before after k (record { head = head_in w; body = map call_in words })
+unfolding clause_at
+clause_stored before k w words {one} {after} e low few first is =
+    let size : length one ≡ rules_size = ap length first ∙ simp length-set e in
+    let b = body_stored one k words size (omega arith) few is in
+    let head : get_or one (k * clause_size + 1) 0 ≡ w = ap (λ (l : List ℕ). get_or l (k * clause_size + 1) 0) first ∙ get_or-set_same before (k * clause_size + 1) w 0 (omega arith) in
     record {
-      is = b.is ∙ ap (λ (x : ℕ). record { head = headIn x; body = map call_in words }) head;
+      is = b.is ∙ ap (λ (x : ℕ). record { head = head_in x; body = map call_in words }) head;
       others =
           λ i ne.
           b.others i ne
-          ∙ same-words before one i
-          (λ p l r. ap (λ (m : List ℕ). get_or m p 0) first ∙ get_or-set_other before (k * clauseSize + 1) p w 0 (λ q. ne (omega arith)));
+          ∙ same_words before one i
+          (λ p l r. ap (λ (m : List ℕ). get_or m p 0) first ∙ get_or-set_other before (k * clause_size + 1) p w 0 (λ q. ne (omega arith)));
     }

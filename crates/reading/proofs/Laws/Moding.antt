@@ -12,27 +12,27 @@ use borrow.Author.Tests.{ltb-true, leb-true}
 use Rattle.masks.specs.Lists.{any}
 use Rattle.masks.specs.Set.{bit_at, Holds}
 use Rattle.masks.proofs.Laws.Lists.{any_append}
-use Rattle.masks.proofs.Laws.Set.{bitAt-zero, bitAt-more}
-use Rattle.book.specs.Limits.{maxPredicates}
+use Rattle.masks.proofs.Laws.Set.{bit_at_zero, bit_at_more}
+use Rattle.book.specs.Limits.{max_predicates}
 use Rattle.book.specs.Book.{Mode}
-use Rattle.book.specs.Format.{allows, spelling, leads, low, lowFrom, markAt, turn, mode, modeFields}
-use Rattle.book.specs.Encode.{encMode}
-use Rattle.book.specs.Held.{modesSize, modeAt, modesOf, hasMode}
+use Rattle.book.specs.Format.{allows, spelling, leads, low, low_from, mark_at, turn, mode, mode_fields}
+use Rattle.book.specs.Encode.{enc_mode}
+use Rattle.book.specs.Held.{modes_size, mode_at, modes_of, has_mode}
 use Rattle.book.specs.declared.fault.Fault.{Fault}
 use Rattle.book.specs.declared.mark.Mark.TheVariants.{Mo}
 use Rattle.book.specs.declared.mark.Phase.TheVariants.{Modes}
 use Rattle.book.specs.declared.mark.Turn.TheVariants.{Mine}
-use Rattle.book.proofs.Laws.Marks.{sole-modes}
-use Rattle.book.proofs.Laws.Trip.{ModeFits, mode-inv, mode-known, low-last}
-use Rattle.book.proofs.Laws.Held.{modeAt-others, modesOf-stored, modesOf-rest}
+use Rattle.book.proofs.Laws.Marks.{sole_modes}
+use Rattle.book.proofs.Laws.Trip.{ModeFits, mode_inv, mode_known, low_last}
+use Rattle.book.proofs.Laws.Held.{mode_at_others, modes_of_stored, modes_of_rest}
 use Rattle.records.specs.declared.field.Found.{Found}
 use Rattle.records.specs.declared.field.Found.TheVariants.{Next, Bad}
 use Rattle.records.specs.Found.{Reads, Arities, stops}
 use Rattle.records.specs.Stored.{ReadsMode}
-use Rattle.records.proofs.Laws.Reads.{bad-next, after-mark}
+use Rattle.records.proofs.Laws.Reads.{bad_next, after_mark}
 use Rattle.reading.specs.Judged.{NoModes}
 use Rattle.reading.specs.Stored.{ReadsModes}
-use Rattle.reading.proofs.Laws.Runs.{Going, mine-at, not-mine-at, mark-there, going_start, going-bad, going_next, going_end}
+use Rattle.reading.proofs.Laws.Runs.{Going, mine_at, not_mine_at, mark_there, going_start, going_bad, going_next, going_end}
 
 -- the set, and where there is room the array, have the modes read so far
 pub record Moding (ar s : List ℕ) (from at b set : ℕ) (before now : List ℕ) : Type 0 where
@@ -40,59 +40,59 @@ pub record Moding (ar s : List ℕ) (from at b set : ℕ) (before now : List ℕ
   pub most : b ≤ length ar
   pub count : ℕ
   pub fewer : count ≤ b
-  pub going : Going Modes (mode ar) s (suc maxPredicates) from at count modes
+  pub going : Going Modes (mode ar) s (suc max_predicates) from at count modes
   pub least : low modes ≡ b
-  pub given : Holds set (hasMode modes)
+  pub given : Holds set (has_mode modes)
   pub size : length now ≡ length before
-  pub stored : length before ≡ modesSize → modesOf now b ≡ modes
-  pub above : length before ≡ modesSize → (p : ℕ) → b ≤ p → modeAt now p ≡ []
+  pub stored : length before ≡ modes_size → modes_of now b ≡ modes
+  pub above : length before ≡ modes_size → (p : ℕ) → b ≤ p → mode_at now p ≡ []
 
-hasMode-last : (ms : List Mode) (m : Mode) (k : ℕ) → hasMode (ms ++ (m ∷ [])) k ≡ (hasMode ms k || eqb m.pred k)
-unfolding hasMode
-hasMode-last ms m k =
+has_mode_last : (ms : List Mode) (m : Mode) (k : ℕ) → has_mode (ms ++ (m ∷ [])) k ≡ (has_mode ms k || eqb m.pred k)
+unfolding has_mode
+has_mode_last ms m k =
     any_append (λ (x : Mode). eqb x.pred k) ms (m ∷ [])
     ∙ ap (λ (b : Bool). any (λ (x : Mode). eqb x.pred k) ms || b) (or-false (eqb m.pred k))
 
 module _ (ar s : List ℕ) (arities : Arities ar) (from : ℕ) (before : List ℕ) where
-  pub moding-start : from ≤ length s → NoModes before → Moding ar s from from 0 0 before before
-  unfolding modesOf lowFrom hasMode
-  moding-start h no· =
+  pub moding_start : from ≤ length s → NoModes before → Moding ar s from from 0 0 before before
+  unfolding modes_of low_from has_mode
+  moding_start h no· =
       record {
         modes = [];
         most = omega arith;
         count = 0;
         fewer = omega arith;
-        going = going_start Modes (mode ar) s (suc maxPredicates) from h;
+        going = going_start Modes (mode ar) s (suc max_predicates) from h;
         least = refl;
-        given = bitAt-zero;
+        given = bit_at_zero;
         size = refl;
         stored = λ r. refl;
         above = λ r p l. no· p;
       }
 
   module _ {at b set : ℕ} {now : List ℕ} (l : Moding ar s from at b set before now) where
-    room : l.count < suc maxPredicates
+    room : l.count < suc max_predicates
     room = let a = l.most in let c = l.fewer in let d = arities.few in omega arith
 
     module _ (mark : leads (spelling Mo) (drop at s) ≡ true) where
-      t : turn Modes (markAt (drop at s)) ≡ Mine
-      t = mine-at Modes Mo s at refl mark
+      t : turn Modes (mark_at (drop at s)) ≡ Mine
+      t = mine_at Modes Mo s at refl mark
 
-      pub moding-there : at + 2 ≤ length s
-      moding-there = mark-there Modes s at t
+      pub moding_there : at + 2 ≤ length s
+      moding_there = mark_there Modes s at t
 
-      module _ {g : Found} {after : List ℕ} (w : ReadsMode s g now after (modeFields ar b (drop (at + 2) s))) where
+      module _ {g : Found} {after : List ℕ} (w : ReadsMode s g now after (mode_fields ar b (drop (at + 2) s))) where
         reads : Reads s g (λ p. record { pred = p; masks = w.masks }) (mode ar l.modes (drop at s))
         unfolding mode
-        reads = rw (l.least, after-mark) w.reads
+        reads = rw (l.least, after_mark) w.reads
 
-        pub moding-bad : {v : Fault} {q : ℕ} → g ≡ Bad v q → ReadsModes ar s from (record { found = g; with_mode = set }) before after
-        moding-bad e =
+        pub moding_bad : {v : Fault} {q : ℕ} → g ≡ Bad v q → ReadsModes ar s from (record { found = g; with_mode = set }) before after
+        moding_bad e =
             record {
               modes = l.modes;
-              reads = going-bad Modes (mode ar) s (suc maxPredicates) from l.going t room reads e;
+              reads = going_bad Modes (mode ar) s (suc max_predicates) from l.going t room reads e;
               given = l.given;
-              stored = λ a n d. bad-next e d;
+              stored = λ a n d. bad_next e d;
             }
 
         module _ {next p : ℕ} (e : g ≡ Next next p) where
@@ -100,35 +100,35 @@ module _ (ar s : List ℕ) (arities : Arities ar) (from : ℕ) (before : List �
           abbrev m : Mode
           m = record { pred = p; masks = w.masks }
 
-          read : (drop at s ≡ encMode m ++ drop next s) × ModeFits ar l.modes m
+          read : (drop at s ≡ enc_mode m ++ drop next s) × ModeFits ar l.modes m
           read =
               let u : Reads s (Next next p) (λ k. record { pred = k; masks = w.masks }) (mode ar l.modes (drop at s)) =
               subst (λ (q : Found). Reads s q (λ k. record { pred = k; masks = w.masks }) (mode ar l.modes (drop at s))) e reads in
-              mode-inv ar l.modes (drop at s) m (drop next s) t (sym u.is)
+              mode_inv ar l.modes (drop at s) m (drop next s) t (sym u.is)
 
           fits : (p < length ar) × (b ≤ p)
           unfolding allows
           fits =
-              let k : p < length ar = ltb-true p (length ar) (mode-known ar m read.1.0) in
+              let k : p < length ar = ltb-true p (length ar) (mode_known ar m read.1.0) in
               let r : low l.modes ≤ p = leb-true _ _ read.1.1 in
               let z = l.least in
               (k, omega arith)
 
           -- the record has some bytes
-          pub moding-on : at < next
-          moding-on =
+          pub moding_on : at < next
+          moding_on =
               let d = ap length read.0 in
-              let f = length-append (encMode m) (drop next s) in
+              let f = length-append (enc_mode m) (drop next s) in
               let x : length (drop at s) ≡ length s - at = length-drop at s in
               let y : length (drop next s) ≡ length s - next = length-drop next s in
               let i = l.going.inside in
               omega arith
 
-          pub moding-below : p < maxPredicates
-          moding-below = let k = fits.0 in let d = arities.few in omega arith
+          pub moding_below : p < max_predicates
+          moding_below = let k = fits.0 in let d = arities.few in omega arith
 
-          pub moding-next : {more : ℕ} → more ≡ bit_or set (2 ^ p) → length after ≡ length now → Moding ar s from next (p + 1) more before after
-          moding-next {more} d same =
+          pub moding_next : {more : ℕ} → more ≡ bit_or set (2 ^ p) → length after ≡ length now → Moding ar s from next (p + 1) more before after
+          moding_next {more} d same =
               let k = fits.0 in
               let r = fits.1 in
               let c = l.fewer in
@@ -137,31 +137,31 @@ module _ (ar s : List ℕ) (arities : Arities ar) (from : ℕ) (before : List �
                 most = omega arith;
                 count = l.count + 1;
                 fewer = omega arith;
-                going = going_next Modes (mode ar) s (suc maxPredicates) from l.going t room reads e refl;
-                least = low-last 0 l.modes m ∙ sym (add-one p);
+                going = going_next Modes (mode ar) s (suc max_predicates) from l.going t room reads e refl;
+                least = low_last 0 l.modes m ∙ sym (add-one p);
                 given =
                     λ i.
                     ap (λ (x : ℕ). bit_at x i) d
-                    ∙ bitAt-more set p i
+                    ∙ bit_at_more set p i
                     ∙ ap (λ (x : Bool). x || eqb p i) (l.given i)
-                    ∙ sym (hasMode-last l.modes m i);
+                    ∙ sym (has_mode_last l.modes m i);
                 size = same ∙ l.size;
                 stored =
                     λ r·.
-                    modesOf-stored (w.stored next p e (l.size ∙ r·)) b r (l.above r·) ∙ ap (λ (x : List Mode). x ++ (m ∷ [])) (l.stored r·);
+                    modes_of_stored (w.stored next p e (l.size ∙ r·)) b r (l.above r·) ∙ ap (λ (x : List Mode). x ++ (m ∷ [])) (l.stored r·);
                 above =
                     λ r· i h.
-                    modeAt-others (w.stored next p e (l.size ∙ r·)) i (λ q. absurd (omega arith)) ∙ l.above r· i (omega arith);
+                    mode_at_others (w.stored next p e (l.size ∙ r·)) i (λ q. absurd (omega arith)) ∙ l.above r· i (omega arith);
               }
 
-    pub moding-end : leads (spelling Mo) (drop at s) ≡ false → {r : Found} → Reads s r (λ k. k) (stops Modes 0 (drop at s))
+    pub moding_end : leads (spelling Mo) (drop at s) ≡ false → {r : Found} → Reads s r (λ k. k) (stops Modes 0 (drop at s))
         → ReadsModes ar s from (record { found = r; with_mode = set }) before now
-    moding-end mark w =
+    moding_end mark w =
         let a = l.most in
         let d = arities.few in
         record {
           modes = l.modes;
-          reads = going_end Modes (mode ar) s (suc maxPredicates) from l.going (not-mine-at Modes Mo s at sole-modes mark) w;
+          reads = going_end Modes (mode ar) s (suc max_predicates) from l.going (not_mine_at Modes Mo s at sole_modes mark) w;
           given = l.given;
-          stored = λ i n e r. modesOf-rest now b maxPredicates (omega arith) (l.above r) ∙ l.stored r;
+          stored = λ i n e r. modes_of_rest now b max_predicates (omega arith) (l.above r) ∙ l.stored r;
         }

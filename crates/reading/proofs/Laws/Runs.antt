@@ -7,21 +7,21 @@ use native.Mathlib.Omega.{arith}
 use native.Mathlib.Numerals.{add-one}
 use lib.ListN.{length, take, drop, set, length-drop, length-append}
 use lib.Seq.{take-suc-set, length-take-le}
-use Rattle.book.specs.Limits.{maxPredicates}
-use Rattle.book.specs.Format.{spelling, leads, markAt, turn, Got, got, and_then, onTurn, many}
+use Rattle.book.specs.Limits.{max_predicates}
+use Rattle.book.specs.Format.{spelling, leads, mark_at, turn, Got, got, and_then, on_turn, many}
 use Rattle.book.specs.declared.fault.Fault.{Fault}
 use Rattle.book.specs.declared.fault.Fault.TheVariants.{TooMany}
 use Rattle.book.specs.declared.mark.Mark.{Mark}
 use Rattle.book.specs.declared.mark.Phase.{Phase}
 use Rattle.book.specs.declared.mark.Turn.{Turn}
 use Rattle.book.specs.declared.mark.Turn.TheVariants.{Mine, Over, No}
-use Rattle.book.proofs.Laws.Marks.{Sole, leads-two, leads-own, unled, own-two}
+use Rattle.book.proofs.Laws.Marks.{Sole, leads_two, leads_own, unled, own_two}
 use Rattle.records.specs.declared.field.Found.{Found}
 use Rattle.records.specs.declared.field.Found.TheVariants.{Next, Bad}
 use Rattle.records.specs.Found.{Reads, stops}
 use Rattle.reading.specs.Judged.{Listed}
 use Rattle.reading.specs.Stored.{Ends}
-use Rattle.records.proofs.Laws.Reads.{then-bad, reads-map}
+use Rattle.records.proofs.Laws.Reads.{then_bad, reads_map}
 
 -- so far the n records acc were read, up to a place
 pub record Going {A : Type 0} (p : Phase) (item : List A → List ℕ → Got A) (s : List ℕ) (room from at n : ℕ) (acc : List A) : Type 0 where
@@ -32,31 +32,31 @@ pub record Going {A : Type 0} (p : Phase) (item : List A → List ℕ → Got A)
 
 -- a mark of a run leads the bytes at a place; or the only one that the run has does not
 module _ (p : Phase) (m : Mark) (s : List ℕ) (at : ℕ) where
-  pub mine-at : turn p m ≡ Mine → leads (spelling m) (drop at s) ≡ true → turn p (markAt (drop at s)) ≡ Mine
-  mine-at own t = leads-own p m own (drop at s) t
+  pub mine_at : turn p m ≡ Mine → leads (spelling m) (drop at s) ≡ true → turn p (mark_at (drop at s)) ≡ Mine
+  mine_at own t = leads_own p m own (drop at s) t
 
-  pub not-mine-at : Sole p m → leads (spelling m) (drop at s) ≡ false → turn p (markAt (drop at s)) ≡ Mine → ⊥
-  not-mine-at sole t = unled p (drop at s) (λ k e. ap (λ (j : Mark). leads (spelling j) (drop at s)) (sole k e) ∙ t)
+  pub not_mine_at : Sole p m → leads (spelling m) (drop at s) ≡ false → turn p (mark_at (drop at s)) ≡ Mine → ⊥
+  not_mine_at sole t = unled p (drop at s) (λ k e. ap (λ (j : Mark). leads (spelling j) (drop at s)) (sole k e) ∙ t)
 
 -- so the two bytes of the mark are there
-pub mark-there : (p : Phase) (s : List ℕ) (at : ℕ) → turn p (markAt (drop at s)) ≡ Mine → at + 2 ≤ length s
-mark-there p s at t =
-    let e = own-two p (drop at s) t in
+pub mark_there : (p : Phase) (s : List ℕ) (at : ℕ) → turn p (mark_at (drop at s)) ≡ Mine → at + 2 ≤ length s
+mark_there p s at t =
+    let e = own_two p (drop at s) t in
     let l : length (drop at s) ≡ length s - at = length-drop at s in
     omega arith
 
 -- the end of a run, with whatever value it has
-pub stops-reads : {A : Type 0} (p : Phase) (s : List ℕ) (at : ℕ) (a : A) {r : Found} → Reads s r (λ k. k) (stops p 0 (drop at s)) → Reads s r (λ k. a) (stops p a (drop at s))
-stops-reads {A} p s at a {r} w = let u = reads-map (λ (k : ℕ). a) w in record { inside = u.inside; is = u.is ∙ go (turn p (markAt (drop at s))) }
+pub stops_reads : {A : Type 0} (p : Phase) (s : List ℕ) (at : ℕ) (a : A) {r : Found} → Reads s r (λ k. k) (stops p 0 (drop at s)) → Reads s r (λ k. a) (stops p a (drop at s))
+stops_reads {A} p s at a {r} w = let u = reads_map (λ (k : ℕ). a) w in record { inside = u.inside; is = u.is ∙ go (turn p (mark_at (drop at s))) }
   where
-    go : (t : Turn) → and_then (onTurn {A = ℕ} t (got 0 (drop at s)) 0 (drop at s)) (λ k u. got a u) ≡ onTurn t (got a (drop at s)) a (drop at s)
+    go : (t : Turn) → and_then (on_turn {A = ℕ} t (got 0 (drop at s)) 0 (drop at s)) (λ k u. got a u) ≡ on_turn t (got a (drop at s)) a (drop at s)
     go Mine = refl
     go Over = refl
     go (No v) = refl
 
 -- a mark that ends a run, by its two bytes
-pub ends_at : (p : Phase) (a b : ℕ) (m : Mark) → ((t : List ℕ) → markAt (a ∷ b ∷ t) ≡ m) → turn p m ≡ Over → Ends p (a ∷ b ∷ [])
-ends_at p a b m is over t l = ap (λ (u : List ℕ). turn p (markAt u)) (leads-two a b t l) ∙ ap (turn p) (is (drop 2 t)) ∙ over
+pub ends_at : (p : Phase) (a b : ℕ) (m : Mark) → ((t : List ℕ) → mark_at (a ∷ b ∷ t) ≡ m) → turn p m ≡ Over → Ends p (a ∷ b ∷ [])
+ends_at p a b m is over t l = ap (λ (u : List ℕ). turn p (mark_at u)) (leads_two a b t l) ∙ ap (turn p) (is (drop 2 t)) ∙ over
 
 module _ {A : Type 0} (p : Phase) (item : List A → List ℕ → Got A) (s : List ℕ) (room from : ℕ) where
   pub going_start : from ≤ length s → Going p item s room from from 0 []
@@ -64,21 +64,21 @@ module _ {A : Type 0} (p : Phase) (item : List A → List ℕ → Got A) (s : Li
 
   module _ {at n : ℕ} {acc : List A} (l : Going p item s room from at n acc) where
     -- "not one too many (5)"
-    pub going-full : {f : ℕ → List A} → turn p (markAt (drop at s)) ≡ Mine → room ≤ n → Reads s (Bad TooMany at) f (many p item room [] (drop from s))
+    pub going_full : {f : ℕ → List A} → turn p (mark_at (drop at s)) ≡ Mine → room ≤ n → Reads s (Bad TooMany at) f (many p item room [] (drop from s))
     unfolding many
-    going-full t h =
+    going_full t h =
         let z : room - n ≡ 0 = omega arith in
         record { inside = l.inside; is = rw (t, length-drop) at (rw z at l.kept) }
 
-    one : turn p (markAt (drop at s)) ≡ Mine → n < room
+    one : turn p (mark_at (drop at s)) ≡ Mine → n < room
         → many p item (room - n) acc (drop at s) ≡ and_then (item acc (drop at s)) (λ x r. many p item (room - (n + 1)) (acc ++ (x ∷ [])) r)
     unfolding many
     one t h = let e : room - n ≡ suc (room - (n + 1)) = omega arith in rw (e, t)
 
-    module _ (t : turn p (markAt (drop at s)) ≡ Mine) (h : n < room) {g : Found} {f : ℕ → A} (w : Reads s g f (item acc (drop at s))) where
-      pub going-bad : {k : ℕ → List A} {v : Fault} {q : ℕ} → g ≡ Bad v q → Reads s g k (many p item room [] (drop from s))
-      going-bad {k} e =
-          let u = then-bad (λ x r. many p item (room - (n + 1)) (acc ++ (x ∷ [])) r) w {h = k} e in
+    module _ (t : turn p (mark_at (drop at s)) ≡ Mine) (h : n < room) {g : Found} {f : ℕ → A} (w : Reads s g f (item acc (drop at s))) where
+      pub going_bad : {k : ℕ → List A} {v : Fault} {q : ℕ} → g ≡ Bad v q → Reads s g k (many p item room [] (drop from s))
+      going_bad {k} e =
+          let u = then_bad (λ x r. many p item (room - (n + 1)) (acc ++ (x ∷ [])) r) w {h = k} e in
           record { inside = u.inside; is = u.is ∙ (sym (one t h) ∙ l.kept) }
 
       pub going_next : {next m : ℕ} {more : List A} → g ≡ Next next m → more ≡ acc ++ (f m ∷ []) → Going p item s room from next (n + 1) more
@@ -95,26 +95,26 @@ module _ {A : Type 0} (p : Phase) (item : List A → List ℕ → Got A) (s : Li
           }
 
     -- none of its records follows: the end of the run, or a fault
-    module _ (other : turn p (markAt (drop at s)) ≡ Mine → ⊥) where
-      pub going-stops : stops p acc (drop at s) ≡ many p item room [] (drop from s)
+    module _ (other : turn p (mark_at (drop at s)) ≡ Mine → ⊥) where
+      pub going_stops : stops p acc (drop at s) ≡ many p item room [] (drop from s)
       unfolding many
-      going-stops = all (room - n) ∙ l.kept
+      going_stops = all (room - n) ∙ l.kept
         where
-          same : (t : Turn) → (t ≡ Mine → ⊥) → (x y : Got (List A)) → onTurn t x acc (drop at s) ≡ onTurn t y acc (drop at s)
+          same : (t : Turn) → (t ≡ Mine → ⊥) → (x y : Got (List A)) → on_turn t x acc (drop at s) ≡ on_turn t y acc (drop at s)
           same Mine q x y = absurd (q refl)
           same Over q x y = refl
           same (No v) q x y = refl
 
           all : (k : ℕ) → stops p acc (drop at s) ≡ many p item k acc (drop at s)
-          all zero = same (turn p (markAt (drop at s))) other _ _
-          all (suc k) = same (turn p (markAt (drop at s))) other _ _
+          all zero = same (turn p (mark_at (drop at s))) other _ _
+          all (suc k) = same (turn p (mark_at (drop at s))) other _ _
 
       pub going_end : {r : Found} → Reads s r (λ k. k) (stops p 0 (drop at s)) → Reads s r (λ k. acc) (many p item room [] (drop from s))
-      going_end w = let u = stops-reads p s at acc w in record { inside = u.inside; is = u.is ∙ going-stops }
+      going_end w = let u = stops_reads p s at acc w in record { inside = u.inside; is = u.is ∙ going_stops }
 
 pub take_more : (l : List ℕ) (n x : ℕ) → n < length l → take (n + 1) (set l n x) ≡ take n l ++ (x ∷ [])
 take_more l n x h = rw (add-one, take-suc-set l n x h)
 
 -- the predicates of an array with room for all
-pub listed : {l : List ℕ} (n : ℕ) → length l ≡ maxPredicates → n ≤ maxPredicates → Listed n l
+pub listed : {l : List ℕ} (n : ℕ) → length l ≡ max_predicates → n ≤ max_predicates → Listed n l
 listed {l} n e h = record { few = h; each = length-take-le n l (rw e h) }

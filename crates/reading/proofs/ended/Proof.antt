@@ -1,6 +1,6 @@
 -- `reading::ended` meets its contract: where the mark stands the run is over; else its end is judged. Assumes nothing.
 use mathlib.Core.Path.{sym, ◌∙◌}
-use Rattle.records.proofs.Laws.Turns.{stops-over}
+use Rattle.records.proofs.Laws.Turns.{stops_over}
 use Rattle.reading.proofs.ended.Statement.{statement}
 use Rattle.reading.proofs.ended.Tie as tie
 
@@ -11,7 +11,7 @@ returns : tie.Need-returns
 returns c =
     let args = c.before.before.before.args in
     let pre = c.before.before.before.requires in
-    stops-over args.p args.s.now args.at pre.0 (λ k. k) 0 (pre.1 _ (sym c.before.is-mark.ensures ∙ c.if1.true))
+    stops_over args.p args.s.now args.at pre.0 (λ k. k) 0 (pre.1 _ (sym c.before.is-mark.ensures ∙ c.if1.true))
 
 run-end-requires : tie.Need-run-end-requires
 run-end-requires c κs = c.before.before.before.requires.0

@@ -4,9 +4,9 @@ use native.Mathlib.Omega.{arith}
 use borrow.Author.Rules.{rules}
 use Rattle.book.specs.declared.mark.Phase.TheVariants.{Body}
 use Rattle.book.specs.declared.mark.Mark.TheVariants.{Cl}
-use Rattle.book.specs.Format.{markAt}
-use Rattle.records.proofs.Laws.Reads.{next-inside}
-use Rattle.reading.proofs.Laws.Clauses.{clause-headless, clause-unbodied, clause-ended}
+use Rattle.book.specs.Format.{mark_at}
+use Rattle.records.proofs.Laws.Reads.{next_inside}
+use Rattle.reading.proofs.Laws.Clauses.{clause_headless, clause_unbodied, clause_ended}
 use Rattle.reading.proofs.Laws.Runs.{ends_at}
 use Rattle.reading.proofs.read_clause.Statement.{statement}
 use Rattle.reading.proofs.read_clause.Tie as tie
@@ -34,7 +34,7 @@ read-body-requires c κs =
     let pre = c.before.before.before.before.before.before.before.before.before.before.before.before.requires in
     let read_head = c.before.before.before.before.before.before.before.before.read_head in
     let g = c.before.before.before.before.before.before.g in
-    (next-inside read_head.ensures g.given.1, pre.1, omega arith)
+    (next_inside read_head.ensures g.given.1, pre.1, omega arith)
 
 enum-told-2 : tie.Need-enum-told-2
 enum-told-2 c = search rules
@@ -43,7 +43,7 @@ enum-known-b : tie.Need-enum-known-b
 enum-known-b c = search rules
 
 ended-requires : tie.Need-ended-requires
-unfolding markAt
+unfolding mark_at
 ended-requires c κs =
     let read-body = c.before.before.before.before.before.before.read-body in
     let b = c.before.before.b in
@@ -52,7 +52,7 @@ ended-requires c κs =
 returns : tie.Need-returns
 returns c =
     let read_head = c.before.before.read_head in
-    clause-headless _ _ _ _ _ read_head.ensures _ c.enum_told.given.1
+    clause_headless _ _ _ _ _ read_head.ensures _ c.enum_told.given.1
 
 same_length : tie.Need-same-length
 same_length c = search rules
@@ -62,7 +62,7 @@ returns-2 c =
     let read_head = c.before.before.before.before.before.before.before.before.before.before.before.before.before.read_head in
     let g = c.before.before.before.before.before.before.before.before.before.before.before.g in
     let read-body = c.before.before.before.before.read-body in
-    clause-unbodied _ _ _ _ _ read_head.ensures _ g.given.1 read-body.ensures c.enum-told2.given.1
+    clause_unbodied _ _ _ _ _ read_head.ensures _ g.given.1 read-body.ensures c.enum-told2.given.1
 
 same-length-2 : tie.Need-same-length-2
 same-length-2 c = search rules
@@ -75,7 +75,7 @@ returns-3 c =
     let put_word = c.before.before.before.before.before.before.before.before.before.before.before.put_word in
     let read-body = c.before.before.before.before.before.before.before.read-body in
     let b = c.before.before.before.b in
-    clause-ended _ _ _ _ read_head.result.call read_head.ensures _ g.given.1 read-body.ensures pre.2 put_word.ensures b.given.1 c.ended.ensures
+    clause_ended _ _ _ _ read_head.result.call read_head.ensures _ g.given.1 read-body.ensures pre.2 put_word.ensures b.given.1 c.ended.ensures
 
 pub read-clause-spec : {M : Type 1} → statement M
 read-clause-spec =

@@ -5,8 +5,8 @@ use native.Mathlib.Omega.{arith}
 use borrow.Author.Rules.{rules}
 use Rattle.book.specs.declared.mark.Phase.TheVariants.{Clauses}
 use Rattle.book.specs.declared.mark.Mark.TheVariants.{Qu}
-use Rattle.book.specs.Format.{markAt}
-use Rattle.reading.proofs.Laws.Clauses.{Clausing, clausing-start, clausing-there, clausing-full, clausing-bad, clausing-next, clausing-end}
+use Rattle.book.specs.Format.{mark_at}
+use Rattle.reading.proofs.Laws.Clauses.{Clausing, clausing_start, clausing_there, clausing_full, clausing_bad, clausing_next, clausing_end}
 use Rattle.reading.proofs.Laws.Runs.{ends_at}
 use Rattle.reading.proofs.read_clauses.Statement.{statement}
 use Rattle.reading.proofs.read_clauses.Tie as tie
@@ -18,7 +18,7 @@ abbrev decreases-loop : tie.decreases-loop
 decreases-loop s ar from rules₀ at₀ n₀ t10 t11 rules at n = 64 - n
 
 loop-holds : tie.Need-loop-init invariant-loop decreases-loop
-loop-holds c = clausing-start _ _ _ _ c.before.before.before.requires.0
+loop-holds c = clausing_start _ _ _ _ c.before.before.before.requires.0
 
 is-mark-requires : tie.Need-is-mark-requires invariant-loop decreases-loop
 is-mark-requires c κs = c.before.loop.invariant.inside
@@ -30,7 +30,7 @@ returns : tie.Need-returns invariant-loop decreases-loop
 returns c =
     let loop = c.before.before.before.before.loop in
     let is-mark = c.before.before.is-mark in
-    clausing-full _ _ _ _ loop.invariant (sym is-mark.ensures ∙ c.before.if1.true) (omega arith)
+    clausing_full _ _ _ _ loop.invariant (sym is-mark.ensures ∙ c.before.if1.true) (omega arith)
 
 read-clause-requires : tie.Need-read-clause-requires invariant-loop decreases-loop
 read-clause-requires c κs =
@@ -39,7 +39,7 @@ read-clause-requires c κs =
     let loop = c.before.before.before.before.before.loop in
     let is-mark = c.before.before.before.is-mark in
     let if1 = c.before.before.if1 in
-    (clausing-there _ args.s.now _ _ loop.invariant (sym is-mark.ensures ∙ if1.true), pre.1, omega arith)
+    (clausing_there _ args.s.now _ _ loop.invariant (sym is-mark.ensures ∙ if1.true), pre.1, omega arith)
 
 enum_told : tie.Need-enum-told invariant-loop decreases-loop
 enum_told c = search rules
@@ -56,7 +56,7 @@ returns-2 c =
     let is-mark = c.before.before.before.before.before.before.before.before.is-mark in
     let if1 = c.before.before.before.before.before.before.before.if1 in
     let read-clause = c.before.before.before.before.read-clause in
-    clausing-bad _ _ _ _ loop.invariant (sym is-mark.ensures ∙ if1.true) (omega arith) read-clause.ensures c.enum_told.given.1
+    clausing_bad _ _ _ _ loop.invariant (sym is-mark.ensures ∙ if1.true) (omega arith) read-clause.ensures c.enum_told.given.1
 
 enum-known-g : tie.Need-enum-known-g invariant-loop decreases-loop
 enum-known-g c = search rules
@@ -74,10 +74,10 @@ loop-again c =
     let if1 = c.before.before.before.before.before.before.before.before.if1 in
     let read-clause = c.before.before.before.before.before.read-clause in
     let rules = c.before.before.before.before.rules in
-    clausing-next _ _ _ _ loop.invariant (sym is-mark.ensures ∙ if1.true) (omega arith) read-clause.ensures c.before.g.given.1 rules.given
+    clausing_next _ _ _ _ loop.invariant (sym is-mark.ensures ∙ if1.true) (omega arith) read-clause.ensures c.before.g.given.1 rules.given
 
 ended-requires : tie.Need-ended-requires invariant-loop decreases-loop
-unfolding markAt
+unfolding mark_at
 ended-requires c κs =
     let loop = c.before.before.before.before.loop in
     (loop.invariant.inside, ends_at Clauses _ _ Qu (λ t. refl) refl)
@@ -90,7 +90,7 @@ returns-3 c =
     let loop = c.before.before.before.before.before.loop in
     let is-mark = c.before.before.before.is-mark in
     let if1 = c.before.before.if1 in
-    clausing-end _ _ _ _ loop.invariant (sym is-mark.ensures ∙ if1.false) c.ended.ensures
+    clausing_end _ _ _ _ loop.invariant (sym is-mark.ensures ∙ if1.false) c.ended.ensures
 
 pub read-clauses-spec : {M : Type 1} → statement M
 read-clauses-spec =

@@ -4,12 +4,12 @@ use Prim.Native.Nat.{◌-◌}
 use native.Mathlib.Omega.{arith}
 use lib.ListN.{length}
 use borrow.Author.Rules.{rules}
-use Rattle.book.specs.Format.{markAt}
+use Rattle.book.specs.Format.{mark_at}
 use Rattle.book.specs.declared.mark.Mark.TheVariants.{Cl}
 use Rattle.book.specs.declared.mark.Phase.TheVariants.{Modes}
-use Rattle.records.proofs.Laws.Reads.{next-inside}
+use Rattle.records.proofs.Laws.Reads.{next_inside}
 use Rattle.reading.proofs.Laws.Runs.{ends_at}
-use Rattle.reading.proofs.Laws.Moding.{Moding, moding-start, moding-there, moding-bad, moding-below, moding-on, moding-next, moding-end}
+use Rattle.reading.proofs.Laws.Moding.{Moding, moding_start, moding_there, moding_bad, moding_below, moding_on, moding_next, moding_end}
 use Rattle.reading.proofs.read_modes.Statement.{statement}
 use Rattle.reading.proofs.read_modes.Tie as tie
 
@@ -22,7 +22,7 @@ decreases-loop s ar from modes₀ at₀ low₀ with-mode₀ t11 t12 modes at low
 loop-holds : tie.Need-loop-init invariant-loop decreases-loop
 loop-holds c =
     let pre = c.before.before.before.requires in
-    moding-start _ _ pre.1 _ _ pre.0 pre.2
+    moding_start _ _ pre.1 _ _ pre.0 pre.2
 
 is-mark-requires : tie.Need-is-mark-requires invariant-loop decreases-loop
 is-mark-requires c κs = c.before.loop.invariant.going.inside
@@ -33,7 +33,7 @@ read-mode-requires c κs =
     let pre = c.before.before.before.before.before.before.before.before.requires in
     let loop = c.before.before.before.before.loop in
     let is-mark = c.before.before.is-mark in
-    (moding-there _ args.s.now pre.1 _ _ loop.invariant (sym is-mark.ensures ∙ c.before.if1.true), pre.1)
+    (moding_there _ args.s.now pre.1 _ _ loop.invariant (sym is-mark.ensures ∙ c.before.if1.true), pre.1)
 
 enum_told : tie.Need-enum-told invariant-loop decreases-loop
 enum_told c = search rules
@@ -51,7 +51,7 @@ returns c =
     let is-mark = c.before.before.before.before.before.before.before.is-mark in
     let if1 = c.before.before.before.before.before.before.if1 in
     let read-mode = c.before.before.before.before.read-mode in
-    moding-bad _ _ pre.1 _ _ loop.invariant (sym is-mark.ensures ∙ if1.true) read-mode.ensures c.enum_told.given.1
+    moding_bad _ _ pre.1 _ _ loop.invariant (sym is-mark.ensures ∙ if1.true) read-mode.ensures c.enum_told.given.1
 
 enum-known-g : tie.Need-enum-known-g invariant-loop decreases-loop
 enum-known-g c = search rules
@@ -64,7 +64,7 @@ with-member-requires c κs =
     let is-mark = c.before.before.before.before.before.before.before.before.is-mark in
     let if1 = c.before.before.before.before.before.before.before.if1 in
     let read-mode = c.before.before.before.before.before.read-mode in
-    moding-below _ args.s.now pre.1 _ _ loop.invariant (sym is-mark.ensures ∙ if1.true) read-mode.ensures c.before.g.given.1
+    moding_below _ args.s.now pre.1 _ _ loop.invariant (sym is-mark.ensures ∙ if1.true) read-mode.ensures c.before.g.given.1
 
 add_low : tie.Need-overflow-add-low invariant-loop decreases-loop
 add_low c =
@@ -75,7 +75,7 @@ add_low c =
     let if1 = c.before.before.before.before.before.before.before.before.if1 in
     let read-mode = c.before.before.before.before.before.before.read-mode in
     let g = c.before.before.g in
-    let h = moding-below _ args.s.now pre.1 _ _ loop.invariant (sym is-mark.ensures ∙ if1.true) read-mode.ensures g.given.1 in omega arith
+    let h = moding_below _ args.s.now pre.1 _ _ loop.invariant (sym is-mark.ensures ∙ if1.true) read-mode.ensures g.given.1 in omega arith
 
 loop-less : tie.Need-loop-smaller invariant-loop decreases-loop
 loop-less c =
@@ -86,7 +86,7 @@ loop-less c =
     let if1 = c.before.before.before.before.before.before.before.before.if1 in
     let read-mode = c.before.before.before.before.before.before.read-mode in
     let g = c.before.before.g in
-    let h = moding-on _ args.s.now pre.1 _ _ loop.invariant (sym is-mark.ensures ∙ if1.true) read-mode.ensures g.given.1 in let i = next-inside read-mode.ensures.reads g.given.1 in omega arith
+    let h = moding_on _ args.s.now pre.1 _ _ loop.invariant (sym is-mark.ensures ∙ if1.true) read-mode.ensures g.given.1 in let i = next_inside read-mode.ensures.reads g.given.1 in omega arith
 
 loop-again : tie.Need-loop-preserved invariant-loop decreases-loop
 loop-again c =
@@ -97,10 +97,10 @@ loop-again c =
     let read-mode = c.before.before.before.before.before.before.read-mode in
     let modes = c.before.before.before.before.before.modes in
     let g = c.before.before.g in
-    moding-next _ _ pre.1 _ _ loop.invariant (sym is-mark.ensures ∙ if1.true) read-mode.ensures g.given.1 c.with-member.ensures modes.given
+    moding_next _ _ pre.1 _ _ loop.invariant (sym is-mark.ensures ∙ if1.true) read-mode.ensures g.given.1 c.with-member.ensures modes.given
 
 ended-requires : tie.Need-ended-requires invariant-loop decreases-loop
-unfolding markAt
+unfolding mark_at
 ended-requires c κs =
     let loop = c.before.before.before.before.loop in
     (loop.invariant.going.inside, ends_at Modes _ _ Cl (λ t. refl) refl)
@@ -114,7 +114,7 @@ returns-2 c =
     let loop = c.before.before.before.before.before.loop in
     let is-mark = c.before.before.before.is-mark in
     let if1 = c.before.before.if1 in
-    moding-end _ _ pre.1 _ _ loop.invariant (sym is-mark.ensures ∙ if1.false) c.ended.ensures
+    moding_end _ _ pre.1 _ _ loop.invariant (sym is-mark.ensures ∙ if1.false) c.ended.ensures
 
 pub read-modes-spec : {M : Type 1} → statement M
 read-modes-spec =

@@ -1,6 +1,6 @@
 -- `reading::read_only` meets its contract: what reading a book comes to does not depend on the room. Assumes nothing.
 use borrow.Author.Rules.{rules}
-use Rattle.book.proofs.Laws.Held.{modeAt-zeros}
+use Rattle.book.proofs.Laws.Held.{mode_at_zeros}
 use Rattle.reading.proofs.read_only.Statement.{statement}
 use Rattle.reading.proofs.read_only.Tie as tie
 
@@ -11,7 +11,7 @@ slice-aggregate-read-into-2 : tie.Need-slice-aggregate-read-into-2
 slice-aggregate-read-into-2 c = search rules
 
 read-into-requires : tie.Need-read-into-requires
-read-into-requires c κs = modeAt-zeros 1
+read-into-requires c κs = mode_at_zeros 1
 
 returns : tie.Need-returns
 returns c = c.before.before.read-into.ensures.judges

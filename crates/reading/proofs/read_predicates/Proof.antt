@@ -5,11 +5,11 @@ use native.Mathlib.Omega.{arith}
 use lib.ListN.{length-set}
 use lib.ListN.{length, take}
 use borrow.Author.Rules.{rules}
-use Rattle.book.specs.Format.{markAt, predicate}
+use Rattle.book.specs.Format.{mark_at, predicate}
 use Rattle.book.specs.declared.mark.Mark.TheVariants.{Pr, Mo}
 use Rattle.book.specs.declared.mark.Phase.TheVariants.{Predicates}
-use Rattle.book.proofs.Laws.Marks.{sole-predicates}
-use Rattle.reading.proofs.Laws.Runs.{Going, mine-at, not-mine-at, mark-there, ends_at, going_start, going-full, going-bad, going_next, going_end, take_more, listed}
+use Rattle.book.proofs.Laws.Marks.{sole_predicates}
+use Rattle.reading.proofs.Laws.Runs.{Going, mine_at, not_mine_at, mark_there, ends_at, going_start, going_full, going_bad, going_next, going_end, take_more, listed}
 use Rattle.reading.proofs.read_predicates.Statement.{statement}
 use Rattle.reading.proofs.read_predicates.Tie as tie
 
@@ -30,14 +30,14 @@ returns c =
     let args = c.before.before.before.before.before.before.before.args in
     let loop = c.before.before.before.before.loop in
     let is-mark = c.before.before.is-mark in
-    (going-full _ _ _ _ _ loop.invariant.1 (mine-at Predicates Pr args.s.now loop.at refl (sym is-mark.ensures ∙ c.before.if1.true)) (omega arith), listed _ loop.invariant.0 loop.invariant.1.turns)
+    (going_full _ _ _ _ _ loop.invariant.1 (mine_at Predicates Pr args.s.now loop.at refl (sym is-mark.ensures ∙ c.before.if1.true)) (omega arith), listed _ loop.invariant.0 loop.invariant.1.turns)
 
 read-predicate-requires : tie.Need-read-predicate-requires invariant-loop decreases-loop
 read-predicate-requires c κs =
     let args = c.before.before.before.before.before.before.before.args in
     let loop = c.before.before.before.before.loop in
     let is-mark = c.before.before.is-mark in
-    mark-there Predicates args.s.now _ (mine-at Predicates Pr args.s.now loop.at refl (sym is-mark.ensures ∙ c.before.if1.true))
+    mark_there Predicates args.s.now _ (mine_at Predicates Pr args.s.now loop.at refl (sym is-mark.ensures ∙ c.before.if1.true))
 
 enum_told : tie.Need-enum-told invariant-loop decreases-loop
 enum_told c = search rules
@@ -50,7 +50,7 @@ returns-2 c =
     let is-mark = c.before.before.before.before.before.is-mark in
     let if1 = c.before.before.before.before.if1 in
     let read-predicate = c.before.before.read-predicate in
-    (going-bad _ _ _ _ _ loop.invariant.1 (mine-at Predicates Pr args.s.now loop.at refl (sym is-mark.ensures ∙ if1.true)) (omega arith) read-predicate.ensures c.enum_told.given.1, listed _ loop.invariant.0 loop.invariant.1.turns)
+    (going_bad _ _ _ _ _ loop.invariant.1 (mine_at Predicates Pr args.s.now loop.at refl (sym is-mark.ensures ∙ if1.true)) (omega arith) read-predicate.ensures c.enum_told.given.1, listed _ loop.invariant.0 loop.invariant.1.turns)
 
 enum-known-g : tie.Need-enum-known-g invariant-loop decreases-loop
 enum-known-g c = search rules
@@ -74,10 +74,10 @@ loop-again c =
     let is-mark = c.before.before.before.before.before.before.is-mark in
     let if1 = c.before.before.before.before.before.if1 in
     let read-predicate = c.before.before.before.read-predicate in
-    (simp length-set loop.invariant.0, going_next _ _ _ _ _ loop.invariant.1 (mine-at Predicates Pr args.s.now loop.at refl (sym is-mark.ensures ∙ if1.true)) (omega arith) read-predicate.ensures c.before.g.given.1 (take_more loop.bytes loop.n _ (let e = loop.invariant.0 in omega arith)))
+    (simp length-set loop.invariant.0, going_next _ _ _ _ _ loop.invariant.1 (mine_at Predicates Pr args.s.now loop.at refl (sym is-mark.ensures ∙ if1.true)) (omega arith) read-predicate.ensures c.before.g.given.1 (take_more loop.bytes loop.n _ (let e = loop.invariant.0 in omega arith)))
 
 ended-requires : tie.Need-ended-requires invariant-loop decreases-loop
-unfolding markAt
+unfolding mark_at
 ended-requires c κs =
     let loop = c.before.before.before.before.loop in
     (loop.invariant.1.inside, ends_at Predicates _ _ Mo (λ t. refl) refl)
@@ -88,7 +88,7 @@ returns-3 c =
     let loop = c.before.before.before.before.before.loop in
     let is-mark = c.before.before.before.is-mark in
     let if1 = c.before.before.if1 in
-    (going_end _ _ _ _ _ loop.invariant.1 (not-mine-at Predicates Pr args.s.now loop.at sole-predicates (sym is-mark.ensures ∙ if1.false)) c.ended.ensures, listed _ loop.invariant.0 loop.invariant.1.turns)
+    (going_end _ _ _ _ _ loop.invariant.1 (not_mine_at Predicates Pr args.s.now loop.at sole_predicates (sym is-mark.ensures ∙ if1.false)) c.ended.ensures, listed _ loop.invariant.0 loop.invariant.1.turns)
 
 pub read-predicates-spec : {M : Type 1} → statement M
 read-predicates-spec =

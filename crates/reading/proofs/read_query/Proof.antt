@@ -2,8 +2,8 @@
 use native.Mathlib.Omega.{arith}
 use borrow.Author.Rules.{rules}
 use Rattle.book.specs.declared.mark.Phase.TheVariants.{Query}
-use Rattle.book.proofs.Laws.Marks.{in-query}
-use Rattle.reading.proofs.Laws.Clauses.{query-bad, query-ended}
+use Rattle.book.proofs.Laws.Marks.{in_query}
+use Rattle.reading.proofs.Laws.Clauses.{query_bad, query_ended}
 use Rattle.reading.proofs.read_query.Statement.{statement}
 use Rattle.reading.proofs.read_query.Tie as tie
 
@@ -32,7 +32,7 @@ same_length c = search rules
 returns : tie.Need-returns
 returns c =
     let read-body = c.before.before.before.before.read-body in
-    query-bad Query in-query _ _ _ read-body.ensures c.enum_told.given.1
+    query_bad Query in_query _ _ _ read-body.ensures c.enum_told.given.1
 
 same-length-2 : tie.Need-same-length-2
 same-length-2 c = search rules
@@ -41,7 +41,7 @@ returns-2 : tie.Need-returns-2
 returns-2 c =
     let read-body = c.before.before.before.before.before.before.read-body in
     let b = c.before.before.b in
-    query-ended Query in-query _ _ _ read-body.ensures b.given.1 c.run_end.ensures
+    query_ended Query in_query _ _ _ read-body.ensures b.given.1 c.run_end.ensures
 
 pub read-query-spec : {M : Type 1} → statement M
 read-query-spec =

@@ -3,8 +3,8 @@ use mathlib.Core.Path.{sym}
 use native.Mathlib.Omega.{arith}
 use lib.Seq.{length-take-le}
 use borrow.Author.Rules.{rules}
-use Rattle.records.proofs.Laws.Reads.{next-inside}
-use Rattle.reading.proofs.Laws.Whole.{rules-unmoded, rules-unclaused, rules-asked, rules-read}
+use Rattle.records.proofs.Laws.Reads.{next_inside}
+use Rattle.reading.proofs.Laws.Whole.{rules_unmoded, rules_unclaused, rules_asked, rules_read}
 use Rattle.reading.proofs.read_rules.Statement.{statement}
 use Rattle.reading.proofs.read_rules.Tie as tie
 
@@ -30,14 +30,14 @@ same_length c = search rules
 returns : tie.Need-returns
 returns c =
     let read-modes = c.before.before.before.before.read-modes in
-    rules-unmoded _ _ _ _ read-modes.ensures _ c.enum_told.given.1
+    rules_unmoded _ _ _ _ read-modes.ensures _ c.enum_told.given.1
 
 read-clauses-requires : tie.Need-read-clauses-requires
 read-clauses-requires c κs =
     let pre = c.before.before.before.before.before.before.before.before.before.before.before.before.before.requires in
     let read-modes = c.before.before.before.before.before.before.read-modes in
     let f = c.before.before.f in
-    (next-inside read-modes.ensures.reads f.given.1, pre.2)
+    (next_inside read-modes.ensures.reads f.given.1, pre.2)
 
 enum-known-g : tie.Need-enum-known-g
 enum-known-g c = search rules
@@ -56,7 +56,7 @@ returns-2 c =
     let read-modes = c.before.before.before.before.before.before.before.before.before.before.before.read-modes in
     let f = c.before.before.before.before.before.before.before.f in
     let read-clauses = c.before.before.before.before.read-clauses in
-    rules-unclaused _ _ _ _ read-modes.ensures _ f.given.1 read-clauses.ensures c.enum-told2.given.1
+    rules_unclaused _ _ _ _ read-modes.ensures _ f.given.1 read-clauses.ensures c.enum-told2.given.1
 
 read-query-requires : tie.Need-read-query-requires
 read-query-requires c κs =
@@ -66,7 +66,7 @@ read-query-requires c κs =
     let f = c.before.before.before.before.before.before.before.before.before.f in
     let read-clauses = c.before.before.before.before.before.before.read-clauses in
     let g = c.before.before.g in
-    (rules-asked args.preds args.arities.now args.s.now args.from read-modes.ensures _ f.given.1 read-clauses.ensures g.given.1, pre.2)
+    (rules_asked args.preds args.arities.now args.s.now args.from read-modes.ensures _ f.given.1 read-clauses.ensures g.given.1, pre.2)
 
 same-length-4 : tie.Need-same-length-4
 same-length-4 c = search rules
@@ -82,7 +82,7 @@ returns-3 c =
     let rules = c.before.before.before.before.before.before.before.before.rules in
     let g = c.before.before.before.before.before.g in
     let read-query = c.before.before.read-query in
-    rules-read _ _ _ _ read-modes.ensures _ f.given.1 read-clauses.ensures g.given.1 rules.given read-query.ensures
+    rules_read _ _ _ _ read-modes.ensures _ f.given.1 read-clauses.ensures g.given.1 rules.given read-query.ensures
 
 pub read-rules-spec : {M : Type 1} → statement M
 read-rules-spec =

@@ -10,63 +10,63 @@ use lib.ListN.{length, get_or, take, drop}
 use lib.Seq.{ext_get_or}
 use lib.Pow.{are_bytes, pow-add, pow_mono, shl_exact}
 use borrow.Author.Tests.{lt-ltb, ltb-true, eqb-true, eqb-false}
-use Rattle.masks.specs.Limits.{maxArity}
+use Rattle.masks.specs.Limits.{max_arity}
 use Rattle.masks.specs.Lists.{values}
-use Rattle.masks.proofs.Laws.Logic.{byBool, and_intro, and_left, and_right}
-use Rattle.masks.proofs.Laws.Lists.{length-values, getD-values, take-values}
+use Rattle.masks.proofs.Laws.Logic.{by_bool, and_intro, and_left, and_right}
+use Rattle.masks.proofs.Laws.Lists.{length_values, get_or_values, take_values}
 use Rattle.book.specs.Book.{Head}
 use Rattle.book.specs.Format.{allows, byte, fields}
-use Rattle.book.specs.Held.{countIn, negatedIn, byte_of, headIn}
+use Rattle.book.specs.Held.{count_in, negated_in, byte_of, head_in}
 use Rattle.book.specs.declared.fault.Fault.{Fault}
 use Rattle.book.specs.declared.range.Range.{Range}
 use Rattle.book.specs.declared.range.Range.TheVariants.{Below}
-use Rattle.book.proofs.Laws.Words.{word_of, byteOf-wordOf}
+use Rattle.book.proofs.Laws.Words.{word_of, byte_of_word_of}
 use Rattle.records.specs.declared.field.Found.{Found}
 use Rattle.records.specs.declared.field.Found.TheVariants.{Next, Bad}
 use Rattle.records.specs.declared.field.FoundCall.{FoundCall}
 use Rattle.records.specs.Found.{Reads}
-use Rattle.records.specs.Stored.{argumentFrom, arguments, ReadsCall}
-use Rattle.records.proofs.Laws.Reads.{argument_is, no-wildcard-is, bad-next, then-bad, then_next, reads-map, Left, left-start, left-bad, left-next, left_end}
+use Rattle.records.specs.Stored.{argument_from, arguments, ReadsCall}
+use Rattle.records.proofs.Laws.Reads.{argument_is, no_wildcard_is, bad_next, then_bad, then_next, reads_map, Left, left_start, left_bad, left_next, left_end}
 
 -- ---- arguments
 
 -- the byte from which on a byte is an argument tells the range
-pub argument-from : (least x : ℕ) → 254 ≤ least → least ≤ 255 → x ≤ 255 → (leb x 15 || leb least x) ≡ allows (argumentFrom least) x
-argument-from least x l m h =
-    byBool (eqb least 255)
-    (λ t. let e = eqb-true least 255 t in rw e (no-wildcard-is x h))
+pub argument_from_lem : (least x : ℕ) → 254 ≤ least → least ≤ 255 → x ≤ 255 → (leb x 15 || leb least x) ≡ allows (argument_from least) x
+argument_from_lem least x l m h =
+    by_bool (eqb least 255)
+    (λ t. let e = eqb-true least 255 t in rw e (no_wildcard_is x h))
     (λ t. let ne = eqb-false least 255 t in let e : least ≡ 254 = omega (arith, ne) in rw e (argument_is x h))
 
 -- ---- bytes in a word
 
 -- a byte more is above all others
-wordOf-last : (l : List ℕ) (x : ℕ) → word_of (l ++ (x ∷ [])) ≡ word_of l + x * 2 ^ (8 * length l)
+word_of_last : (l : List ℕ) (x : ℕ) → word_of (l ++ (x ∷ [])) ≡ word_of l + x * 2 ^ (8 * length l)
 unfolding word_of
-wordOf-last [] x = omega arith
-wordOf-last (y ∷ l) x =
-    let r = wordOf-last l x in
+word_of_last [] x = omega arith
+word_of_last (y ∷ l) x =
+    let r = word_of_last l x in
     let e : 8 * suc (length l) ≡ 8 * length l + 8 = omega arith in
     let p : x * 2 ^ (8 * suc (length l)) ≡ x * 2 ^ (8 * length l) * 256 =
     ap (λ (k : ℕ). x * 2 ^ k) e ∙ ap (λ (k : ℕ). x * k) (pow-add 2 (8 * length l) 8) ∙ sym (mul_assoc x (2 ^ (8 * length l)) 256) in
     omega arith
 
-wordOf-less : (l : List ℕ) → are_bytes l ≡ true → word_of l < 2 ^ (8 * length l)
+word_of_less : (l : List ℕ) → are_bytes l ≡ true → word_of l < 2 ^ (8 * length l)
 unfolding word_of
-wordOf-less [] b = omega arith
-wordOf-less (x ∷ l) b =
+word_of_less [] b = omega arith
+word_of_less (x ∷ l) b =
     let h = ltb-true x 256 (and_left (ltb x 256) (are_bytes l) b) in
-    let less = wordOf-less l (and_right (ltb x 256) (are_bytes l) b) in
+    let less = word_of_less l (and_right (ltb x 256) (are_bytes l) b) in
     let e : 8 * suc (length l) ≡ 8 + 8 * length l = omega arith in
     rw (e, pow-add 2 8 (8 * length l)) (omega arith)
 
-areBytes-last : (l : List ℕ) (x : ℕ) → are_bytes l ≡ true → x < 256 → are_bytes (l ++ (x ∷ [])) ≡ true
-areBytes-last [] x b h = and_intro (lt-ltb x 256 h) refl
-areBytes-last (y ∷ l) x b h = and_intro (and_left (ltb y 256) (are_bytes l) b) (areBytes-last l x (and_right (ltb y 256) (are_bytes l) b) h)
+are_bytes_last : (l : List ℕ) (x : ℕ) → are_bytes l ≡ true → x < 256 → are_bytes (l ++ (x ∷ [])) ≡ true
+are_bytes_last [] x b h = and_intro (lt-ltb x 256 h) refl
+are_bytes_last (y ∷ l) x b h = and_intro (and_left (ltb y 256) (are_bytes l) b) (are_bytes_last l x (and_right (ltb y 256) (are_bytes l) b) h)
 
 -- a word of shift bits with a byte above them
 module _ (w shift x : ℕ) (h : shift ≤ 56) (l : w < 2 ^ shift) (b : x < 256) where
-  pub byte-shifted : (x * 2 ^ shift) % 2 ^ 64 ≡ x * 2 ^ shift
-  byte-shifted = shl_exact 8 shift 64 b (omega arith)
+  pub byte_shifted : (x * 2 ^ shift) % 2 ^ 64 ≡ x * 2 ^ shift
+  byte_shifted = shl_exact 8 shift 64 b (omega arith)
 
   pub byte_above : w + x * 2 ^ shift < 2 ^ 64
   byte_above =
@@ -76,20 +76,20 @@ module _ (w shift x : ℕ) (h : shift ≤ 56) (l : w < 2 ^ shift) (b : x < 256) 
       omega arith
 
 -- the word of a call says the call
-headIn-word : (p k n : ℕ) (args : List ℕ) → countIn k ≡ n → n ≤ maxArity → length args ≡ n → are_bytes (p ∷ k ∷ args) ≡ true
-    → ◌≡◌ {A = Head} (headIn (word_of (p ∷ k ∷ args))) (record { pred = p; args = args })
-headIn-word p k n args c few size b =
-    let is = byteOf-wordOf (p ∷ k ∷ args) b in
-    let m : min n maxArity ≡ n = omega arith in
+head_in_word : (p k n : ℕ) (args : List ℕ) → count_in k ≡ n → n ≤ max_arity → length args ≡ n → are_bytes (p ∷ k ∷ args) ≡ true
+    → ◌≡◌ {A = Head} (head_in (word_of (p ∷ k ∷ args))) (record { pred = p; args = args })
+head_in_word p k n args c few size b =
+    let is = byte_of_word_of (p ∷ k ∷ args) b in
+    let m : min n max_arity ≡ n = omega arith in
     ap₂ (λ (q : ℕ) (s : List ℕ). record { pred = q; args = s }) (is 0)
-    (ap (λ (j : ℕ). take (countIn j) (values at maxArity)) (is 1)
-    ∙ ap (λ (j : ℕ). take j (values at maxArity)) c
-    ∙ take-values at n maxArity
+    (ap (λ (j : ℕ). take (count_in j) (values at max_arity)) (is 1)
+    ∙ ap (λ (j : ℕ). take j (values at max_arity)) c
+    ∙ take_values at n max_arity
     ∙ ap (values at) m
-    ∙ ext_get_or 0 (values at n) args (length-values at n ∙ sym size)
+    ∙ ext_get_or 0 (values at n) args (length_values at n ∙ sym size)
     (λ j d.
     let e : 2 + j ≡ suc (suc j) = omega arith in
-    getD-values at 0 n j (omega (arith, length-values at n)) ∙ ap (byte_of (word_of (p ∷ k ∷ args))) e ∙ is (suc (suc j))))
+    get_or_values at 0 n j (omega (arith, length_values at n)) ∙ ap (byte_of (word_of (p ∷ k ∷ args))) e ∙ is (suc (suc j))))
   where
     at : ℕ → ℕ
     at j = byte_of (word_of (p ∷ k ∷ args)) (2 + j)
@@ -105,12 +105,12 @@ pub record Calling (r : Range) (s : List ℕ) (p k n from at i shift w : ℕ) : 
   pub place : shift ≡ 16 + 8 * i
 
 module _ (r : Range) (s : List ℕ) (p k n from : ℕ) where
-  pub calling-start : from ≤ length s → p < 256 → k < 256 → Calling r s p k n from from 0 16 (k * 256 + p)
+  pub calling_start : from ≤ length s → p < 256 → k < 256 → Calling r s p k n from from 0 16 (k * 256 + p)
   unfolding word_of
-  calling-start h bp bn =
+  calling_start h bp bn =
       record {
         args = [];
-        left = left-start r s n from h;
+        left = left_start r s n from h;
         bytes = and_intro (lt-ltb p 256 bp) (and_intro (lt-ltb k 256 bn) refl);
         word = omega arith;
         place = refl;
@@ -120,33 +120,33 @@ module _ (r : Range) (s : List ℕ) (p k n from : ℕ) where
     size : 8 * length (p ∷ k ∷ c.args) ≡ shift
     size = let e = c.left.size in let f = c.place in omega arith
 
-    pub calling-less : w < 2 ^ shift
-    calling-less = let l = wordOf-less (p ∷ k ∷ c.args) c.bytes in rw c.word (subst (λ (j : ℕ). word_of (p ∷ k ∷ c.args) < 2 ^ j) size l)
+    pub calling_less : w < 2 ^ shift
+    calling_less = let l = word_of_less (p ∷ k ∷ c.args) c.bytes in rw c.word (subst (λ (j : ℕ). word_of (p ∷ k ∷ c.args) < 2 ^ j) size l)
 
     module _ (h : i < n) {g : Found} (w· : Reads s g (λ x. x) (byte r (drop at s))) where
-      pub calling-bad : {negated : Bool} {v : Fault} {q : ℕ} → g ≡ Bad v q → ReadsCall s (record { found = g; call = w }) negated (arguments r p n (drop from s))
+      pub calling_bad : {negated : Bool} {v : Fault} {q : ℕ} → g ≡ Bad v q → ReadsCall s (record { found = g; call = w }) negated (arguments r p n (drop from s))
       unfolding arguments
-      calling-bad e = record { reads = then-bad _ (left-bad r s n from c.left h w· {f = λ j. []} e) e; sign = λ at m d. bad-next e d }
+      calling_bad e = record { reads = then_bad _ (left_bad r s n from c.left h w· {f = λ j. []} e) e; sign = λ at m d. bad_next e d }
 
-      pub calling-next : {next x more : ℕ} → g ≡ Next next x → x < 256 → more ≡ w + x * 2 ^ shift → Calling r s p k n from next (i + 1) (shift + 8) more
-      calling-next {next} {x} e b d =
+      pub calling_next : {next x more : ℕ} → g ≡ Next next x → x < 256 → more ≡ w + x * 2 ^ shift → Calling r s p k n from next (i + 1) (shift + 8) more
+      calling_next {next} {x} e b d =
           record {
             args = c.args ++ (x ∷ []);
-            left = left-next r s n from c.left h w· e;
-            bytes = areBytes-last (p ∷ k ∷ c.args) x c.bytes b;
-            word = d ∙ ap₂ (λ (a j : ℕ). a + x * 2 ^ j) c.word (sym size) ∙ sym (wordOf-last (p ∷ k ∷ c.args) x);
+            left = left_next r s n from c.left h w· e;
+            bytes = are_bytes_last (p ∷ k ∷ c.args) x c.bytes b;
+            word = d ∙ ap₂ (λ (a j : ℕ). a + x * 2 ^ j) c.word (sym size) ∙ sym (word_of_last (p ∷ k ∷ c.args) x);
             place = let f = c.place in omega arith;
           }
 
-    pub calling-end : {negated : Bool} → (countIn k ≡ n) × (negatedIn k ≡ negated) → n ≤ maxArity → n ≤ i
+    pub calling_end : {negated : Bool} → (count_in k ≡ n) × (negated_in k ≡ negated) → n ≤ max_arity → n ≤ i
         → ReadsCall s (record { found = Next at 0; call = w }) negated (arguments r p n (drop from s))
     unfolding arguments
-    calling-end counts few h =
+    calling_end counts few h =
         let e : length c.args ≡ n = (let t = c.left.turns in let z = c.left.size in omega arith) in
-        let is : headIn w ≡ record { pred = p; args = c.args } = ap headIn c.word ∙ headIn-word p k n c.args counts.0 few e c.bytes in
+        let is : head_in w ≡ record { pred = p; args = c.args } = ap head_in c.word ∙ head_in_word p k n c.args counts.0 few e c.bytes in
         record {
-          reads = rw is (reads-map (λ (l : List ℕ). record { pred = p; args = l }) (left_end r s n from c.left 0 h));
-          sign = λ a m d. ap (λ (x : ℕ). negatedIn (byte_of x 1)) c.word ∙ ap negatedIn (byteOf-wordOf (p ∷ k ∷ c.args) c.bytes 1) ∙ counts.1;
+          reads = rw is (reads_map (λ (l : List ℕ). record { pred = p; args = l }) (left_end r s n from c.left 0 h));
+          sign = λ a m d. ap (λ (x : ℕ). negated_in (byte_of x 1)) c.word ∙ ap negated_in (byte_of_word_of (p ∷ k ∷ c.args) c.bytes 1) ∙ counts.1;
         }
 
 -- ---- a call
@@ -154,9 +154,9 @@ module _ (r : Range) (s : List ℕ) (p k n from : ℕ) where
 module _ (range : Range) (ar s : List ℕ) (at : ℕ) {g : Found} (w : Reads s g (λ x. x) (byte (Below (length ar)) (drop at s))) where
   pub call_none : {negated : Bool} {word : ℕ} {v : Fault} {p : ℕ} → g ≡ Bad v p → ReadsCall s (record { found = g; call = word }) negated (fields range ar (drop at s))
   unfolding fields
-  call_none e = record { reads = then-bad _ w e; sign = λ a m d. bad-next e d }
+  call_none e = record { reads = then_bad _ w e; sign = λ a m d. bad_next e d }
 
-  pub call-read : {next p : ℕ} {c : FoundCall} {negated : Bool} → g ≡ Next next p → ReadsCall s c negated (arguments range p (get_or ar p 0) (drop next s))
+  pub call_read : {next p : ℕ} {c : FoundCall} {negated : Bool} → g ≡ Next next p → ReadsCall s c negated (arguments range p (get_or ar p 0) (drop next s))
       → ReadsCall s c negated (fields range ar (drop at s))
   unfolding fields arguments
-  call-read e v = record { reads = then_next _ w e v.reads; sign = v.sign }
+  call_read e v = record { reads = then_next _ w e v.reads; sign = v.sign }

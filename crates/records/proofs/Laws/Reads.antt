@@ -9,17 +9,17 @@ use lib.Dec.{eqb, leb}
 use lib.ListN.{length, get_or, drop, length-drop, length-append, drop_of_length-le}
 use lib.Seq.{drop-cons, drop-drop}
 use borrow.Author.Tests.{leb-true, le-leb, ltb-true, eqb-true, eqb-false, eq-eqb}
-use Rattle.masks.specs.Limits.{maxArity}
-use Rattle.masks.proofs.Laws.Logic.{byBool, same, or_left, or_right, or_case}
-use Rattle.book.specs.Book.{subgoalOf}
-use Rattle.book.specs.Format.{spelling, leads, allows, Got, got, and_then, byte, bytes, predicate, fields, argumentIn, subgoal}
-use Rattle.book.specs.Held.{headIn, call_in}
+use Rattle.masks.specs.Limits.{max_arity}
+use Rattle.masks.proofs.Laws.Logic.{by_bool, same, or_left, or_right, or_case}
+use Rattle.book.specs.Book.{subgoal_of}
+use Rattle.book.specs.Format.{spelling, leads, allows, Got, got, and_then, byte, bytes, predicate, fields, argument_in, subgoal}
+use Rattle.book.specs.Held.{head_in, call_in}
 use Rattle.book.specs.declared.fault.Fault.{Fault}
 use Rattle.book.specs.declared.fault.Fault.TheVariants.{PastEnd, OutOfRange}
 use Rattle.book.specs.declared.mark.Mark.TheVariants.{Ng}
 use Rattle.book.specs.declared.range.Range.{Range}
 use Rattle.book.specs.declared.range.Range.TheVariants.{Below, AtMost, Argument, NoWildcard}
-use Rattle.book.proofs.Laws.Got.{byte-inv}
+use Rattle.book.proofs.Laws.Got.{byte_inv}
 use Rattle.records.specs.declared.field.Found.{Found}
 use Rattle.records.specs.declared.field.Found.TheVariants.{Next, Bad}
 use Rattle.records.specs.declared.field.FoundCall.{FoundCall}
@@ -33,13 +33,13 @@ unfolding allows
 argument_is x h =
     ap (λ (b : Bool). leb x 15 || b)
     (same (leb 254 x) (eqb x 254 || eqb x 255)
-    (λ t. let l = leb-true 254 x t in byBool (eqb x 254) (λ e. or_left (eqb x 254) (eqb x 255) e)
+    (λ t. let l = leb-true 254 x t in by_bool (eqb x 254) (λ e. or_left (eqb x 254) (eqb x 255) e)
     (λ e. or_right (eqb x 254) (eq-eqb x 255 (let n : x ≡ 254 → ⊥ = eqb-false x 254 e in omega arith))))
     (λ t. or_case (eqb x 254) (eqb x 255) t (λ e. let q = eqb-true x 254 e in le-leb 254 x (omega arith)) (λ e. let q = eqb-true x 255 e in le-leb 254 x (omega arith))))
 
-pub no-wildcard-is : (x : ℕ) → x ≤ 255 → (leb x 15 || leb 255 x) ≡ allows NoWildcard x
+pub no_wildcard_is : (x : ℕ) → x ≤ 255 → (leb x 15 || leb 255 x) ≡ allows NoWildcard x
 unfolding allows
-no-wildcard-is x h =
+no_wildcard_is x h =
     ap (λ (b : Bool). leb x 15 || b)
     (same (leb 255 x) (eqb x 255) (λ t. let l = leb-true 255 x t in eq-eqb x 255 (omega arith)) (λ e. let q = eqb-true x 255 e in le-leb 255 x (omega arith)))
 
@@ -52,30 +52,30 @@ module _ (r : Range) (s : List ℕ) (at : ℕ) where
   pub byte_past : at ≤ length s → length s ≤ at → Reads s (Bad PastEnd at) (λ x. x) (byte r (drop at s))
   byte_past g h = let z : length s - at ≡ 0 = omega arith in record { inside = g; is = rw (drop_of_length-le s h, z) }
 
-  pub byte-out : at < length s → allows r (get_or s at 0) ≡ false → Reads s (Bad OutOfRange at) (λ x. x) (byte r (drop at s))
-  byte-out h t =
+  pub byte_out : at < length s → allows r (get_or s at 0) ≡ false → Reads s (Bad OutOfRange at) (λ x. x) (byte r (drop at s))
+  byte_out h t =
       let z : suc (length (drop (at + 1) s)) ≡ length s - at = simp length-drop (omega arith) in
       record { inside = omega arith; is = rw (drop_at s at h, t, z) }
 
-  pub byte-in : at < length s → allows r (get_or s at 0) ≡ true → Reads s (Next (at + 1) (get_or s at 0)) (λ x. x) (byte r (drop at s))
-  byte-in h t = record { inside = omega arith; is = rw (drop_at s at h, t) }
+  pub byte_in : at < length s → allows r (get_or s at 0) ≡ true → Reads s (Next (at + 1) (get_or s at 0)) (λ x. x) (byte r (drop at s))
+  byte_in h t = record { inside = omega arith; is = rw (drop_at s at h, t) }
 
 -- a byte that was read is in its range
-pub byte-allowed : (r : Range) (s : List ℕ) (at : ℕ) {next x : ℕ} → Reads s (Next next x) (λ y. y) (byte r (drop at s)) → allows r x ≡ true
-byte-allowed r s at w = (byte-inv r (drop at s) (sym w.is)).1
+pub byte_allowed : (r : Range) (s : List ℕ) (at : ℕ) {next x : ℕ} → Reads s (Next next x) (λ y. y) (byte r (drop at s)) → allows r x ≡ true
+byte_allowed r s at w = (byte_inv r (drop at s) (sym w.is)).1
 
 -- ---- what was read, then what follows
 
 -- an answer is a fault or not, and has one byte
-pub bad-next : {P : Type 0} {r : Found} {v : Fault} {k at n : ℕ} → r ≡ Bad v k → r ≡ Next at n → P
-bad-next e d = let z : ◌≡◌ {A = ℕ} 0 1 = cc in absurd (omega arith)
+pub bad_next : {P : Type 0} {r : Found} {v : Fault} {k at n : ℕ} → r ≡ Bad v k → r ≡ Next at n → P
+bad_next e d = let z : ◌≡◌ {A = ℕ} 0 1 = cc in absurd (omega arith)
 
-pub next-byte : {at n next m : ℕ} → Next at n ≡ Next next m → n ≡ m
-next-byte e = cc
+pub next_byte : {at n next m : ℕ} → Next at n ≡ Next next m → n ≡ m
+next_byte e = cc
 
 module _ {A B : Type 0} {s : List ℕ} {r : Found} {f : ℕ → A} {g : Got A} (k : A → List ℕ → Got B) (w : Reads s r f g) where
-  pub then-bad : {h : ℕ → B} {v : Fault} {at : ℕ} → r ≡ Bad v at → Reads s r h (and_then g k)
-  then-bad {h} {v} {at} e =
+  pub then_bad : {h : ℕ → B} {v : Fault} {at : ℕ} → r ≡ Bad v at → Reads s r h (and_then g k)
+  then_bad {h} {v} {at} e =
       let u : Reads s (Bad v at) f g = subst (λ (q : Found). Reads s q f g) e w in
       subst (λ (q : Found). Reads s q h (and_then g k)) (sym e) (record { inside = u.inside; is = ap (λ (q : Got A). and_then q k) u.is })
 
@@ -85,8 +85,8 @@ module _ {A B : Type 0} {s : List ℕ} {r : Found} {f : ℕ → A} {g : Got A} (
       record { inside = v.inside; is = v.is ∙ ap (λ (p : Got A). and_then p k) u.is }
 
 -- a value made of another
-pub reads-map : {A B : Type 0} {s : List ℕ} {r : Found} {f : ℕ → A} {g : Got A} (m : A → B) → Reads s r f g → Reads s r (λ n. m (f n)) (and_then g (λ a t. got (m a) t))
-reads-map {A} {B} {s} {r} {f} {g} m w = record { inside = w.inside; is = go r ∙ ap (λ (q : Got A). and_then q (λ a t. got (m a) t)) w.is }
+pub reads_map : {A B : Type 0} {s : List ℕ} {r : Found} {f : ℕ → A} {g : Got A} (m : A → B) → Reads s r f g → Reads s r (λ n. m (f n)) (and_then g (λ a t. got (m a) t))
+reads_map {A} {B} {s} {r} {f} {g} m w = record { inside = w.inside; is = go r ∙ ap (λ (q : Got A). and_then q (λ a t. got (m a) t)) w.is }
   where
     go : (q : Found) → means s q (λ n. m (f n)) ≡ and_then (means s q f) (λ a t. got (m a) t)
     go (Next at n) = refl
@@ -101,8 +101,8 @@ reads_same {A} {s} {r} {f} {h} e w = record { inside = w.inside; is = go r e ∙
     go (Bad v at) d = refl
 
 -- the fields of a record stand after its mark
-pub after-mark : (s : List ℕ) (at : ℕ) → drop 2 (drop at s) ≡ drop (at + 2) s
-after-mark s at = drop-drop 2 at s
+pub after_mark : (s : List ℕ) (at : ℕ) → drop 2 (drop at s) ≡ drop (at + 2) s
+after_mark s at = drop-drop 2 at s
 
 -- ---- k bytes, one at a time: what is still to be read, after those of acc, comes to what the whole comes to
 
@@ -113,8 +113,8 @@ pub record Left (r : Range) (s : List ℕ) (k from at i : ℕ) (acc : List ℕ) 
   pub kept : bytes r (k - i) acc (drop at s) ≡ bytes r k [] (drop from s)
 
 module _ (r : Range) (s : List ℕ) (k from : ℕ) where
-  pub left-start : from ≤ length s → Left r s k from from 0 []
-  left-start h = record { inside = h; turns = omega arith; size = refl; kept = let e : k - 0 ≡ k = omega arith in rw e }
+  pub left_start : from ≤ length s → Left r s k from from 0 []
+  left_start h = record { inside = h; turns = omega arith; size = refl; kept = let e : k - 0 ≡ k = omega arith in rw e }
 
   module _ {at i : ℕ} {acc : List ℕ} (l : Left r s k from at i acc) where
     one : i < k → bytes r (k - i) acc (drop at s) ≡ and_then (byte r (drop at s)) (λ x t. bytes r (k - (i + 1)) (acc ++ (x ∷ [])) t)
@@ -122,13 +122,13 @@ module _ (r : Range) (s : List ℕ) (k from : ℕ) where
     one h = let e : k - i ≡ suc (k - (i + 1)) = omega arith in rw e
 
     module _ (h : i < k) {g : Found} (w : Reads s g (λ x. x) (byte r (drop at s))) where
-      pub left-bad : {f : ℕ → List ℕ} {v : Fault} {p : ℕ} → g ≡ Bad v p → Reads s g f (bytes r k [] (drop from s))
-      left-bad {f} e =
-          let u = then-bad (λ x t. bytes r (k - (i + 1)) (acc ++ (x ∷ [])) t) w {h = f} e in
+      pub left_bad : {f : ℕ → List ℕ} {v : Fault} {p : ℕ} → g ≡ Bad v p → Reads s g f (bytes r k [] (drop from s))
+      left_bad {f} e =
+          let u = then_bad (λ x t. bytes r (k - (i + 1)) (acc ++ (x ∷ [])) t) w {h = f} e in
           record { inside = u.inside; is = u.is ∙ (sym (one h) ∙ l.kept) }
 
-      pub left-next : {next x : ℕ} → g ≡ Next next x → Left r s k from next (i + 1) (acc ++ (x ∷ []))
-      left-next {next} {x} e =
+      pub left_next : {next x : ℕ} → g ≡ Next next x → Left r s k from next (i + 1) (acc ++ (x ∷ []))
+      left_next {next} {x} e =
           let u : Reads s (Next next x) (λ y. y) (byte r (drop at s)) = subst (λ (q : Found). Reads s q (λ y. y) (byte r (drop at s))) e w in
           let step : bytes r (k - (i + 1)) (acc ++ (x ∷ [])) (drop next s) ≡ bytes r (k - i) acc (drop at s) =
           ap (λ (q : Got ℕ). and_then q (λ y t. bytes r (k - (i + 1)) (acc ++ (y ∷ [])) t)) u.is ∙ sym (one h) in
@@ -142,24 +142,24 @@ module _ (r : Range) (s : List ℕ) (k from : ℕ) where
         record { inside = l.inside; is = rw z at l.kept }
 
 -- what a predicate that was read is
-pub predicate-known : (ar s : List ℕ) (at : ℕ) {g : Found} → Reads s g (λ x. x) (byte (Below (length ar)) (drop at s)) → {next p : ℕ} → g ≡ Next next p → p < length ar
+pub predicate_known : (ar s : List ℕ) (at : ℕ) {g : Found} → Reads s g (λ x. x) (byte (Below (length ar)) (drop at s)) → {next p : ℕ} → g ≡ Next next p → p < length ar
 unfolding allows
-predicate-known ar s at {g} w {next} {p} e =
-    ltb-true p (length ar) (byte-allowed (Below (length ar)) s at (subst (λ (q : Found). Reads s q (λ x. x) (byte (Below (length ar)) (drop at s))) e w))
+predicate_known ar s at {g} w {next} {p} e =
+    ltb-true p (length ar) (byte_allowed (Below (length ar)) s at (subst (λ (q : Found). Reads s q (λ x. x) (byte (Below (length ar)) (drop at s))) e w))
 
-pub next-inside : {A : Type 0} {s : List ℕ} {g : Found} {f : ℕ → A} {x : Got A} → Reads s g f x → {next n : ℕ} → g ≡ Next next n → next ≤ length s
-next-inside {A} {s} w e = subst (λ (q : Found). place_of q ≤ length s) e w.inside
+pub next_inside : {A : Type 0} {s : List ℕ} {g : Found} {f : ℕ → A} {x : Got A} → Reads s g f x → {next n : ℕ} → g ≡ Next next n → next ≤ length s
+next_inside {A} {s} w e = subst (λ (q : Found). place_of q ≤ length s) e w.inside
 
 -- ---- records
 
 module _ (s : List ℕ) (at : ℕ) {r : Found} where
-  pub predicate-reads : Reads s r (λ a. a) (byte (AtMost maxArity) (drop (at + 2) s)) → Reads s r (λ a. a) (predicate [] (drop at s))
+  pub predicate_reads : Reads s r (λ a. a) (byte (AtMost max_arity) (drop (at + 2) s)) → Reads s r (λ a. a) (predicate [] (drop at s))
   unfolding predicate
-  predicate-reads w = rw after-mark w
+  predicate_reads w = rw after_mark w
 
 -- a subgoal by its mark
-pub subgoal-reads : (s : List ℕ) (at : ℕ) (ar : List ℕ) (negated : Bool) {c : FoundCall} → leads (spelling Ng) (drop at s) ≡ negated
-    → ReadsCall s c negated (fields (argumentIn negated) ar (drop (at + 2) s)) → Reads s c.found (λ n. call_in c.call) (subgoal ar [] (drop at s))
+pub subgoal_reads : (s : List ℕ) (at : ℕ) (ar : List ℕ) (negated : Bool) {c : FoundCall} → leads (spelling Ng) (drop at s) ≡ negated
+    → ReadsCall s c negated (fields (argument_in negated) ar (drop (at + 2) s)) → Reads s c.found (λ n. call_in c.call) (subgoal ar [] (drop at s))
 unfolding subgoal
-subgoal-reads s at ar negated {c} t w =
-    rw (t, after-mark) (reads_same (λ q n e. ap (λ (b : Bool). subgoalOf b (headIn c.call)) (w.sign q n e)) (reads-map (subgoalOf negated) w.reads))
+subgoal_reads s at ar negated {c} t w =
+    rw (t, after_mark) (reads_same (λ q n e. ap (λ (b : Bool). subgoal_of b (head_in c.call)) (w.sign q n e)) (reads_map (subgoal_of negated) w.reads))

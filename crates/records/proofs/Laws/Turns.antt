@@ -7,7 +7,7 @@ use native.Mathlib.Omega.{arith}
 use lib.Dec.{eqb}
 use lib.ListN.{length, get_or, drop, length-drop, drop_of_length-le}
 use borrow.Author.Tests.{eq-eqb, ne_eqb}
-use Rattle.book.specs.Format.{place, leads, unmarked, markAt, turn}
+use Rattle.book.specs.Format.{place, leads, unmarked, mark_at, turn}
 use Rattle.book.specs.declared.fault.Fault.{Fault}
 use Rattle.book.specs.declared.mark.Mark.TheVariants.{Other, Half, End}
 use Rattle.book.specs.declared.mark.Phase.{Phase}
@@ -29,8 +29,8 @@ module _ (s : List ℕ) (at : ℕ) where
   two : at + 1 < length s → drop at s ≡ get_or s at 0 ∷ get_or s (at + 1) 0 ∷ drop (at + 1 + 1) s
   two h = drop_at s at (omega arith) ∙ ap (λ (l : List ℕ). get_or s at 0 ∷ l) (drop_at s (at + 1) h)
 
-  pub leads-short : (m : List ℕ) → length s - at < 2 → false ≡ leads m (drop at s)
-  leads-short m h = go (drop at s) (let e : length (drop at s) ≡ length s - at = length-drop at s in omega arith)
+  pub leads_short : (m : List ℕ) → length s - at < 2 → false ≡ leads m (drop at s)
+  leads_short m h = go (drop at s) (let e : length (drop at s) ≡ length s - at = length-drop at s in omega arith)
     where
       go : (t : List ℕ) → length t < 2 → false ≡ leads m t
       go [] g = refl
@@ -38,29 +38,29 @@ module _ (s : List ℕ) (at : ℕ) where
       go (x ∷ y ∷ t) g = absurd (omega arith)
 
   module _ (m : List ℕ) (h : at + 1 < length s) where
-    pub leads-other : (get_or s at 0 ≡ get_or m 0 0 → ⊥) → false ≡ leads m (drop at s)
-    leads-other n = sym (ap (leads m) (two h) ∙ ap (λ (b : Bool). b && eqb (get_or s (at + 1) 0) (get_or m 1 0)) (ne_eqb _ _ n))
+    pub leads_other : (get_or s at 0 ≡ get_or m 0 0 → ⊥) → false ≡ leads m (drop at s)
+    leads_other n = sym (ap (leads m) (two h) ∙ ap (λ (b : Bool). b && eqb (get_or s (at + 1) 0) (get_or m 1 0)) (ne_eqb _ _ n))
 
-    pub leads-same : get_or s at 0 ≡ get_or m 0 0 → eqb (get_or s (at + 1) 0) (get_or m 1 0) ≡ leads m (drop at s)
-    leads-same e = sym (ap (leads m) (two h) ∙ ap (λ (b : Bool). b && eqb (get_or s (at + 1) 0) (get_or m 1 0)) (eq-eqb _ _ e))
+    pub leads_same : get_or s at 0 ≡ get_or m 0 0 → eqb (get_or s (at + 1) 0) (get_or m 1 0) ≡ leads m (drop at s)
+    leads_same e = sym (ap (leads m) (two h) ∙ ap (λ (b : Bool). b && eqb (get_or s (at + 1) 0) (get_or m 1 0)) (eq-eqb _ _ e))
 
-  pub unmarked-end : length s ≤ at → End ≡ unmarked (drop at s)
-  unmarked-end h = sym (ap unmarked (none h))
+  pub unmarked_end : length s ≤ at → End ≡ unmarked (drop at s)
+  unmarked_end h = sym (ap unmarked (none h))
 
-  pub unmarked-half : at + 1 ≡ length s → Half ≡ unmarked (drop at s)
-  unmarked-half h = sym (ap unmarked (one h))
+  pub unmarked_half : at + 1 ≡ length s → Half ≡ unmarked (drop at s)
+  unmarked_half h = sym (ap unmarked (one h))
 
-  pub unmarked-other : at + 1 < length s → Other ≡ unmarked (drop at s)
-  unmarked-other h = sym (ap unmarked (two h))
+  pub unmarked_other : at + 1 < length s → Other ≡ unmarked (drop at s)
+  unmarked_other h = sym (ap unmarked (two h))
 
 -- ---- the end of a run
 
 module _ {A : Type 0} (p : Phase) (s : List ℕ) (at : ℕ) (h : at ≤ length s) (f : ℕ → A) (n : ℕ) where
-  pub stops-no : {v : Fault} → turn p (markAt (drop at s)) ≡ No v → Reads s (Bad v (place v (length s) at)) f (stops p (f n) (drop at s))
-  stops-no {v} e = let (i, z) = place_inside v h in record { inside = i; is = rw (e, length-drop, z) }
+  pub stops_no : {v : Fault} → turn p (mark_at (drop at s)) ≡ No v → Reads s (Bad v (place v (length s) at)) f (stops p (f n) (drop at s))
+  stops_no {v} e = let (i, z) = place_inside v h in record { inside = i; is = rw (e, length-drop, z) }
 
-  pub stops-over : turn p (markAt (drop at s)) ≡ Over → Reads s (Next at n) f (stops p (f n) (drop at s))
-  stops-over e = record { inside = h; is = rw e }
+  pub stops_over : turn p (mark_at (drop at s)) ≡ Over → Reads s (Next at n) f (stops p (f n) (drop at s))
+  stops_over e = record { inside = h; is = rw e }
 
-  pub stops-mine : turn p (markAt (drop at s)) ≡ Mine → Reads s (Next at n) f (stops p (f n) (drop at s))
-  stops-mine e = record { inside = h; is = rw e }
+  pub stops_mine : turn p (mark_at (drop at s)) ≡ Mine → Reads s (Next at n) f (stops p (f n) (drop at s))
+  stops_mine e = record { inside = h; is = rw e }

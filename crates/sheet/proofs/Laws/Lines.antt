@@ -10,32 +10,32 @@ use borrow.Author.Tests.{lt-ltb, le-ltb}
 use Rattle.book.specs.Encode.{run}
 use Rattle.writing.specs.Wrote.{Room, Wrote}
 use Rattle.printing.specs.Sheet.{after, field, slashed, line, listing}
-use Rattle.sheet.specs.Records.{listedCount, listedIn, trailIn, lineIn, linesIn}
-use Rattle.writing.proofs.Laws.Wrote.{wrote-nil, wrote-append, wrote_as, wrote-length, room-first, room-second}
+use Rattle.sheet.specs.Records.{listed_count, listed_in, trail_in, line_in, lines_in}
+use Rattle.writing.proofs.Laws.Wrote.{wrote_nil, wrote_append, wrote_as, wrote_length, room_first, room_second}
 use Rattle.writing.proofs.Laws.Chunks.{Chunks}
-use Rattle.writing.proofs.Laws.Runs.{run-snoc}
+use Rattle.writing.proofs.Laws.Runs.{run_snoc}
 
 -- ---- a run of numbers, each after what parts it from the one before
 
 module _ (part l : List ℕ) where
-  abbrev pub fieldsTo : ℕ → List ℕ
-  fieldsTo i = run (after part) (take i l)
+  abbrev pub fields_to : ℕ → List ℕ
+  fields_to i = run (after part) (take i l)
 
   abbrev pub field_at : ℕ → List ℕ
   field_at i = after part (get_or l i 0)
 
-  pub fields-chunks : Chunks (length l) fieldsTo field_at (run (after part) l)
-  fields-chunks =
+  pub fields_chunks : Chunks (length l) fields_to field_at (run (after part) l)
+  fields_chunks =
       record {
         none = refl;
-        next = λ i h. rw (add-one, take-suc l i 0 h) (run-snoc (after part) (take i l) (get_or l i 0));
+        next = λ i h. rw (add-one, take-suc l i 0 h) (run_snoc (after part) (take i l) (get_or l i 0));
         whole = ap (run (after part)) (take-length l);
       }
 
 -- fields are listed, or what stands for none is
-pub listing-some : (none l : List ℕ) → (length l ≡ 0 → ⊥) → listing none l ≡ run field l
-listing-some none [] h = absurd (h refl)
-listing-some none (x ∷ l) h = refl
+pub listing_some : (none l : List ℕ) → (length l ≡ 0 → ⊥) → listing none l ≡ run field l
+listing_some none [] h = absurd (h refl)
+listing_some none (x ∷ l) h = refl
 
 pub listing_none : (none l : List ℕ) → length l ≡ 0 → listing none l ≡ none
 listing_none none [] h = refl
@@ -46,41 +46,41 @@ listing_none none (x ∷ l) h = absurd (omega arith)
 module _ {a b : List ℕ} {letter at p : ℕ} (fields : List ℕ) (w : Wrote a b at p (letter ∷ [])) (r : Room a at (line letter fields)) where
   -- where the letter is written, there is room for the fields, and where they are, for the newline
   pub room_fields : Room b p fields
-  room_fields = let f = room-second (fields ++ (10 ∷ [])) w r in let e = length-append fields (10 ∷ []) in omega arith
+  room_fields = let f = room_second (fields ++ (10 ∷ [])) w r in let e = length-append fields (10 ∷ []) in omega arith
 
-  pub room-newline : {c : List ℕ} {q : ℕ} → Wrote b c p q fields → Room c q (10 ∷ [])
-  room-newline v = room-second (10 ∷ []) v (room-second (fields ++ (10 ∷ [])) w r)
+  pub room_newline : {c : List ℕ} {q : ℕ} → Wrote b c p q fields → Room c q (10 ∷ [])
+  room_newline v = room_second (10 ∷ []) v (room_second (fields ++ (10 ∷ [])) w r)
 
-pub wrote-line : {a b c d fields : List ℕ} {letter at p q n : ℕ} → Wrote a b at p (letter ∷ []) → Wrote b c p q fields → Wrote c d q n (10 ∷ [])
+pub wrote_line : {a b c d fields : List ℕ} {letter at p q n : ℕ} → Wrote a b at p (letter ∷ []) → Wrote b c p q fields → Wrote c d q n (10 ∷ [])
     → Wrote a d at n (line letter fields)
-wrote-line u v w = wrote-append u (wrote-append v w)
+wrote_line u v w = wrote_append u (wrote_append v w)
 
 -- ---- the first record of an image
 
 module _ (lead trail : ℕ) (s : List ℕ) where
   -- it ends where the image does, or before
-  pub listed-most : 3 + lead + trail ≤ length s → 3 + lead + trail + listedCount lead trail s ≤ length s
-  listed-most h = omega arith
+  pub listed_most : 3 + lead + trail ≤ length s → 3 + lead + trail + listed_count lead trail s ≤ length s
+  listed_most h = omega arith
 
   -- the fields that lead, those listed and those that trail, as the code lends them
-  abbrev leadPart : List ℕ
-  leadPart = take (2 + lead - 2) (drop 2 s)
+  abbrev lead_part : List ℕ
+  lead_part = take (2 + lead - 2) (drop 2 s)
 
-  abbrev listedPart : ℕ → List ℕ
-  listedPart n = take (3 + lead + n - (3 + lead)) (drop (3 + lead) s)
+  abbrev listed_part : ℕ → List ℕ
+  listed_part n = take (3 + lead + n - (3 + lead)) (drop (3 + lead) s)
 
-  abbrev trailPart : ℕ → List ℕ
-  trailPart n = take (3 + lead + n + trail - (3 + lead + n)) (drop (3 + lead + n) s)
+  abbrev trail_part : ℕ → List ℕ
+  trail_part n = take (3 + lead + n + trail - (3 + lead + n)) (drop (3 + lead + n) s)
 
-  lead-part : leadPart ≡ take lead (drop 2 s)
-  lead-part = let e : 2 + lead - 2 ≡ lead = omega arith in rw e
+  lead_part_lem : lead_part ≡ take lead (drop 2 s)
+  lead_part_lem = let e : 2 + lead - 2 ≡ lead = omega arith in rw e
 
-  module _ {n : ℕ} (size : n ≡ listedCount lead trail s) where
-    listed-part : listedPart n ≡ listedIn lead trail s
-    listed-part = let e : 3 + lead + n - (3 + lead) ≡ listedCount lead trail s = omega arith in ap (λ (k : ℕ). take k (drop (3 + lead) s)) e
+  module _ {n : ℕ} (size : n ≡ listed_count lead trail s) where
+    listed_part_lem : listed_part n ≡ listed_in lead trail s
+    listed_part_lem = let e : 3 + lead + n - (3 + lead) ≡ listed_count lead trail s = omega arith in ap (λ (k : ℕ). take k (drop (3 + lead) s)) e
 
-    trail-part : trailPart n ≡ trailIn lead trail s
-    trail-part =
+    trail_part_lem : trail_part n ≡ trail_in lead trail s
+    trail_part_lem =
         let e : 3 + lead + n + trail - (3 + lead + n) ≡ trail = omega arith in
         ap₂ (λ (k i : ℕ). take k (drop (3 + lead + i) s)) e size
 
@@ -90,45 +90,45 @@ module _ (lead trail : ℕ) (s : List ℕ) where
     leads = run field (take lead (drop 2 s))
 
     abbrev lists : List ℕ
-    lists = listing none (listedIn lead trail s)
+    lists = listing none (listed_in lead trail s)
 
     abbrev trails : List ℕ
-    trails = run slashed (trailIn lead trail s)
+    trails = run slashed (trail_in lead trail s)
 
-    abbrev pub fieldsIn : List ℕ
-    fieldsIn = leads ++ (lists ++ trails)
+    abbrev pub fields_in : List ℕ
+    fields_in = leads ++ (lists ++ trails)
 
-    lead-wrote : {a b : List ℕ} {at p : ℕ} → Wrote a b at p (run field leadPart) → Wrote a b at p leads
-    lead-wrote w = wrote_as (ap (run field) lead-part) w
+    lead_wrote : {a b : List ℕ} {at p : ℕ} → Wrote a b at p (run field lead_part) → Wrote a b at p leads
+    lead_wrote w = wrote_as (ap (run field) lead_part_lem) w
 
-    listed-wrote : {a b : List ℕ} {at p n : ℕ} → n ≡ listedCount lead trail s → Wrote a b at p (listing none (listedPart n)) → Wrote a b at p lists
-    listed-wrote size w = wrote_as (ap (listing none) (listed-part size)) w
+    listed_wrote : {a b : List ℕ} {at p n : ℕ} → n ≡ listed_count lead trail s → Wrote a b at p (listing none (listed_part n)) → Wrote a b at p lists
+    listed_wrote size w = wrote_as (ap (listing none) (listed_part_lem size)) w
 
-    pub wrote-fields : {a b c d : List ℕ} {at p q r n : ℕ} → n ≡ listedCount lead trail s → Wrote a b at p (run field leadPart)
-        → Wrote b c p q (listing none (listedPart n)) → Wrote c d q r (run slashed (trailPart n)) → Wrote a d at r fieldsIn
-    wrote-fields size u v w = wrote-append (lead-wrote u) (wrote-append (listed-wrote size v) (wrote_as (ap (run slashed) (trail-part size)) w))
+    pub wrote_fields : {a b c d : List ℕ} {at p q r n : ℕ} → n ≡ listed_count lead trail s → Wrote a b at p (run field lead_part)
+        → Wrote b c p q (listing none (listed_part n)) → Wrote c d q r (run slashed (trail_part n)) → Wrote a d at r fields_in
+    wrote_fields size u v w = wrote_append (lead_wrote u) (wrote_append (listed_wrote size v) (wrote_as (ap (run slashed) (trail_part_lem size)) w))
 
-    module _ {a b : List ℕ} {letter at p : ℕ} (u : Wrote a b at p (letter ∷ [])) (room : Room a at (lineIn letter lead none trail s)) where
-      pub room-lead : Room b p (run field leadPart)
-      room-lead =
-          let f = room-first b p leads (lists ++ trails) (room_fields fieldsIn u room) in
-          let e = ap (λ (l : List ℕ). length (run field l)) lead-part in
+    module _ {a b : List ℕ} {letter at p : ℕ} (u : Wrote a b at p (letter ∷ [])) (room : Room a at (line_in letter lead none trail s)) where
+      pub room_lead : Room b p (run field lead_part)
+      room_lead =
+          let f = room_first b p leads (lists ++ trails) (room_fields fields_in u room) in
+          let e = ap (λ (l : List ℕ). length (run field l)) lead_part_lem in
           omega arith
 
-      module _ {c : List ℕ} {q n : ℕ} (size : n ≡ listedCount lead trail s) (v : Wrote b c p q (run field leadPart)) where
-        behind-lead : Room c q (lists ++ trails)
-        behind-lead = room-second (lists ++ trails) (lead-wrote v) (room_fields fieldsIn u room)
+      module _ {c : List ℕ} {q n : ℕ} (size : n ≡ listed_count lead trail s) (v : Wrote b c p q (run field lead_part)) where
+        behind_lead : Room c q (lists ++ trails)
+        behind_lead = room_second (lists ++ trails) (lead_wrote v) (room_fields fields_in u room)
 
-        pub room-listed : Room c q (listing none (listedPart n))
-        room-listed =
-            let f = room-first c q lists trails behind-lead in
-            let e = ap (λ (l : List ℕ). length (listing none l)) (listed-part size) in
+        pub room_listed : Room c q (listing none (listed_part n))
+        room_listed =
+            let f = room_first c q lists trails behind_lead in
+            let e = ap (λ (l : List ℕ). length (listing none l)) (listed_part_lem size) in
             omega arith
 
-        pub room-trail : {d : List ℕ} {r : ℕ} → Wrote c d q r (listing none (listedPart n)) → Room d r (run slashed (trailPart n))
-        room-trail w =
-            let f = room-second trails (listed-wrote size w) behind-lead in
-            let e = ap (λ (l : List ℕ). length (run slashed l)) (trail-part size) in
+        pub room_trail : {d : List ℕ} {r : ℕ} → Wrote c d q r (listing none (listed_part n)) → Room d r (run slashed (trail_part n))
+        room_trail w =
+            let f = room_second trails (listed_wrote size w) behind_lead in
+            let e = ap (λ (l : List ℕ). length (run slashed l)) (trail_part_lem size) in
             omega arith
 
 -- ---- the lines of an image
@@ -139,13 +139,13 @@ from i s = let e = length-drop i s in take_all (length s - i) (drop i s) (omega 
 
 module _ (letter lead : ℕ) (none : List ℕ) (trail : ℕ) where
   pub lines_next : (k : ℕ) (s : List ℕ) → 3 + lead + trail ≤ length s
-      → linesIn letter lead none trail (suc k) s
-      ≡ lineIn letter lead none trail s ++ linesIn letter lead none trail k (drop (3 + lead + trail + listedCount lead trail s) s)
-  unfolding linesIn
+      → lines_in letter lead none trail (suc k) s
+      ≡ line_in letter lead none trail s ++ lines_in letter lead none trail k (drop (3 + lead + trail + listed_count lead trail s) s)
+  unfolding lines_in
   lines_next k s h = rw (le-ltb (length s) (3 + lead + trail) h)
 
-  pub lines_end : (k : ℕ) (s : List ℕ) → length s < 3 + lead + trail → linesIn letter lead none trail k s ≡ []
-  unfolding linesIn
+  pub lines_end : (k : ℕ) (s : List ℕ) → length s < 3 + lead + trail → lines_in letter lead none trail k s ≡ []
+  unfolding lines_in
   lines_end zero s h = refl
   lines_end (suc k) s h = rw (lt-ltb (length s) (3 + lead + trail) h)
 
@@ -162,20 +162,20 @@ pub record Lining (letter lead : ℕ) (none : List ℕ) (trail : ℕ) (image who
   pub wrote : Wrote out now at p done
   pub fuel : ℕ
   pub enough : length image - i ≤ fuel
-  pub is : done ++ linesIn letter lead none trail fuel (drop i image) ≡ whole
+  pub is : done ++ lines_in letter lead none trail fuel (drop i image) ≡ whole
 
 module _ {letter lead trail at : ℕ} {none image whole out : List ℕ} where
-  pub lining-start : lead + trail ≤ 2 → Room out at whole → linesIn letter lead none trail (length image) image ≡ whole
+  pub lining_start : lead + trail ≤ 2 → Room out at whole → lines_in letter lead none trail (length image) image ≡ whole
       → Lining letter lead none trail image whole out at out at 0
-  lining-start l r e =
-      record { small = l; most = omega arith; room = r; done = []; wrote = wrote-nil out at; fuel = length image; enough = omega arith; is = e }
+  lining_start l r e =
+      record { small = l; most = omega arith; room = r; done = []; wrote = wrote_nil out at; fuel = length image; enough = omega arith; is = e }
 
   module _ {now : List ℕ} {p i : ℕ} (w : Lining letter lead none trail image whole out at now p i) where
-    pub lining-length : length now ≡ length out
-    lining-length = wrote-length w.wrote
+    pub lining_length : length now ≡ length out
+    lining_length = wrote_length w.wrote
 
-    pub lining-end : length image - i < 3 + lead + trail → Wrote out now at p whole
-    lining-end h =
+    pub lining_end : length image - i < 3 + lead + trail → Wrote out now at p whole
+    lining_end h =
         let l = length-drop i image in
         let e = lines_end letter lead none trail w.fuel (drop i image) (omega arith) in
         wrote_as (sym (append-nil w.done) ∙ ap (λ (t : List ℕ). w.done ++ t) (sym e) ∙ w.is) w.wrote
@@ -183,64 +183,64 @@ module _ {letter lead trail at : ℕ} {none image whole out : List ℕ} where
     -- the next record's line is written where there is room, and then the records after it are left
     module _ (h : 3 + lead + trail ≤ length image - i) where
       rest : ℕ → List ℕ
-      rest k = linesIn letter lead none trail k (drop (i + (3 + lead + trail + listedCount lead trail (drop i image))) image)
+      rest k = lines_in letter lead none trail k (drop (i + (3 + lead + trail + listed_count lead trail (drop i image))) image)
 
-      going : (k : ℕ) → w.fuel ≡ suc k → w.done ++ (lineIn letter lead none trail (drop i image) ++ rest k) ≡ whole
+      going : (k : ℕ) → w.fuel ≡ suc k → w.done ++ (line_in letter lead none trail (drop i image) ++ rest k) ≡ whole
       unfolding rest
       going k f =
           let l = length-drop i image in
-          let n = 3 + lead + trail + listedCount lead trail (drop i image) in
-          let d = ap (λ (t : List ℕ). lineIn letter lead none trail (drop i image) ++ linesIn letter lead none trail k t) (drop-drop n i image) in
-          let e = ap (λ (k : ℕ). linesIn letter lead none trail k (drop i image)) f ∙ lines_next letter lead none trail k (drop i image) (omega arith) ∙ d in
+          let n = 3 + lead + trail + listed_count lead trail (drop i image) in
+          let d = ap (λ (t : List ℕ). line_in letter lead none trail (drop i image) ++ lines_in letter lead none trail k t) (drop-drop n i image) in
+          let e = ap (λ (k : ℕ). lines_in letter lead none trail k (drop i image)) f ∙ lines_next letter lead none trail k (drop i image) (omega arith) ∙ d in
           ap (λ (t : List ℕ). w.done ++ t) (sym e) ∙ w.is
 
       one_less : suc (w.fuel - 1) ≡ w.fuel
       one_less = let e = w.enough in omega arith
 
-      line-room : Room now p (lineIn letter lead none trail (drop i image))
-      line-room =
-          let line = lineIn letter lead none trail (drop i image) in
+      line_room : Room now p (line_in letter lead none trail (drop i image))
+      line_room =
+          let line = line_in letter lead none trail (drop i image) in
           let k = w.fuel - 1 in
           let e = ap length (going k (sym one_less)) in
           let f = length-append w.done (line ++ rest k) in
           let g = length-append line (rest k) in
           let r = w.room in
           let d = w.wrote.ends in
-          let l = lining-length in
+          let l = lining_length in
           omega arith
 
       -- with the records from i on as the code lends them
       module _ {s : List ℕ} (e : s ≡ drop i image) where
-        pub lining-asks : (lead + trail ≤ 2) × (3 + lead + trail ≤ length s) × Room now p (lineIn letter lead none trail s)
-        lining-asks =
+        pub lining_asks : (lead + trail ≤ 2) × (3 + lead + trail ≤ length s) × Room now p (line_in letter lead none trail s)
+        lining_asks =
             let l = length-drop i image in
             let f = ap length e in
-            let g = ap (λ (t : List ℕ). length (lineIn letter lead none trail t)) e in
-            let r = line-room in
+            let g = ap (λ (t : List ℕ). length (line_in letter lead none trail t)) e in
+            let r = line_room in
             (w.small, omega arith, omega arith)
 
-        pub lining-most : {n : ℕ} → n ≡ listedCount lead trail s → i + (3 + lead + trail + n) ≤ length image
-        lining-most size =
+        pub lining_most : {n : ℕ} → n ≡ listed_count lead trail s → i + (3 + lead + trail + n) ≤ length image
+        lining_most size =
             let l = length-drop i image in
             let f = ap length e in
-            let m = listed-most lead trail s (omega arith) in
+            let m = listed_most lead trail s (omega arith) in
             omega arith
 
-        pub lining-next : {after : List ℕ} {q n : ℕ} → n ≡ listedCount lead trail s → Wrote now after p q (lineIn letter lead none trail s)
+        pub lining_next : {after : List ℕ} {q n : ℕ} → n ≡ listed_count lead trail s → Wrote now after p q (line_in letter lead none trail s)
             → Lining letter lead none trail image whole out at after q (i + (3 + lead + trail + n))
         unfolding rest
-        lining-next {after} {q} {n} size v =
-            let line = lineIn letter lead none trail (drop i image) in
+        lining_next {after} {q} {n} size v =
+            let line = line_in letter lead none trail (drop i image) in
             let k = w.fuel - 1 in
-            let m = lining-most size in
+            let m = lining_most size in
             let f = w.enough in
-            let z : n ≡ listedCount lead trail (drop i image) = size ∙ ap (listedCount lead trail) e in
+            let z : n ≡ listed_count lead trail (drop i image) = size ∙ ap (listed_count lead trail) e in
             record {
               small = w.small;
               most = m;
               room = w.room;
               done = w.done ++ line;
-              wrote = wrote-append w.wrote (wrote_as (ap (lineIn letter lead none trail) e) v);
+              wrote = wrote_append w.wrote (wrote_as (ap (line_in letter lead none trail) e) v);
               fuel = k;
               enough = left_less (length image) i (3 + lead + trail + n) w.fuel (omega arith) f;
               is = rw z (append_assoc w.done line (rest k) ∙ going k (sym one_less));

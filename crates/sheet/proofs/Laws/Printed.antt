@@ -9,85 +9,85 @@ use Rattle.masks.specs.Outcome.{Outcome, refused, done}
 use Rattle.book.specs.Book.{Book}
 use Rattle.book.specs.Format.{Judged, fault, book, judge}
 use Rattle.book.specs.Encode.{run}
-use Rattle.book.specs.Answer.{ofJudged, onBook}
+use Rattle.book.specs.Answer.{of_judged, on_book}
 use Rattle.ordering.specs.Adorn.{nothing}
-use Rattle.ordering.specs.Good.{firstGood, is_some}
+use Rattle.ordering.specs.Good.{first_good, is_some}
 use Rattle.tables.specs.Table.{final}
 use Rattle.tables.specs.Image as table
 use Rattle.choices.specs.Plan as plan
-use Rattle.printing.specs.Sheet.{field, line, none·, constraintLines, roundsLine, queryLine, orderLine, refusalLine, orderLines, bookSheet, judgedSheet}
-use Rattle.sheet.specs.Records.{listedCount, lineIn, linesIn, judgedOrders}
-use Rattle.masks.proofs.Laws.Logic.{byBool}
+use Rattle.printing.specs.Sheet.{field, line, none·, constraint_lines, rounds_line, query_line, order_line, refusal_line, order_lines, book_sheet, judged_sheet}
+use Rattle.sheet.specs.Records.{listed_count, line_in, lines_in, judged_orders}
+use Rattle.masks.proofs.Laws.Logic.{by_bool}
 use Rattle.masks.proofs.Laws.Outcome.{Sized}
-use Rattle.book.specs.Limits.{longestTable, longestPlan}
-use Rattle.book.proofs.Laws.Answer.{number-some}
-use Rattle.book.proofs.Laws.Trip.{judge-inv}
-use Rattle.tables.proofs.Laws.Image.{table-length}
-use Rattle.choices.proofs.Laws.Plan.{planned-good, planned-none}
-use Rattle.choices.proofs.Laws.Rows.{plan-length}
-use Rattle.sheet.proofs.Laws.Images.{lines_rows, lines-orders, line-query, behind-query}
+use Rattle.book.specs.Limits.{longest_table, longest_plan}
+use Rattle.book.proofs.Laws.Answer.{number_some}
+use Rattle.book.proofs.Laws.Trip.{judge_inv}
+use Rattle.tables.proofs.Laws.Image.{table_length}
+use Rattle.choices.proofs.Laws.Plan.{planned_good, planned_none}
+use Rattle.choices.proofs.Laws.Rows.{plan_length_lem}
+use Rattle.sheet.proofs.Laws.Images.{lines_rows, lines_orders, line_query, behind_query}
 
 -- ---- the analysis and the planning of any bytes
 
-pub analysis-sized : (s : List ℕ) → Sized 0 longestTable (table.analysis s)
-unfolding onBook
-analysis-sized s = go (judge s) refl
+pub analysis_sized : (s : List ℕ) → Sized 0 longest_table (table.analysis s)
+unfolding on_book
+analysis_sized s = go (judge s) refl
   where
-    go : (j : Judged) → judge s ≡ j → Sized 0 longestTable (ofJudged table.analysed j)
-    go (fault f at) e = number-some f
-    go (book B) e = (omega arith, table-length B (judge-inv s B e).1)
+    go : (j : Judged) → judge s ≡ j → Sized 0 longest_table (of_judged table.analysed j)
+    go (fault f at) e = number_some f
+    go (book B) e = (omega arith, table_length B (judge_inv s B e).1)
 
 -- "QO, n, n places" is there
-pub planning-sized : (s : List ℕ) → Sized 3 longestPlan (plan.planning s)
-unfolding onBook plan.image
-planning-sized s = go (judge s) refl
+pub planning_sized : (s : List ℕ) → Sized 3 longest_plan (plan.planning s)
+unfolding on_book plan.image
+planning_sized s = go (judge s) refl
   where
-    go : (j : Judged) → judge s ≡ j → Sized 3 longestPlan (ofJudged plan.planned j)
-    go (fault f at) e = number-some f
+    go : (j : Judged) → judge s ≡ j → Sized 3 longest_plan (of_judged plan.planned j)
+    go (fault f at) e = number_some f
     go (book B) e =
-        byBool (is_some (firstGood (final B) B.query nothing))
-        (λ t. rw (planned-good B t) (omega arith, plan-length B (judge-inv s B e).1))
-        (λ t. rw (planned-none B t) (λ z. omega arith))
+        by_bool (is_some (first_good (final B) B.query nothing))
+        (λ t. rw (planned_good B t) (omega arith, plan_length_lem B (judge_inv s B e).1))
+        (λ t. rw (planned_none B t) (λ z. omega arith))
 
 -- ---- what is printed of them
 
 -- the records behind that of the query
-abbrev pub ordersIn : List ℕ → List ℕ
-ordersIn image = drop (3 + listedCount 0 0 image) image
+abbrev pub orders_in : List ℕ → List ℕ
+orders_in image = drop (3 + listed_count 0 0 image) image
 
 -- of a planning
-abbrev pub planLines : Outcome → List ℕ
-planLines (refused n value) = refusalLine n value
-planLines (done k image) = lineIn 81 0 [] 0 image ++ linesIn 79 2 [] 0 (length (ordersIn image)) (ordersIn image)
+abbrev pub plan_lines : Outcome → List ℕ
+plan_lines (refused n value) = refusal_line n value
+plan_lines (done k image) = line_in 81 0 [] 0 image ++ lines_in 79 2 [] 0 (length (orders_in image)) (orders_in image)
 
 -- of an analysis, with more after it
-abbrev pub tableLines : Outcome → List ℕ → List ℕ
-tableLines (refused n value) more = refusalLine n value
-tableLines (done k image) more = linesIn 67 1 none· 1 (length image) image ++ (line 82 (field k) ++ more)
+abbrev pub table_lines : Outcome → List ℕ → List ℕ
+table_lines (refused n value) more = refusal_line n value
+table_lines (done k image) more = lines_in 67 1 none· 1 (length image) image ++ (line 82 (field k) ++ more)
 
-image-lines : (B : Book) → planLines (done 0 (plan.image B)) ≡ queryLine (plan.chosen B).forQuery ++ run orderLine (plan.planRows B)
+image_lines : (B : Book) → plan_lines (done 0 (plan.image B)) ≡ query_line (plan.chosen B).for_query ++ run order_line (plan.plan_rows B)
 unfolding plan.image
-image-lines B =
-    let σ = (plan.chosen B).forQuery in
-    let rest = run plan.encRow (plan.planRows B) in
-    ap₂ {C = List ℕ} ◌++◌ (line-query σ rest)
-    (ap (λ (l : List ℕ). linesIn 79 2 [] 0 (length l) l) (behind-query σ rest) ∙ lines-orders (plan.planRows B))
+image_lines B =
+    let σ = (plan.chosen B).for_query in
+    let rest = run plan.enc_row (plan.plan_rows B) in
+    ap₂ {C = List ℕ} ◌++◌ (line_query σ rest)
+    (ap (λ (l : List ℕ). lines_in 79 2 [] 0 (length l) l) (behind_query σ rest) ∙ lines_orders (plan.plan_rows B))
 
-pub planning-lines : (s : List ℕ) → planLines (plan.planning s) ≡ judgedOrders (judge s)
-unfolding onBook orderLines
-planning-lines s = go (judge s)
+pub planning_lines : (s : List ℕ) → plan_lines (plan.planning s) ≡ judged_orders (judge s)
+unfolding on_book order_lines
+planning_lines s = go (judge s)
   where
-    go : (j : Judged) → planLines (ofJudged plan.planned j) ≡ judgedOrders j
+    go : (j : Judged) → plan_lines (of_judged plan.planned j) ≡ judged_orders j
     go (fault f at) = refl
     go (book B) =
-        byBool (is_some (firstGood (final B) B.query nothing))
-        (λ t. rw (planned-good B t, t) (image-lines B))
-        (λ t. rw (planned-none B t, t))
+        by_bool (is_some (first_good (final B) B.query nothing))
+        (λ t. rw (planned_good B t, t) (image_lines B))
+        (λ t. rw (planned_none B t, t))
 
-pub analysis-lines : (s : List ℕ) → tableLines (table.analysis s) (judgedOrders (judge s)) ≡ judgedSheet (judge s)
-unfolding onBook bookSheet constraintLines roundsLine table.image
-analysis-lines s = go (judge s)
+pub analysis_lines : (s : List ℕ) → table_lines (table.analysis s) (judged_orders (judge s)) ≡ judged_sheet (judge s)
+unfolding on_book book_sheet constraint_lines rounds_line table.image
+analysis_lines s = go (judge s)
   where
-    go : (j : Judged) → tableLines (ofJudged table.analysed j) (judgedOrders j) ≡ judgedSheet j
+    go : (j : Judged) → table_lines (of_judged table.analysed j) (judged_orders j) ≡ judged_sheet j
     go (fault f at) = refl
-    go (book B) = ap (λ (l : List ℕ). l ++ (roundsLine B ++ orderLines B)) (lines_rows B.arities (final B) (length B.arities))
+    go (book B) = ap (λ (l : List ℕ). l ++ (rounds_line B ++ order_lines B)) (lines_rows B.arities (final B) (length B.arities))

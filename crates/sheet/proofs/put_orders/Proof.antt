@@ -9,46 +9,46 @@ use borrow.Author.Rules.{rules}
 use Rattle.book.specs.Format.{judge}
 use Rattle.writing.specs.Wrote.{Room}
 use Rattle.choices.specs.Plan.{planning}
-use Rattle.printing.specs.Sheet.{refusalLine}
-use Rattle.sheet.specs.Records.{lineIn, linesIn, judgedOrders}
-use Rattle.masks.proofs.Laws.Outcome.{Told, refusal-told, result-told}
-use Rattle.book.specs.Limits.{longestPlan}
-use Rattle.writing.proofs.Laws.Wrote.{wrote_as, wrote-append, room-first, room-second}
-use Rattle.sheet.proofs.Laws.Lines.{listed-most, from}
-use Rattle.sheet.proofs.Laws.Printed.{planning-sized, ordersIn, planLines, planning-lines}
+use Rattle.printing.specs.Sheet.{refusal_line}
+use Rattle.sheet.specs.Records.{line_in, lines_in, judged_orders}
+use Rattle.masks.proofs.Laws.Outcome.{Told, refusal_told, result_told}
+use Rattle.book.specs.Limits.{longest_plan}
+use Rattle.writing.proofs.Laws.Wrote.{wrote_as, wrote_append, room_first, room_second}
+use Rattle.sheet.proofs.Laws.Lines.{listed_most, from}
+use Rattle.sheet.proofs.Laws.Printed.{planning_sized, orders_in, plan_lines, planning_lines}
 use Rattle.sheet.proofs.put_orders.Statement.{statement}
 use Rattle.sheet.proofs.put_orders.Tie as tie
 
 -- ---- the planning was refused
 
-refused : (c : tie.Then1) → let p = c.before.before.before.plan.result in refusalLine p.number p.value ≡ judgedOrders (judge c.before.before.before.before.before.before.before.args.book.now)
+refused : (c : tie.Then1) → let p = c.before.before.before.plan.result in refusal_line p.number p.value ≡ judged_orders (judge c.before.before.before.before.before.before.before.args.book.now)
 refused c =
     let s = c.before.before.before.before.before.before.before.args.book.now in
-    ap planLines (sym (refusal-told 3 longestPlan (planning s) (planning-sized s) c.before.before.before.plan.ensures (length-replicate {A = ℕ} longestPlan 0) c.if1.true))
-    ∙ planning-lines s
+    ap plan_lines (sym (refusal_told 3 longest_plan (planning s) (planning_sized s) c.before.before.before.plan.ensures (length-replicate {A = ℕ} longest_plan 0) c.if1.true))
+    ∙ planning_lines s
 
 -- ---- or it has a result, whose image has the lines
 
-found : (c : tie.Else1) → Told 3 longestPlan (planning c.before.before.before.before.before.before.before.args.book.now) c.before.before.before.plan.result c.before.before.before.plan.new.1.0
+found : (c : tie.Else1) → Told 3 longest_plan (planning c.before.before.before.before.before.before.before.args.book.now) c.before.before.before.plan.result c.before.before.before.plan.new.1.0
 found c =
     let s = c.before.before.before.before.before.before.before.args.book.now in
-    result-told 3 longestPlan (planning s) (planning-sized s) c.before.before.before.plan.ensures (length-replicate {A = ℕ} longestPlan 0) c.if1.false
+    result_told 3 longest_plan (planning s) (planning_sized s) c.before.before.before.plan.ensures (length-replicate {A = ℕ} longest_plan 0) c.if1.false
 
 abbrev image : tie.Else1 → List ℕ
 image c = take c.before.before.before.plan.result.value c.before.before.before.plan.new.1.0
 
-printed : (c : tie.Else1) → let e = ordersIn (image c) in lineIn 81 0 [] 0 (image c) ++ linesIn 79 2 [] 0 (length e) e ≡ judgedOrders (judge c.before.before.before.before.before.before.before.args.book.now)
-printed c = ap planLines (sym (found c).is) ∙ planning-lines c.before.before.before.before.before.before.before.args.book.now
+printed : (c : tie.Else1) → let e = orders_in (image c) in line_in 81 0 [] 0 (image c) ++ lines_in 79 2 [] 0 (length e) e ≡ judged_orders (judge c.before.before.before.before.before.before.before.args.book.now)
+printed c = ap plan_lines (sym (found c).is) ∙ planning_lines c.before.before.before.before.before.before.before.args.book.now
 
-room : (c : tie.Else1) → let e = ordersIn (image c) in Room c.before.before.before.before.before.before.before.args.text.now c.before.before.before.before.before.before.before.args.at (lineIn 81 0 [] 0 (image c) ++ linesIn 79 2 [] 0 (length e) e)
+room : (c : tie.Else1) → let e = orders_in (image c) in Room c.before.before.before.before.before.before.before.args.text.now c.before.before.before.before.before.before.before.args.at (line_in 81 0 [] 0 (image c) ++ lines_in 79 2 [] 0 (length e) e)
 room c = subst (Room c.before.before.before.before.before.before.before.args.text.now c.before.before.before.before.before.before.before.args.at) (sym (printed c)) c.before.before.before.before.before.before.before.requires
 
 -- the records behind the query's are in it
 behind : (c : tie.After-listed) → 3 + c.listed.result ≤ length (image c.before.before.before.before.before.before.before)
-behind c = rw c.listed.ensures (listed-most 0 0 (image c.before.before.before.before.before.before.before) (found c.before.before.before.before.before.before.before).long)
+behind c = rw c.listed.ensures (listed_most 0 0 (image c.before.before.before.before.before.before.before) (found c.before.before.before.before.before.before.before).long)
 
 -- and they are what is lent
-lent : (c : tie.After-listed) → let k = c.before.before.before.before.before.before.before in take (length (image k) - (3 + c.listed.result)) (drop (3 + c.listed.result) (image k)) ≡ ordersIn (image k)
+lent : (c : tie.After-listed) → let k = c.before.before.before.before.before.before.before in take (length (image k) - (3 + c.listed.result)) (drop (3 + c.listed.result) (image k)) ≡ orders_in (image k)
 lent c = let k = c.before.before.before.before.before.before.before in from (3 + c.listed.result) (image k) ∙ ap (λ (n : ℕ). drop (3 + n) (image k)) c.listed.ensures
 
 slice-aggregate-plan : tie.Need-slice-aggregate-plan
@@ -78,9 +78,9 @@ slice-aggregate-put-line c = search rules
 put-line-requires : tie.Need-put-line-requires
 put-line-requires c κs =
     let k = c.before.before.before in
-    let e = ordersIn (image k) in
+    let e = orders_in (image k) in
     let a = k.before.before.before.before.before.before.before.args in
-    (omega arith, (found k).long, room-first a.text.now a.at (lineIn 81 0 [] 0 (image k)) (linesIn 79 2 [] 0 (length e) e) (room k))
+    (omega arith, (found k).long, room_first a.text.now a.at (line_in 81 0 [] 0 (image k)) (lines_in 79 2 [] 0 (length e) e) (room k))
 
 listed-requires : tie.Need-listed-requires
 listed-requires c κs = (omega arith, (found c.before.before.before.before.before.before).long)
@@ -104,8 +104,8 @@ put-lines-requires : tie.Need-put-lines-requires
 put-lines-requires c κs =
     let l = c.before.before.before in
     let k = l.before.before.before.before.before.before.before in
-    let e = ordersIn (image k) in
-    (omega arith, rw (lent l) (room-second (linesIn 79 2 [] 0 (length e) e) l.before.before.before.put-line.ensures (room k)))
+    let e = orders_in (image k) in
+    (omega arith, rw (lent l) (room_second (lines_in 79 2 [] 0 (length e) e) l.before.before.before.put-line.ensures (room k)))
 
 same-length-2 : tie.Need-same-length-2
 same-length-2 c = search rules
@@ -114,8 +114,8 @@ returns-2 : tie.Need-returns-2
 returns-2 c =
     let l = c.before.before.before.before.before.before in
     let k = l.before.before.before.before.before.before.before in
-    wrote_as (ap (λ (e : List ℕ). lineIn 81 0 [] 0 (image k) ++ linesIn 79 2 [] 0 (length e) e) (lent l) ∙ printed k)
-    (wrote-append l.before.before.before.put-line.ensures c.before.before.put-lines.ensures)
+    wrote_as (ap (λ (e : List ℕ). line_in 81 0 [] 0 (image k) ++ lines_in 79 2 [] 0 (length e) e) (lent l) ∙ printed k)
+    (wrote_append l.before.before.before.put-line.ensures c.before.before.put-lines.ensures)
 
 pub put-orders-spec : {M : Type 1} → statement M
 put-orders-spec =

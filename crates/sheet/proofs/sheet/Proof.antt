@@ -8,11 +8,11 @@ use lib.ListN.{length, take, length-replicate, length-take}
 use lib.Seq.{length-take-le, sets}
 use borrow.Author.Rules.{rules}
 use Rattle.book.specs.Format.{judge}
-use Rattle.printing.specs.Sheet.{judgedSheet, sheet}
-use Rattle.masks.proofs.Laws.Outcome.{room-enough, answers-short, answers-done}
-use Rattle.book.specs.Limits.{longest, longestSheet}
-use Rattle.writing.proofs.Laws.Wrote.{wrote_as, wrote-length, wrote-front, Front, front}
-use Rattle.printing.proofs.Laws.Length.{sheet-length}
+use Rattle.printing.specs.Sheet.{judged_sheet, sheet}
+use Rattle.masks.proofs.Laws.Outcome.{room_enough, answers_short, answers_done}
+use Rattle.book.specs.Limits.{longest, longest_sheet}
+use Rattle.writing.proofs.Laws.Wrote.{wrote_as, wrote_length, wrote_front, Front, front}
+use Rattle.printing.proofs.Laws.Length.{sheet_length}
 use Rattle.sheet.proofs.sheet.Statement.{statement}
 use Rattle.sheet.proofs.sheet.Tie as tie
 
@@ -25,10 +25,10 @@ there : (c : tie.After-put-sheet) → (c.put-sheet.result ≤ length c.put-sheet
 unfolding sheet
 there c =
     let s = c.before.before.before.before.before.before.args.book.now in
-    let w = wrote_as (ap (λ (l : List ℕ). judgedSheet (judge l)) (judges c.before.before.before).is) c.put-sheet.ensures in
-    let l = sheet-length s in
-    let z = length-replicate {A = ℕ} longestSheet 0 in
-    (omega (arith, w.ends, wrote-length w), wrote-front w (omega arith))
+    let w = wrote_as (ap (λ (l : List ℕ). judged_sheet (judge l)) (judges c.before.before.before).is) c.put-sheet.ensures in
+    let l = sheet_length s in
+    let z = length-replicate {A = ℕ} longest_sheet 0 in
+    (omega (arith, w.ends, wrote_length w), wrote_front w (omega arith))
 
 size : (c : tie.After-put-sheet) → c.put-sheet.result ≡ length (sheet c.before.before.before.before.before.before.args.book.now)
 size c = sym (length-take-le _ _ (there c).0) ∙ ap length (there c).1
@@ -55,7 +55,7 @@ put-bytes-requires : tie.Need-put-bytes-requires
 put-bytes-requires c κs =
     let k = c.before.before.before.before.before in
     let n = length-take-le k.put-sheet.result k.put-sheet.new.0 (there k).0 in
-    let h = room-enough _ _ _ c.before.before.before.before.in-room.ensures (λ z. omega arith) in
+    let h = room_enough _ _ _ c.before.before.before.before.in-room.ensures (λ z. omega arith) in
     omega arith
 
 same_length : tie.Need-same-length
@@ -65,10 +65,10 @@ returns : tie.Need-returns
 returns c =
     let k = c.before.before.before.before.before.before.before.before in
     let s = k.before.before.before.before.before.before.args in
-    answers-done _ _ _ c.before.before.before.before.before.before.before.in-room.ensures _ (size k) (omega arith) (λ z. omega arith) (c.before.before.put-bytes.ensures.is ∙ ap (sets s.out.now 0) (there k).1)
+    answers_done _ _ _ c.before.before.before.before.before.before.before.in-room.ensures _ (size k) (omega arith) (λ z. omega arith) (c.before.before.put-bytes.ensures.is ∙ ap (sets s.out.now 0) (there k).1)
 
 returns-2 : tie.Need-returns-2
-returns-2 c = answers-short _ _ _ c.before.before.in-room.ensures _ (size c.before.before.before) (omega arith) c.if1.false
+returns-2 c = answers_short _ _ _ c.before.before.in-room.ensures _ (size c.before.before.before) (omega arith) c.if1.false
 
 pub sheet-spec : {M : Type 1} → statement M
 sheet-spec =

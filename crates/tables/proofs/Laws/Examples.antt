@@ -4,17 +4,17 @@ use mathlib.Core.Path.{◌≡◌, refl}
 use mathlib.Core.Bool.{false}
 use mathlib.Core.List.{List, [], ◌∷◌}
 use Prim.Native.Nat.{ℕ}
-use Rattle.masks.specs.Lists.{howMany}
+use Rattle.masks.specs.Lists.{how_many}
 use Rattle.masks.specs.Constraint.{drops, least, written, minimise}
 use Rattle.book.specs.Book.{Call, Mode, Clause, Book}
 use Rattle.book.specs.Table.{Table}
-use Rattle.book.proofs.Laws.Examples.{k1-book}
+use Rattle.book.proofs.Laws.Examples.{k1_book}
 use Rattle.ordering.proofs.Laws.Brought.{computing}
-use Rattle.tables.specs.Table.{mode_of, firstNeeds, start, own, defined, good, gets, next, step, table, settled, roundsBound, seek, rounds, final}
+use Rattle.tables.specs.Table.{mode_of, first_needs, start, own, defined, good, gets, next, step, table, settled, rounds_bound, seek, rounds, final}
 use Rattle.tables.specs.Image.{image}
 
 unfoldable pub compute : Unit {0}
-unfolding computing drops least written minimise k1-book mode_of firstNeeds start own defined good gets next step table settled roundsBound seek rounds final
+unfolding computing drops least written minimise k1_book mode_of first_needs start own defined good gets next step table settled rounds_bound seek rounds final
 compute = tt
 
 -- ---- books
@@ -139,7 +139,7 @@ EachHolds (r ∷ rs) = Holds r × EachHolds rs
 abbrev rows : List Row
 rows =
     -- document 01's book of 45 bytes
-    record { book = k1-book; rounds = 1; needs = (0 ∷ []) ∷ (1 ∷ []) ∷ (1 ∷ []) ∷ (1 ∷ []) ∷ [] }
+    record { book = k1_book; rounds = 1; needs = (0 ∷ []) ∷ (1 ∷ []) ∷ (1 ∷ []) ∷ (1 ∷ []) ∷ [] }
     -- it goes on until the table is settled, and does not count the last, idle round
     ∷ record { book = chain; rounds = 2; needs = (1 ∷ []) ∷ (1 ∷ []) ∷ (1 ∷ []) ∷ [] }
     -- it starts from "all others trivial"
@@ -162,14 +162,14 @@ rows =
     ∷ record { book = counter; rounds = 2; needs = [] ∷ (1 ∷ []) ∷ (1 ∷ []) ∷ [] }
     ∷ []
 
-pub rows-hold : EachHolds rows
+pub rows_hold : EachHolds rows
 unfolding compute
-rows-hold =
+rows_hold =
     ((refl, refl), ((refl, refl), ((refl, refl), ((refl, refl), ((refl, refl), ((refl, refl), ((refl, refl), ((refl, refl), ((refl, refl), ((refl, refl), ((refl, refl), tt)))))))))))
 
 -- ---- an image
 
 -- "for each predicate in turn CN, predicate, n, n masks", and W5: "how many patterns each final constraint admits", 2, 2, 1 and 1
-pub k1-image : image k1-book ≡ 67 ∷ 78 ∷ 0 ∷ 1 ∷ 0 ∷ 2 ∷ 67 ∷ 78 ∷ 1 ∷ 1 ∷ 1 ∷ 2 ∷ 67 ∷ 78 ∷ 2 ∷ 1 ∷ 1 ∷ 1 ∷ 67 ∷ 78 ∷ 3 ∷ 1 ∷ 1 ∷ 1 ∷ []
-unfolding compute image howMany
-k1-image = refl
+pub k1_image : image k1_book ≡ 67 ∷ 78 ∷ 0 ∷ 1 ∷ 0 ∷ 2 ∷ 67 ∷ 78 ∷ 1 ∷ 1 ∷ 1 ∷ 2 ∷ 67 ∷ 78 ∷ 2 ∷ 1 ∷ 1 ∷ 1 ∷ 67 ∷ 78 ∷ 3 ∷ 1 ∷ 1 ∷ 1 ∷ []
+unfolding compute image how_many
+k1_image = refl

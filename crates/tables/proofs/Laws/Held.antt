@@ -14,75 +14,75 @@ use Rattle.masks.specs.Mask.{within}
 use Rattle.masks.specs.Set.{bit_at, members}
 use Rattle.masks.specs.Patterns.{EachLane}
 use Rattle.masks.specs.Constraint.{trivial, admits, fitting, in_range, is_written, minimise}
-use Rattle.masks.proofs.Laws.Constraint.{minimise-same}
-use Rattle.masks.specs.Lists.{howMany}
-use Rattle.masks.proofs.Laws.Logic.{byBool, or_left}
-use Rattle.masks.proofs.Laws.Mask.{within-zero}
-use Rattle.masks.proofs.Laws.Set.{bitAt-zero}
-use Rattle.masks.proofs.Laws.Counts.{fitting-word}
-use Rattle.masks.proofs.Laws.Patterns.{ones, bitAt-ones}
-use Rattle.masks.proofs.Laws.Sets.{members-none, members-zero}
-use Rattle.masks.proofs.Laws.Lists.{values-cong, getD-values}
-use Rattle.book.specs.Limits.{maxPredicates}
-use Rattle.book.specs.Held.{hasIn, masksIn, modeBytes, modeAt, modesOf}
-use Rattle.book.specs.Table.{Table, entryIn, tableIn, Admitted, LowArities}
+use Rattle.masks.proofs.Laws.Constraint.{minimise_same}
+use Rattle.masks.specs.Lists.{how_many}
+use Rattle.masks.proofs.Laws.Logic.{by_bool, or_left}
+use Rattle.masks.proofs.Laws.Mask.{within_zero}
+use Rattle.masks.proofs.Laws.Set.{bit_at_zero}
+use Rattle.masks.proofs.Laws.Counts.{fitting_word}
+use Rattle.masks.proofs.Laws.Patterns.{ones, bit_at_ones}
+use Rattle.masks.proofs.Laws.Sets.{members_none, members_zero}
+use Rattle.masks.proofs.Laws.Lists.{values_cong, get_or_values}
+use Rattle.book.specs.Limits.{max_predicates}
+use Rattle.book.specs.Held.{has_in, masks_in, mode_bytes, mode_at, modes_of}
+use Rattle.book.specs.Table.{Table, entry_in, table_in, Admitted, LowArities}
 use Rattle.book.specs.Sets.{Cleared}
-use Rattle.book.proofs.Laws.Held.{modesOf-joined}
+use Rattle.book.proofs.Laws.Held.{modes_of_joined}
 use Rattle.writing.proofs.Laws.Chunks.{Chunks}
-use Rattle.tables.proofs.Laws.Modes.{modeOf-joined}
-use Rattle.tables.specs.Table.{mode_of, declared, firstNeeds}
+use Rattle.tables.proofs.Laws.Modes.{mode_of_joined}
+use Rattle.tables.specs.Table.{mode_of, declared, first_needs}
 use Rattle.tables.specs.Image.{row, rows}
 
 -- ---- table 0
 
 -- the mode of p among those of an array
 module _ (modes : List ℕ) (p : ℕ) where
-  modeAt-other : (i : ℕ) → (i ≡ p → ⊥) → mode_of (modeAt modes i) p ≡ none
-  unfolding mode_of modeAt
-  modeAt-other i ne = byBool (hasIn (modeBytes modes i)) (λ t. rw (t, ne_eqb i p ne)) (λ t. rw t)
+  mode_at_other : (i : ℕ) → (i ≡ p → ⊥) → mode_of (mode_at modes i) p ≡ none
+  unfolding mode_of mode_at
+  mode_at_other i ne = by_bool (has_in (mode_bytes modes i)) (λ t. rw (t, ne_eqb i p ne)) (λ t. rw t)
 
-  modeAt-own : mode_of (modeAt modes p) p ≡ cond (hasIn (modeBytes modes p)) (some (masksIn (modeBytes modes p))) none
-  unfolding mode_of modeAt
-  modeAt-own = byBool (hasIn (modeBytes modes p)) (λ t. rw (t, eq-eqb p p refl)) (λ t. rw t)
+  mode_at_own : mode_of (mode_at modes p) p ≡ cond (has_in (mode_bytes modes p)) (some (masks_in (mode_bytes modes p))) none
+  unfolding mode_of mode_at
+  mode_at_own = by_bool (has_in (mode_bytes modes p)) (λ t. rw (t, eq-eqb p p refl)) (λ t. rw t)
 
-  pub modeOf-modesOf : (n : ℕ) → p < n → mode_of (modesOf modes n) p ≡ cond (hasIn (modeBytes modes p)) (some (masksIn (modeBytes modes p))) none
-  modeOf-modesOf n h = rw (modesOf-joined modes n) (modeOf-joined (modeAt modes) p modeAt-other n h ∙ modeAt-own)
+  pub mode_of_modes_of : (n : ℕ) → p < n → mode_of (modes_of modes n) p ≡ cond (has_in (mode_bytes modes p)) (some (masks_in (mode_bytes modes p))) none
+  mode_of_modes_of n h = rw (modes_of_joined modes n) (mode_of_joined (mode_at modes) p mode_at_other n h ∙ mode_at_own)
 
 -- so what p needs first: nothing where it has no MO, else its alternatives, minimised
-module _ (modes : List ℕ) (p : ℕ) (h : p < maxPredicates) where
-  pub first-none : hasIn (modeBytes modes p) ≡ false → trivial ≡ minimise (declared (modesOf modes maxPredicates) p)
+module _ (modes : List ℕ) (p : ℕ) (h : p < max_predicates) where
+  pub first_none : has_in (mode_bytes modes p) ≡ false → trivial ≡ minimise (declared (modes_of modes max_predicates) p)
   unfolding is_written in_range
-  first-none e = rw (modeOf-modesOf modes p maxPredicates h, e) (sym (minimise-same trivial refl))
+  first_none e = rw (mode_of_modes_of modes p max_predicates h, e) (sym (minimise_same trivial refl))
 
-  pub first_some : hasIn (modeBytes modes p) ≡ true → minimise (masksIn (modeBytes modes p)) ≡ minimise (declared (modesOf modes maxPredicates) p)
-  first_some e = rw (modeOf-modesOf modes p maxPredicates h, e)
+  pub first_some : has_in (mode_bytes modes p) ≡ true → minimise (masks_in (mode_bytes modes p)) ≡ minimise (declared (modes_of modes max_predicates) p)
+  first_some e = rw (mode_of_modes_of modes p max_predicates h, e)
 
 -- the loop that makes it: the first p constraints are there
 pub record Filling (modes : List ℕ) (p : ℕ) (table words : List ℕ) : Type 0 where
-  pub size : length table ≡ maxPredicates
-  pub room : length words ≡ maxPredicates
-  pub is : tableIn table p ≡ firstNeeds (modesOf modes maxPredicates) p
+  pub size : length table ≡ max_predicates
+  pub room : length words ≡ max_predicates
+  pub is : table_in table p ≡ first_needs (modes_of modes max_predicates) p
   pub admitted : Admitted table words
 
-pub filling-start : (modes table words : List ℕ) → length table ≡ maxPredicates → length words ≡ maxPredicates → Cleared table → Cleared words
+pub filling_start : (modes table words : List ℕ) → length table ≡ max_predicates → length words ≡ max_predicates → Cleared table → Cleared words
     → Filling modes 0 table words
-unfolding tableIn firstNeeds
-filling-start modes table words s r t u =
+unfolding table_in first_needs
+filling_start modes table words s r t u =
     record {
       size = s;
       room = r;
       is = refl;
       admitted = λ p h a l.
           ap (λ (w : ℕ). bit_at w a) (u p h)
-          ∙ bitAt-zero a
-          ∙ (unfold admits in sym (ap (λ (c : List ℕ). admits c a) (ap members (t p h) ∙ members-none)));
+          ∙ bit_at_zero a
+          ∙ (unfold admits in sym (ap (λ (c : List ℕ). admits c a) (ap members (t p h) ∙ members_none)));
     }
 
-pub filling-next : (modes : List ℕ) (p : ℕ) {table words : List ℕ} (masks patterns : ℕ) → p < maxPredicates
-    → members masks ≡ minimise (declared (modesOf modes maxPredicates) p) → EachLane (λ a. bit_at patterns a ≡ admits (members masks) a)
+pub filling_next : (modes : List ℕ) (p : ℕ) {table words : List ℕ} (masks patterns : ℕ) → p < max_predicates
+    → members masks ≡ minimise (declared (modes_of modes max_predicates) p) → EachLane (λ a. bit_at patterns a ≡ admits (members masks) a)
     → Filling modes p table words → Filling modes (p + 1) (set table p masks) (set words p patterns)
-unfolding tableIn firstNeeds
-filling-next modes p {table} {words} masks patterns h e f g =
+unfolding table_in first_needs
+filling_next modes p {table} {words} masks patterns h e f g =
     let s = g.size in
     let r = g.room in
     record {
@@ -91,10 +91,10 @@ filling-next modes p {table} {words} masks patterns h e f g =
       is =
           rw add-one
           (ap₂ (λ (T : Table) (c : List ℕ). T ++ (c ∷ []))
-          (values-cong (entryIn (set table p masks)) (entryIn table) p (λ i l. ap members (get_or-set_other table p i masks 0 (λ q. omega arith))) ∙ g.is)
+          (values_cong (entry_in (set table p masks)) (entry_in table) p (λ i l. ap members (get_or-set_other table p i masks 0 (λ q. omega arith))) ∙ g.is)
           (ap members (get_or-set_same table p masks 0 (omega arith)) ∙ e));
       admitted = λ q l a k.
-          byBool (eqb q p)
+          by_bool (eqb q p)
           (λ t.
           let z = eqb-true q p t in
           rw z
@@ -107,33 +107,33 @@ filling-next modes p {table} {words} masks patterns h e f g =
     }
 
 -- the trivial constraint
-pub trivial-held : members 1 ≡ trivial
-trivial-held = members-zero
+pub trivial_held : members 1 ≡ trivial
+trivial_held = members_zero
 
-pub trivial-full : EachLane (λ a. bit_at ones a ≡ admits (members 1) a)
-trivial-full a l = bitAt-ones a l ∙ sym (ap (λ (c : List ℕ). admits c a) trivial-held ∙ (unfold admits in or_left (within 0 a) false (within-zero a)))
+pub trivial_full : EachLane (λ a. bit_at ones a ≡ admits (members 1) a)
+trivial_full a l = bit_at_ones a l ∙ sym (ap (λ (c : List ℕ). admits c a) trivial_held ∙ (unfold admits in or_left (within 0 a) false (within_zero a)))
 
 -- ---- the image
 
 -- of the first n constraints, row by row
 module _ (arities table : List ℕ) (n : ℕ) where
   abbrev pub rows_to : ℕ → List ℕ
-  rows_to i = rows arities (tableIn table n) i
+  rows_to i = rows arities (table_in table n) i
 
-  abbrev pub rowHeld : ℕ → List ℕ
-  rowHeld i = row i (entryIn table i) (fitting (get_or arities i 0) (entryIn table i))
+  abbrev pub row_held : ℕ → List ℕ
+  row_held i = row i (entry_in table i) (fitting (get_or arities i 0) (entry_in table i))
 
-  pub rows-chunks : Chunks n rows_to rowHeld (rows_to n)
-  unfolding tableIn
-  rows-chunks =
+  pub rows_chunks : Chunks n rows_to row_held (rows_to n)
+  unfolding table_in
+  rows_chunks =
       record {
         none = refl;
-        next = λ i h. rw add-one (ap (λ (c : List ℕ). rows_to i ++ row i c (fitting (get_or arities i 0) c)) (getD-values (entryIn table) [] n i h));
+        next = λ i h. rw add-one (ap (λ (c : List ℕ). rows_to i ++ row i c (fitting (get_or arities i 0) c)) (get_or_values (entry_in table) [] n i h));
         whole = refl;
       }
 
   -- the count of a row is that of the patterns held, whatever the word
-  pub row-held : (words : List ℕ) {p m : ℕ} → LowArities n arities → Admitted table words → n ≤ maxPredicates → p < n
-      → m ≡ howMany (bit_at (get_or words p 0)) (2 ^ get_or arities p 0) → row p (entryIn table p) m ≡ rowHeld p
-  row-held words {p} low f few h e =
-      ap (row p (entryIn table p)) (e ∙ fitting-word (entryIn table p) (get_or words p 0) (get_or arities p 0) (low p h) (f p (omega arith)))
+  pub row_held_lem : (words : List ℕ) {p m : ℕ} → LowArities n arities → Admitted table words → n ≤ max_predicates → p < n
+      → m ≡ how_many (bit_at (get_or words p 0)) (2 ^ get_or arities p 0) → row p (entry_in table p) m ≡ row_held p
+  row_held_lem words {p} low f few h e =
+      ap (row p (entry_in table p)) (e ∙ fitting_word (entry_in table p) (get_or words p 0) (get_or arities p 0) (low p h) (f p (omega arith)))

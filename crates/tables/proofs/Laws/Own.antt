@@ -13,7 +13,7 @@ use Rattle.masks.proofs.Laws.Logic.{and_intro, and_left, and_right}
 use Rattle.masks.proofs.Laws.Lists.{any_append, all_append, any_at}
 use Rattle.book.specs.Book.{Clause}
 use Rattle.book.specs.Table.{Table}
-use Rattle.ordering.specs.Good.{goodClause}
+use Rattle.ordering.specs.Good.{good_clause}
 use Rattle.tables.specs.Calls.{calls, touched}
 use Rattle.tables.specs.Table.{own, defined, good}
 
@@ -46,26 +46,26 @@ module _ (d : Clause) where
 
   -- "A predicate's pattern is good when all its clauses are good under it."
   module _ (T : Table) (cs : List Clause) (p a : ℕ) where
-    pub good-at : good T cs p a ≡ true → (k : ℕ) → k < length cs → (get_or cs k d).head.pred ≡ p → goodClause T (get_or cs k d) a ≡ true
+    pub good_at_lem : good T cs p a ≡ true → (k : ℕ) → k < length cs → (get_or cs k d).head.pred ≡ p → good_clause T (get_or cs k d) a ≡ true
     unfolding good
-    good-at g = own_at (λ c. goodClause T c a) p cs g
+    good_at_lem g = own_at (λ c. good_clause T c a) p cs g
 
-    pub at-good : ((k : ℕ) → k < length cs → (get_or cs k d).head.pred ≡ p → goodClause T (get_or cs k d) a ≡ true) → good T cs p a ≡ true
+    pub at_good : ((k : ℕ) → k < length cs → (get_or cs k d).head.pred ≡ p → good_clause T (get_or cs k d) a ≡ true) → good T cs p a ≡ true
     unfolding good
-    at-good h = at_own (λ c. goodClause T c a) p cs h
+    at_good h = at_own (λ c. good_clause T c a) p cs h
 
   -- the predicate of a clause has clauses
-  pub defined-at : (cs : List Clause) (k : ℕ) → k < length cs → defined cs (get_or cs k d).head.pred ≡ true
+  pub defined_at : (cs : List Clause) (k : ℕ) → k < length cs → defined cs (get_or cs k d).head.pred ≡ true
   unfolding defined
-  defined-at cs k l =
+  defined_at cs k l =
       any_at (λ c. eqb c.head.pred (get_or cs k d).head.pred) d cs k l (eq-eqb (get_or cs k d).head.pred (get_or cs k d).head.pred refl)
 
 -- ---- one clause more
 
-pub own-append : (xs ys : List Clause) (p : ℕ) → own (xs ++ ys) p ≡ own xs p ++ own ys p
+pub own_append : (xs ys : List Clause) (p : ℕ) → own (xs ++ ys) p ≡ own xs p ++ own ys p
 unfolding own
-own-append [] ys p = refl
-own-append (c ∷ xs) ys p = go (eqb c.head.pred p) (own-append xs ys p)
+own_append [] ys p = refl
+own_append (c ∷ xs) ys p = go (eqb c.head.pred p) (own_append xs ys p)
   where
     go : (b : Bool) → own (xs ++ ys) p ≡ own xs p ++ own ys p
         → cond b (c ∷ own (xs ++ ys) p) (own (xs ++ ys) p) ≡ cond b (c ∷ own xs p) (own xs p) ++ own ys p
@@ -73,15 +73,15 @@ own-append (c ∷ xs) ys p = go (eqb c.head.pred p) (own-append xs ys p)
     go false e = e
 
 module _ (cs : List Clause) (c : Clause) (p : ℕ) where
-  pub defined-snoc : defined (cs ++ (c ∷ [])) p ≡ (defined cs p || eqb c.head.pred p)
+  pub defined_snoc : defined (cs ++ (c ∷ [])) p ≡ (defined cs p || eqb c.head.pred p)
   unfolding defined
-  defined-snoc =
+  defined_snoc =
       any_append (λ (d : Clause). eqb d.head.pred p) cs (c ∷ []) ∙ ap (λ (b : Bool). defined cs p || b) (or-false (eqb c.head.pred p))
 
-  pub touched-snoc : (x : ℕ → Bool) → touched x (cs ++ (c ∷ [])) p ≡ (touched x cs p || (calls x c && eqb c.head.pred p))
+  pub touched_snoc : (x : ℕ → Bool) → touched x (cs ++ (c ∷ [])) p ≡ (touched x cs p || (calls x c && eqb c.head.pred p))
   unfolding touched own
-  touched-snoc x =
-      ap (any (calls x)) (own-append cs (c ∷ []) p)
+  touched_snoc x =
+      ap (any (calls x)) (own_append cs (c ∷ []) p)
       ∙ any_append (calls x) (own cs p) (own (c ∷ []) p)
       ∙ ap (λ (b : Bool). any (calls x) (own cs p) || b) (go (eqb c.head.pred p))
     where
@@ -89,22 +89,22 @@ module _ (cs : List Clause) (c : Clause) (p : ℕ) where
       go true = or-false (calls x c) ∙ sym (and-true (calls x c))
       go false = sym (and-false (calls x c))
 
-  pub good-snoc : (T : Table) (a : ℕ) → good T (cs ++ (c ∷ [])) p a ≡ (good T cs p a && cond (eqb c.head.pred p) (goodClause T c a) true)
+  pub good_snoc : (T : Table) (a : ℕ) → good T (cs ++ (c ∷ [])) p a ≡ (good T cs p a && cond (eqb c.head.pred p) (good_clause T c a) true)
   unfolding good own
-  good-snoc T a =
-      ap (all (λ (d : Clause). goodClause T d a)) (own-append cs (c ∷ []) p)
-      ∙ all_append (λ (d : Clause). goodClause T d a) (own cs p) (own (c ∷ []) p)
-      ∙ ap (λ (b : Bool). all (λ (d : Clause). goodClause T d a) (own cs p) && b) (go (eqb c.head.pred p))
+  good_snoc T a =
+      ap (all (λ (d : Clause). good_clause T d a)) (own_append cs (c ∷ []) p)
+      ∙ all_append (λ (d : Clause). good_clause T d a) (own cs p) (own (c ∷ []) p)
+      ∙ ap (λ (b : Bool). all (λ (d : Clause). good_clause T d a) (own cs p) && b) (go (eqb c.head.pred p))
     where
-      go : (b : Bool) → all (λ (d : Clause). goodClause T d a) (cond b (c ∷ []) []) ≡ cond b (goodClause T c a) true
-      go true = and-true (goodClause T c a)
+      go : (b : Bool) → all (λ (d : Clause). good_clause T d a) (cond b (c ∷ []) []) ≡ cond b (good_clause T c a) true
+      go true = and-true (good_clause T c a)
       go false = refl
 
 -- a predicate with a clause that calls has a clause
-pub touched-defined : (x : ℕ → Bool) (cs : List Clause) (p : ℕ) → touched x cs p ≡ true → defined cs p ≡ true
+pub touched_defined : (x : ℕ → Bool) (cs : List Clause) (p : ℕ) → touched x cs p ≡ true → defined cs p ≡ true
 unfolding touched own defined
-touched-defined x [] p t = t
-touched-defined x (c ∷ cs) p t = go (eqb c.head.pred p) (touched-defined x cs p) t
+touched_defined x [] p t = t
+touched_defined x (c ∷ cs) p t = go (eqb c.head.pred p) (touched_defined x cs p) t
   where
     go : (b : Bool) → (any (calls x) (own cs p) ≡ true → any (λ c. eqb c.head.pred p) cs ≡ true)
         → any (calls x) (cond b (c ∷ own cs p) (own cs p)) ≡ true → (b || any (λ c. eqb c.head.pred p) cs) ≡ true

@@ -5,13 +5,13 @@ use mathlib.Core.Logic.{⊎_elim}
 use Prim.Native.Nat.{ℕ, ◌-◌, ◌≤◌}
 use native.Mathlib.Omega.{arith}
 use borrow.Author.Rules.{rules}
-use Rattle.masks.specs.Limits.{allPatterns}
+use Rattle.masks.specs.Limits.{all_patterns}
 use Rattle.masks.specs.Constraint.{in_range, minimise}
 use Rattle.masks.proofs.Laws.Patterns.{ones}
-use Rattle.book.specs.Held.{modesOf}
-use Rattle.book.specs.Table.{tableIn}
-use Rattle.tables.specs.Table.{firstNeeds}
-use Rattle.tables.proofs.Laws.Held.{first-none, first_some, Filling, filling-start, filling-next, trivial-held, trivial-full}
+use Rattle.book.specs.Held.{modes_of}
+use Rattle.book.specs.Table.{table_in}
+use Rattle.tables.specs.Table.{first_needs}
+use Rattle.tables.proofs.Laws.Held.{first_none, first_some, Filling, filling_start, filling_next, trivial_held, trivial_full}
 use Rattle.tables.proofs.first_table.Statement.{statement}
 use Rattle.tables.proofs.first_table.Tie as tie
 
@@ -27,7 +27,7 @@ loop-holds c =
     let p = c.before.before.requires in
     let m = c.before.masks.given.0.1 in
     let n = c.patterns.given.0.1 in
-    (omega arith, filling-start s.modes.now s.table.now s.admits.now (omega arith) (omega arith) p.2 p.3)
+    (omega arith, filling_start s.modes.now s.table.now s.admits.now (omega arith) (omega arith) p.2 p.3)
 
 cast-q : tie.Need-overflow-cast-q invariant-loop decreases-loop
 cast-q c = search rules
@@ -42,7 +42,7 @@ minimised-requires : tie.Need-minimised-requires invariant-loop decreases-loop
 minimised-requires c κs =
     let p = c.before.before.before.before.before.before.before.requires in
     let h = p.0 in
-    ap (in_range allPatterns) c.masks-at.ensures
+    ap (in_range all_patterns) c.masks-at.ensures
     ∙ p.1 c.before.before.before.before.loop.p (omega arith) (sym c.before.before.has-mode.ensures ∙ c.before.if1.true)
 
 mul-masks : tie.Need-overflow-mul-masks invariant-loop decreases-loop
@@ -82,11 +82,11 @@ loop-again c =
       ⊎_elim
           (λ u.
           rw (u.4, u.5)
-          (filling-next s.modes.now l.p u.2.result u.3.result (omega arith)
+          (filling_next s.modes.now l.p u.2.result u.3.result (omega arith)
           (u.2.ensures ∙ ap minimise u.1.ensures ∙ first_some s.modes.now l.p (omega arith) (has ∙ u.0.taken)) u.3.ensures l.invariant.1))
           (λ u.
           rw (u.1, u.2)
-          (filling-next s.modes.now l.p 1 ones (omega arith) (trivial-held ∙ first-none s.modes.now l.p (omega arith) (has ∙ u.0.left)) trivial-full
+          (filling_next s.modes.now l.p 1 ones (omega arith) (trivial_held ∙ first_none s.modes.now l.p (omega arith) (has ∙ u.0.left)) trivial_full
           l.invariant.1))
           c.if1.branch,
     )
@@ -96,7 +96,7 @@ returns c =
     let l = c.before.loop in
     let s = c.before.before.before.before.args in
     let e : l.p ≡ s.preds = omega arith in
-    (subst (λ (n : ℕ). tableIn l.masks n ≡ firstNeeds (modesOf s.modes.now 64) n) e l.invariant.1.is, l.invariant.1.admitted)
+    (subst (λ (n : ℕ). table_in l.masks n ≡ first_needs (modes_of s.modes.now 64) n) e l.invariant.1.is, l.invariant.1.admitted)
 
 pub first-table-spec : {M : Type 1} → statement M
 first-table-spec =

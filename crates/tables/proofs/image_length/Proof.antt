@@ -6,21 +6,21 @@ use native.Mathlib.Omega.{arith}
 use lib.ListN.{get_or}
 use borrow.Author.Rules.{rules}
 use Rattle.masks.specs.Constraint.{fitting}
-use Rattle.book.specs.Table.{entryIn, tableIn}
-use Rattle.writing.proofs.Laws.Chunks.{Measuring, measuring-start, measuring-next, measuring-end}
-use Rattle.tables.proofs.Laws.Image.{row-length, rows-size}
-use Rattle.tables.proofs.Laws.Held.{rows_to, rowHeld, rows-chunks}
+use Rattle.book.specs.Table.{entry_in, table_in}
+use Rattle.writing.proofs.Laws.Chunks.{Measuring, measuring_start, measuring_next, measuring_end}
+use Rattle.tables.proofs.Laws.Image.{row_length_lem, rows_size}
+use Rattle.tables.proofs.Laws.Held.{rows_to, row_held, rows_chunks}
 use Rattle.tables.proofs.image_length.Statement.{statement}
 use Rattle.tables.proofs.image_length.Tie as tie
 
 abbrev invariant-loop : tie.invariant-loop
-invariant-loop preds table total₀ p₀ total p = Measuring preds (rows_to [] table preds) (rowHeld [] table preds) (rows_to [] table preds preds) 69 p total
+invariant-loop preds table total₀ p₀ total p = Measuring preds (rows_to [] table preds) (row_held [] table preds) (rows_to [] table preds preds) 69 p total
 
 abbrev decreases-loop : tie.decreases-loop
 decreases-loop preds table total₀ p₀ total p = preds - p
 
 loop-holds : tie.Need-loop-init invariant-loop decreases-loop
-loop-holds c = measuring-start (rows-chunks [] c.args.table.now c.args.preds)
+loop-holds c = measuring_start (rows_chunks [] c.args.table.now c.args.preds)
 
 mul-count : tie.Need-overflow-mul-count invariant-loop decreases-loop
 mul-count c = omega arith
@@ -45,13 +45,13 @@ loop-again c =
     let n = c.count.ensures in
     let k = c.before.before.before in
     let i = k.loop.p in
-    let l = row-length i (entryIn k.before.args.table.now i) (fitting (get_or [] i 0) (entryIn k.before.args.table.now i)) in
-    measuring-next k.loop.invariant (omega arith) (omega arith) (omega arith)
+    let l = row_length_lem i (entry_in k.before.args.table.now i) (fitting (get_or [] i 0) (entry_in k.before.args.table.now i)) in
+    measuring_next k.loop.invariant (omega arith) (omega arith) (omega arith)
 
 returns : tie.Need-returns invariant-loop decreases-loop
 returns c arities =
     let s = c.before.before.args in
-    measuring-end c.before.loop.invariant (omega arith) ∙ rows-size [] arities (tableIn s.table.now s.preds) s.preds
+    measuring_end c.before.loop.invariant (omega arith) ∙ rows_size [] arities (table_in s.table.now s.preds) s.preds
 
 pub image-length-spec : {M : Type 1} → statement M
 image-length-spec =

@@ -3,18 +3,18 @@ use mathlib.Core.Path.{◌≡◌, sym, subst}
 use Prim.Native.Nat.{◌-◌}
 use native.Mathlib.Omega.{arith}
 use borrow.Author.Rules.{rules}
-use Rattle.book.specs.Table.{entryIn}
+use Rattle.book.specs.Table.{entry_in}
 use Rattle.writing.specs.Wrote.{Room}
 use Rattle.writing.proofs.Laws.Wrote.{wrote_as}
-use Rattle.writing.proofs.Laws.Chunks.{Writing, writing_start, writing-length, writing-room, writing-next, writing-end}
+use Rattle.writing.proofs.Laws.Chunks.{Writing, writing_start, writing_length, writing_room, writing_next, writing_end}
 use Rattle.tables.specs.Image.{row}
-use Rattle.tables.proofs.Laws.Held.{rows_to, rowHeld, rows-chunks, row-held}
+use Rattle.tables.proofs.Laws.Held.{rows_to, row_held, rows_chunks, row_held_lem}
 use Rattle.tables.proofs.put_image.Statement.{statement}
 use Rattle.tables.proofs.put_image.Tie as tie
 
 abbrev invariant-loop : tie.invariant-loop
 invariant-loop out₀ preds arities table admits at₀ p₀ out at p =
-    Writing preds (rows_to arities table preds) (rowHeld arities table preds) (rows_to arities table preds preds) out₀ 0 p out at
+    Writing preds (rows_to arities table preds) (row_held arities table preds) (rows_to arities table preds preds) out₀ 0 p out at
 
 abbrev decreases-loop : tie.decreases-loop
 decreases-loop out₀ preds arities table admits at₀ p₀ out at p = preds - p
@@ -22,7 +22,7 @@ decreases-loop out₀ preds arities table admits at₀ p₀ out at p = preds - p
 loop-holds : tie.Need-loop-init invariant-loop decreases-loop
 loop-holds c =
     let k = c.before.args in
-    writing_start (rows-chunks k.arities.now k.table.now k.preds) c.before.requires.3
+    writing_start (rows_chunks k.arities.now k.table.now k.preds) c.before.requires.3
 
 cast-i : tie.Need-overflow-cast-i invariant-loop decreases-loop
 cast-i c = search rules
@@ -47,26 +47,26 @@ element-copy-out-put-row c = omega arith
 
 -- the count made of p's patterns is that of its row
 counted : (c : tie.After-fitting invariant-loop decreases-loop) → let l = c.before.before.before.before.loop in let k = c.before.before.before.before.before.before.args in
-    row l.p (entryIn k.table.now l.p) c.fitting.result ≡ rowHeld k.arities.now k.table.now k.preds l.p
+    row l.p (entry_in k.table.now l.p) c.fitting.result ≡ row_held k.arities.now k.table.now k.preds l.p
 counted c =
     let k = c.before.before.before.before.before.before in
-    row-held k.args.arities.now k.args.table.now k.args.preds k.args.admits.now k.requires.1 k.requires.2 k.requires.0 c.before.before.before.loop-test.true c.fitting.ensures
+    row_held_lem k.args.arities.now k.args.table.now k.args.preds k.args.admits.now k.requires.1 k.requires.2 k.requires.0 c.before.before.before.loop-test.true c.fitting.ensures
 
 put-row-requires : tie.Need-put-row-requires invariant-loop decreases-loop
 put-row-requires c κs =
     let l = c.before.before.before.before.before.before.loop in
-    subst (Room l.out l.at) (sym (counted c.before.before)) (writing-room l.invariant (omega arith))
+    subst (Room l.out l.at) (sym (counted c.before.before)) (writing_room l.invariant (omega arith))
 
 loop-again : tie.Need-loop-preserved invariant-loop decreases-loop
 loop-again c =
     let l = c.before.before.before.before.before.before.before.before.before.loop in
-    writing-next l.invariant (omega arith) (wrote_as (counted c.before.before.before.before.before) c.before.before.put-row.ensures)
+    writing_next l.invariant (omega arith) (wrote_as (counted c.before.before.before.before.before) c.before.before.put-row.ensures)
 
 same_length : tie.Need-same-length invariant-loop decreases-loop
-same_length c = writing-length c.before.loop.invariant
+same_length c = writing_length c.before.loop.invariant
 
 returns : tie.Need-returns invariant-loop decreases-loop
-returns c = writing-end c.before.loop.invariant (omega arith)
+returns c = writing_end c.before.loop.invariant (omega arith)
 
 pub put-image-spec : {M : Type 1} → statement M
 put-image-spec =

@@ -4,7 +4,7 @@ use Prim.Native.Nat.{ℕ}
 use lib.ListN.{length}
 use borrow.Author.Rules.{rules}
 use Rattle.masks.specs.Set.{members}
-use Rattle.writing.proofs.Laws.Wrote.{wrote-append, room-first, room-second}
+use Rattle.writing.proofs.Laws.Wrote.{wrote_append, room_first, room_second}
 use Rattle.tables.proofs.put_row.Statement.{statement}
 use Rattle.tables.proofs.put_row.Tie as tie
 
@@ -20,14 +20,14 @@ put-constraint-requires c κs =
     let k = c.before.before.before.before.before.before.before in
     let mark = c.before.before.before.put-mark in
     let behind = constraint k.args.p k.args.masks in
-    room-first mark.new.0 mark.result behind (k.args.fit ∷ []) (room-second (behind ++ (k.args.fit ∷ [])) mark.ensures k.requires)
+    room_first mark.new.0 mark.result behind (k.args.fit ∷ []) (room_second (behind ++ (k.args.fit ∷ [])) mark.ensures k.requires)
 
 put-byte-requires : tie.Need-put-byte-requires
 put-byte-requires c κs =
     let m = c.before.before.before.before.before.before.before in
     let k = m.before.before.before.before in
-    room-second (k.args.fit ∷ []) c.before.before.before.put-constraint.ensures
-    (room-second (constraint k.args.p k.args.masks ++ (k.args.fit ∷ [])) m.put-mark.ensures k.requires)
+    room_second (k.args.fit ∷ []) c.before.before.before.put-constraint.ensures
+    (room_second (constraint k.args.p k.args.masks ++ (k.args.fit ∷ [])) m.put-mark.ensures k.requires)
 
 same_length : tie.Need-same-length
 same_length c = search rules
@@ -35,7 +35,7 @@ same_length c = search rules
 returns : tie.Need-returns
 returns c =
     let q = c.before.before.before.before.before.before in
-    wrote-append q.before.before.before.before.put-mark.ensures (wrote-append q.put-constraint.ensures c.before.before.put_byte.ensures)
+    wrote_append q.before.before.before.before.put-mark.ensures (wrote_append q.put-constraint.ensures c.before.before.put_byte.ensures)
 
 pub put-row-spec : {M : Type 1} → statement M
 put-row-spec = tie.close (tie.spec put-mark-requires put-constraint-requires put-byte-requires same_length returns)

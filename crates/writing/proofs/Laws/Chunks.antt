@@ -8,7 +8,7 @@ use native.Mathlib.Numerals.{add-one}
 use lib.ListN.{length, length-append}
 use Rattle.masks.specs.Lists.{joined}
 use Rattle.writing.specs.Wrote.{Room, Wrote}
-use Rattle.writing.proofs.Laws.Wrote.{wrote-nil, wrote-append, wrote_as, wrote-length}
+use Rattle.writing.proofs.Laws.Wrote.{wrote_nil, wrote_append, wrote_as, wrote_length}
 
 -- ---- n chunks: f i are the bytes of the first i
 
@@ -18,27 +18,27 @@ pub record Chunks (n : ℕ) (f chunk : ℕ → List ℕ) (bytes : List ℕ) : Ty
   pub whole : f n ≡ bytes
 
 -- lists one after the other
-pub joined-chunks : (chunk : ℕ → List ℕ) (n : ℕ) → Chunks n (joined chunk) chunk (joined chunk n)
-joined-chunks chunk n = record { none = refl; next = λ i h. rw add-one; whole = refl }
+pub joined_chunks : (chunk : ℕ → List ℕ) (n : ℕ) → Chunks n (joined chunk) chunk (joined chunk n)
+joined_chunks chunk n = record { none = refl; next = λ i h. rw add-one; whole = refl }
 
 module _ {n : ℕ} {f chunk : ℕ → List ℕ} {bytes : List ℕ} (s : Chunks n f chunk bytes) where
-  next-length : (i : ℕ) → i < n → length (f (i + 1)) ≡ length (f i) + length (chunk i)
-  next-length i h = ap length (s.next i h) ∙ length-append (f i) (chunk i)
+  next_length : (i : ℕ) → i < n → length (f (i + 1)) ≡ length (f i) + length (chunk i)
+  next_length i h = ap length (s.next i h) ∙ length-append (f i) (chunk i)
 
-  length-rises : (i k : ℕ) → i + k ≤ n → length (f i) ≤ length (f (i + k))
-  length-rises i zero h = rw add-zero (omega arith)
-  length-rises i (suc k) h =
+  length_rises : (i k : ℕ) → i + k ≤ n → length (f i) ≤ length (f (i + k))
+  length_rises i zero h = rw add-zero (omega arith)
+  length_rises i (suc k) h =
       let e : i + suc k ≡ i + k + 1 = omega arith in
-      let r = length-rises i k (omega arith) in
-      let z = next-length (i + k) (omega arith) in
+      let r = length_rises i k (omega arith) in
+      let z = next_length (i + k) (omega arith) in
       rw e (omega arith)
 
   -- the bytes of the first i, with those that come next, are no more than all
-  next-most : (i : ℕ) → i < n → length (f i) + length (chunk i) ≤ length bytes
-  next-most i h =
+  next_most : (i : ℕ) → i < n → length (f i) + length (chunk i) ≤ length bytes
+  next_most i h =
       let e : i + 1 + (n - (i + 1)) ≡ n = omega arith in
-      let a = rw e at (length-rises (i + 1) (n - (i + 1)) (omega arith)) in
-      let b = next-length i h in
+      let a = rw e at (length_rises (i + 1) (n - (i + 1)) (omega arith)) in
+      let b = next_length i h in
       let c = ap length s.whole in
       omega arith
 
@@ -52,35 +52,35 @@ pub record Writing (n : ℕ) (f chunk : ℕ → List ℕ) (bytes out : List ℕ)
 
 module _ {n : ℕ} {f chunk : ℕ → List ℕ} {bytes out : List ℕ} {at : ℕ} where
   pub writing_start : Chunks n f chunk bytes → Room out at bytes → Writing n f chunk bytes out at 0 out at
-  writing_start s r = record { chunks = s; room = r; most = omega arith; wrote = wrote_as (sym s.none) (wrote-nil out at) }
+  writing_start s r = record { chunks = s; room = r; most = omega arith; wrote = wrote_as (sym s.none) (wrote_nil out at) }
 
   module _ {i p : ℕ} {now : List ℕ} (w : Writing n f chunk bytes out at i now p) where
-    pub writing-length : length now ≡ length out
-    writing-length = wrote-length w.wrote
+    pub writing_length : length now ≡ length out
+    writing_length = wrote_length w.wrote
 
-    pub writing-room : i < n → Room now p (chunk i)
-    writing-room h =
-        let a = next-most w.chunks i h in
+    pub writing_room : i < n → Room now p (chunk i)
+    writing_room h =
+        let a = next_most w.chunks i h in
         let d = w.wrote.ends in
-        let e = writing-length in
+        let e = writing_length in
         let r = w.room in
         omega arith
 
-    pub writing-next : {after : List ℕ} {q : ℕ} → i < n → Wrote now after p q (chunk i) → Writing n f chunk bytes out at (i + 1) after q
-    writing-next h v =
+    pub writing_next : {after : List ℕ} {q : ℕ} → i < n → Wrote now after p q (chunk i) → Writing n f chunk bytes out at (i + 1) after q
+    writing_next h v =
         record {
           chunks = w.chunks;
           room = w.room;
           most = omega arith;
-          wrote = wrote_as (sym (w.chunks.next i h)) (wrote-append w.wrote v);
+          wrote = wrote_as (sym (w.chunks.next i h)) (wrote_append w.wrote v);
         }
 
     -- a turn that has nothing to write
-    pub writing-none : i < n → chunk i ≡ [] → Writing n f chunk bytes out at (i + 1) now p
-    writing-none h e = writing-next h (wrote_as (sym e) (wrote-nil now p))
+    pub writing_none : i < n → chunk i ≡ [] → Writing n f chunk bytes out at (i + 1) now p
+    writing_none h e = writing_next h (wrote_as (sym e) (wrote_nil now p))
 
-    pub writing-end : n ≤ i → Wrote out now at p bytes
-    writing-end h = let m = w.most in let e : i ≡ n = omega arith in wrote_as (ap f e ∙ w.chunks.whole) w.wrote
+    pub writing_end : n ≤ i → Wrote out now at p bytes
+    writing_end h = let m = w.most in let e : i ≡ n = omega arith in wrote_as (ap f e ∙ w.chunks.whole) w.wrote
 
 -- ---- the loop that measures them: the first i are measured, each of at most k bytes
 
@@ -91,24 +91,24 @@ pub record Measuring (n : ℕ) (f chunk : ℕ → List ℕ) (bytes : List ℕ) (
   pub small : total ≤ k * i
 
 module _ {n : ℕ} {f chunk : ℕ → List ℕ} {bytes : List ℕ} {k : ℕ} where
-  pub measuring-start : Chunks n f chunk bytes → Measuring n f chunk bytes k 0 0
-  measuring-start s = record { chunks = s; most = omega arith; is = sym (ap length s.none); small = omega arith }
+  pub measuring_start : Chunks n f chunk bytes → Measuring n f chunk bytes k 0 0
+  measuring_start s = record { chunks = s; most = omega arith; is = sym (ap length s.none); small = omega arith }
 
   module _ {i total : ℕ} (m : Measuring n f chunk bytes k i total) where
-    pub measuring-next : {more : ℕ} → i < n → more ≡ total + length (chunk i) → length (chunk i) ≤ k → Measuring n f chunk bytes k (i + 1) more
-    measuring-next h e l =
-        let a = next-length m.chunks i h in
+    pub measuring_next : {more : ℕ} → i < n → more ≡ total + length (chunk i) → length (chunk i) ≤ k → Measuring n f chunk bytes k (i + 1) more
+    measuring_next h e l =
+        let a = next_length m.chunks i h in
         let b = m.is in
         let c = m.small in
         let d : k * (i + 1) ≡ k * i + k = rw add-one (mul-suc k i) in
         record { chunks = m.chunks; most = omega arith; is = omega arith; small = omega arith }
 
     -- a turn that has nothing to measure
-    pub measuring-none : i < n → chunk i ≡ [] → Measuring n f chunk bytes k (i + 1) total
-    measuring-none h e = let z = ap length e in measuring-next h (omega arith) (omega arith)
+    pub measuring_none : i < n → chunk i ≡ [] → Measuring n f chunk bytes k (i + 1) total
+    measuring_none h e = let z = ap length e in measuring_next h (omega arith) (omega arith)
 
-    pub measuring-end : n ≤ i → total ≡ length bytes
-    measuring-end h =
+    pub measuring_end : n ≤ i → total ≡ length bytes
+    measuring_end h =
         let a = m.most in
         let e : i ≡ n = omega arith in
         m.is ∙ ap length (ap f e ∙ m.chunks.whole)

@@ -5,9 +5,9 @@ use native.Mathlib.Omega.{arith}
 use lib.ListN.{length-append, length}
 use borrow.Author.Rules.{rules}
 use Rattle.book.specs.Book.{Head}
-use Rattle.book.specs.Encode.{run, encHead, encSubgoal}
-use Rattle.book.specs.Held.{clauseAt}
-use Rattle.writing.proofs.Laws.Wrote.{wrote-append, wrote_as, room-second}
+use Rattle.book.specs.Encode.{run, enc_head, enc_subgoal}
+use Rattle.book.specs.Held.{clause_at}
+use Rattle.writing.proofs.Laws.Wrote.{wrote_append, wrote_as, room_second}
 use Rattle.writing.proofs.put_clause.Statement.{statement}
 use Rattle.writing.proofs.put_clause.Tie as tie
 
@@ -20,10 +20,10 @@ head-at-requires c κs = c.before.before.before.before.before.before.before.requ
 put-call-requires : tie.Need-put-call-requires
 put-call-requires c κs =
     let s = c.before.before.before.before.before.before.before.before in
-    let k = clauseAt s.args.rules.now s.args.k in
-    let head = encHead k.head in
-    let body = run encSubgoal k.body in
-    let r = room-second (head ++ body) c.before.before.before.before.put-mark.ensures s.requires.1 in
+    let k = clause_at s.args.rules.now s.args.k in
+    let head = enc_head k.head in
+    let body = run enc_subgoal k.body in
+    let r = room_second (head ++ body) c.before.before.before.before.put-mark.ensures s.requires.1 in
     let l = length-append head body in
     let e = ap (λ (x : Head). length x.args) c.head_at.ensures in
     omega arith
@@ -32,8 +32,8 @@ put-body-requires : tie.Need-put-body-requires
 put-body-requires c κs =
     let s = c.before.before.before.before.before.before.before.before.before.before.before.before in
     let mark = c.before.before.before.before.before.before.before.before.put-mark.ensures in
-    let head = wrote_as (ap encHead c.before.before.before.before.head_at.ensures) c.before.before.before.put-call.ensures in
-    (s.requires.0, room-second (run encSubgoal (clauseAt s.args.rules.now s.args.k).body) (wrote-append mark head) s.requires.1)
+    let head = wrote_as (ap enc_head c.before.before.before.before.head_at.ensures) c.before.before.before.put-call.ensures in
+    (s.requires.0, room_second (run enc_subgoal (clause_at s.args.rules.now s.args.k).body) (wrote_append mark head) s.requires.1)
 
 same_length : tie.Need-same-length
 same_length c = search rules
@@ -41,8 +41,8 @@ same_length c = search rules
 returns : tie.Need-returns
 returns c =
     let mark = c.before.before.before.before.before.before.before.before.before.before.before.put-mark.ensures in
-    let head = wrote_as (ap encHead c.before.before.before.before.before.before.before.head_at.ensures) c.before.before.before.before.before.before.put-call.ensures in
-    wrote-append mark (wrote-append head c.before.before.put-body.ensures)
+    let head = wrote_as (ap enc_head c.before.before.before.before.before.before.before.head_at.ensures) c.before.before.before.before.before.before.put-call.ensures in
+    wrote_append mark (wrote_append head c.before.before.put-body.ensures)
 
 pub put-clause-spec : {M : Type 1} → statement M
 put-clause-spec =

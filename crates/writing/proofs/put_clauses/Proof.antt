@@ -2,14 +2,14 @@
 use Prim.Native.Nat.{min, ◌-◌}
 use native.Mathlib.Omega.{arith}
 use borrow.Author.Rules.{rules}
-use Rattle.book.specs.Limits.{maxClauses}
-use Rattle.writing.proofs.Laws.Chunks.{Writing, writing_start, writing-length, writing-room, writing-next, writing-end}
-use Rattle.writing.proofs.Laws.Runs.{clausesTo, clauseBytesAt, clauses-chunks}
+use Rattle.book.specs.Limits.{max_clauses}
+use Rattle.writing.proofs.Laws.Chunks.{Writing, writing_start, writing_length, writing_room, writing_next, writing_end}
+use Rattle.writing.proofs.Laws.Runs.{clauses_to, clause_bytes_at, clauses_chunks}
 use Rattle.writing.proofs.put_clauses.Statement.{statement}
 use Rattle.writing.proofs.put_clauses.Tie as tie
 
 abbrev invariant-loop : tie.invariant-loop
-invariant-loop out₀ at clauses rules n p₀ k₀ out p k = Writing n (clausesTo rules) (clauseBytesAt rules) (clausesTo rules (min clauses maxClauses)) out₀ at k out p
+invariant-loop out₀ at clauses rules n p₀ k₀ out p k = Writing n (clauses_to rules) (clause_bytes_at rules) (clauses_to rules (min clauses max_clauses)) out₀ at k out p
 
 abbrev decreases-loop : tie.decreases-loop
 decreases-loop out₀ at clauses rules n p₀ k₀ out p k = n - k
@@ -18,10 +18,10 @@ least-requires : tie.Need-least-requires invariant-loop decreases-loop
 least-requires c κs = search rules
 
 loop-holds : tie.Need-loop-init invariant-loop decreases-loop
-loop-holds c = writing_start (clauses-chunks c.before.before.args.rules.now (min c.before.before.args.clauses maxClauses) (omega arith)) c.before.before.requires
+loop-holds c = writing_start (clauses_chunks c.before.before.args.rules.now (min c.before.before.args.clauses max_clauses) (omega arith)) c.before.before.requires
 
 put-clause-requires : tie.Need-put-clause-requires invariant-loop decreases-loop
-put-clause-requires c κs = (omega arith, writing-room c.before.before.loop.invariant (omega arith))
+put-clause-requires c κs = (omega arith, writing_room c.before.before.loop.invariant (omega arith))
 
 add-k : tie.Need-overflow-add-k invariant-loop decreases-loop
 add-k c = omega arith
@@ -30,13 +30,13 @@ loop-less : tie.Need-loop-smaller invariant-loop decreases-loop
 loop-less c = omega arith
 
 loop-again : tie.Need-loop-preserved invariant-loop decreases-loop
-loop-again c = writing-next c.before.before.before.before.before.loop.invariant (omega arith) c.before.before.put-clause.ensures
+loop-again c = writing_next c.before.before.before.before.before.loop.invariant (omega arith) c.before.before.put-clause.ensures
 
 same_length : tie.Need-same-length invariant-loop decreases-loop
-same_length c = writing-length c.before.loop.invariant
+same_length c = writing_length c.before.loop.invariant
 
 returns : tie.Need-returns invariant-loop decreases-loop
-returns c = writing-end c.before.loop.invariant (omega arith)
+returns c = writing_end c.before.loop.invariant (omega arith)
 
 pub put-clauses-spec : {M : Type 1} → statement M
 put-clauses-spec =

@@ -3,7 +3,7 @@ use mathlib.Core.List.{◌∷◌}
 use native.Mathlib.Omega.{arith}
 use lib.ListN.{length}
 use borrow.Author.Rules.{rules}
-use Rattle.writing.proofs.Laws.Wrote.{wrote-append, room-second}
+use Rattle.writing.proofs.Laws.Wrote.{wrote_append, room_second}
 use Rattle.writing.proofs.put_mode.Statement.{statement}
 use Rattle.writing.proofs.put_mode.Tie as tie
 
@@ -14,7 +14,7 @@ put-byte-requires : tie.Need-put-byte-requires
 put-byte-requires c κs =
     let s = c.before.before.before.before.before.before.before.before in
     let masks = s.args.masks.now in
-    let r = room-second (s.args.p ∷ length masks ∷ masks) c.before.before.before.put-mark.ensures s.requires.1 in
+    let r = room_second (s.args.p ∷ length masks ∷ masks) c.before.before.before.put-mark.ensures s.requires.1 in
     omega arith
 
 cast-put-byte : tie.Need-overflow-cast-put-byte
@@ -25,7 +25,7 @@ put-byte-requires-2 c κs =
     let s = c.before.before.before.before.before.before.before.before.before.before.before.before in
     let masks = s.args.masks.now in
     let mark = c.before.before.before.before.before.before.before.put-mark.ensures in
-    let r = room-second (length masks ∷ masks) (wrote-append mark c.before.before.before.put_byte.ensures) s.requires.1 in
+    let r = room_second (length masks ∷ masks) (wrote_append mark c.before.before.before.put_byte.ensures) s.requires.1 in
     omega arith
 
 put-bytes-requires : tie.Need-put-bytes-requires
@@ -33,7 +33,7 @@ put-bytes-requires c κs =
     let s = c.before.before.before.before.before.before.before.before.before.before.before.before.before.before.before.before in
     let mark = c.before.before.before.before.before.before.before.before.before.before.before.put-mark.ensures in
     let pred = c.before.before.before.before.before.before.before.put_byte.ensures in
-    room-second s.args.masks.now (wrote-append mark (wrote-append pred c.before.before.before.put-byte2.ensures)) s.requires.1
+    room_second s.args.masks.now (wrote_append mark (wrote_append pred c.before.before.before.put-byte2.ensures)) s.requires.1
 
 same_length : tie.Need-same-length
 same_length c = search rules
@@ -43,7 +43,7 @@ returns c =
     let mark = c.before.before.before.before.before.before.before.before.before.before.before.before.before.before.put-mark.ensures in
     let pred = c.before.before.before.before.before.before.before.before.before.before.put_byte.ensures in
     let count = c.before.before.before.before.before.before.put-byte2.ensures in
-    wrote-append mark (wrote-append pred (wrote-append count c.before.before.put-bytes.ensures))
+    wrote_append mark (wrote_append pred (wrote_append count c.before.before.put-bytes.ensures))
 
 pub put-mode-spec : {M : Type 1} → statement M
 put-mode-spec =

@@ -1,7 +1,7 @@
 -- `book::clause::head_at` meets its contract. It is the clause's second word. Assumes nothing.
 use mathlib.Core.Path.{refl}
 use borrow.Author.Rules.{rules}
-use Rattle.book.specs.Held.{clauseAt}
+use Rattle.book.specs.Held.{clause_at}
 use Rattle.book.proofs.clause.head_at.Statement.{statement}
 use Rattle.book.proofs.clause.head_at.Tie as tie
 
@@ -15,7 +15,7 @@ element-copy-out-result : tie.Need-element-copy-out-result
 element-copy-out-result c = search rules
 
 returns : tie.Need-returns
-unfolding clauseAt
+unfolding clause_at
 returns c = refl
 
 pub head-at-spec : {M : Type 1} → statement M

@@ -4,8 +4,8 @@ use mathlib.Core.Path.{refl, sym, ap}
 use Prim.Native.Nat.{◌-◌}
 use native.Mathlib.Omega.{arith}
 use borrow.Author.Rules.{rules}
-use Rattle.book.specs.Held.{clauseAt}
-use Rattle.book.proofs.Laws.Held.{Moving, moving-start, moving-next, moving-end}
+use Rattle.book.specs.Held.{clause_at}
+use Rattle.book.proofs.Laws.Held.{Moving, moving_start, moving_next, moving_end}
 use Rattle.book.proofs.clause.move_clause.Statement.{statement}
 use Rattle.book.proofs.clause.move_clause.Tie as tie
 
@@ -18,7 +18,7 @@ decreases-loop from to words₀ i₀ words i = 10 - i
 loop-holds : tie.Need-loop-init invariant-loop decreases-loop
 loop-holds c =
     let s = c.before.before.args in
-    moving-start s.rules.now s.from s.to (let l = c.words.given.0.1 in omega arith)
+    moving_start s.rules.now s.from s.to (let l = c.words.given.0.1 in omega arith)
 
 mul_words : tie.Need-overflow-mul-words invariant-loop decreases-loop
 mul_words c = omega arith
@@ -47,13 +47,13 @@ slice-write-words c = let n = c.before.before.loop.invariant.size in omega arith
 loop-again : tie.Need-loop-preserved invariant-loop decreases-loop
 loop-again c =
     let d = c.before.before.before.before in
-    moving-next d.if1.true c.before.before.loop.invariant d.before.requires.1 (omega arith)
+    moving_next d.if1.true c.before.before.loop.invariant d.before.requires.1 (omega arith)
 
 returns : tie.Need-returns invariant-loop decreases-loop
-returns c = moving-end c.before.before.before.if1.true c.before.loop.invariant (omega arith)
+returns c = moving_end c.before.before.before.if1.true c.before.loop.invariant (omega arith)
 
 returns-2 : tie.Need-returns-2 invariant-loop decreases-loop
-returns-2 c = record { is = ap (clauseAt c.before.args.rules.now) (sym c.if1.false); others = λ i ne. refl }
+returns-2 c = record { is = ap (clause_at c.before.args.rules.now) (sym c.if1.false); others = λ i ne. refl }
 
 pub move-clause-spec : {M : Type 1} → statement M
 move-clause-spec =

@@ -2,9 +2,9 @@
 use Prim.Native.Nat.{◌+◌, ◌*◌}
 use native.Mathlib.Omega.{arith}
 use borrow.Author.Rules.{rules}
-use Rattle.masks.specs.Limits.{maxMasks}
-use Rattle.book.specs.Held.{modeSize}
-use Rattle.book.proofs.Laws.Held.{masksIn-part}
+use Rattle.masks.specs.Limits.{max_masks}
+use Rattle.book.specs.Held.{mode_size}
+use Rattle.book.proofs.Laws.Held.{masks_in_part}
 use Rattle.book.proofs.mode.masks_at.Statement.{statement}
 use Rattle.book.proofs.mode.masks_at.Tie as tie
 
@@ -21,7 +21,7 @@ shared-slice-read-held : tie.Need-shared-slice-read-held
 shared-slice-read-held c = omega arith
 
 cast-held : tie.Need-overflow-cast-held
-cast-held c = omega (arith, c.shared-slice-known.given (c.before.before.args.p * modeSize + 1))
+cast-held c = omega (arith, c.shared-slice-known.given (c.before.before.args.p * mode_size + 1))
 
 held-requires : tie.Need-held-requires
 held-requires c κs = search rules
@@ -38,7 +38,7 @@ part-result-end c = let n = c.held.ensures in omega arith
 returns : tie.Need-returns
 returns c =
     let s = c.before.before.before.before.args in
-    masksIn-part s.modes.now (s.p * modeSize) maxMasks c.before.held.result (omega arith) c.before.held.ensures
+    masks_in_part s.modes.now (s.p * mode_size) max_masks c.before.held.result (omega arith) c.before.held.ensures
 
 pub masks-at-spec : {M : Type 1} → statement M
 masks-at-spec =

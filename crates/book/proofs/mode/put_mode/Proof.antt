@@ -7,9 +7,9 @@ use lib.ListN.{length, set, length-set}
 use lib.Seq.{sets, length-sets}
 use borrow.Author.Rules.{rules}
 use Rattle.masks.specs.Set.{members}
-use Rattle.masks.proofs.Laws.Lists.{sets-set}
-use Rattle.book.specs.Held.{modeSize, StoredMode}
-use Rattle.book.proofs.Laws.Held.{stored-masks}
+use Rattle.masks.proofs.Laws.Lists.{sets_set}
+use Rattle.book.specs.Held.{mode_size, StoredMode}
+use Rattle.book.proofs.Laws.Held.{stored_masks}
 use Rattle.book.proofs.mode.put_mode.Statement.{statement}
 use Rattle.book.proofs.mode.put_mode.Tie as tie
 
@@ -43,7 +43,7 @@ slice-write-bytes-2 c = rw c.before.before.put-masks.ensures.0 (simp (length-set
 returns : tie.Need-returns
 returns c =
     let s = c.before.before.before.before.before.args in
-    let at = s.p * modeSize in
+    let at = s.p * mode_size in
     let m = c.before.before.put-masks in
     let n : m.result - at - 2 ≡ length (members s.masks) = (let e = m.ensures.1 in omega arith) in
     let one : at + 1 ≡ suc at = omega arith in
@@ -51,9 +51,9 @@ returns c =
     subst (λ (l : List ℕ). StoredMode s.modes.now l s.p (members s.masks))
     (sym
     (ap₂ (λ (l : List ℕ) (k : ℕ). set l (at + 1) k) m.ensures.0 n
-    ∙ sets-set (set s.modes.now at 1) (at + 1) (at + 2) (length (members s.masks)) (members s.masks) (omega arith)
+    ∙ sets_set (set s.modes.now at 1) (at + 1) (at + 2) (length (members s.masks)) (members s.masks) (omega arith)
     ∙ ap₂ (λ (i j : ℕ). sets (set (set s.modes.now at 1) i (length (members s.masks))) j (members s.masks)) one two))
-    (stored-masks s.modes.now s.p (members s.masks) c.before.before.before.before.before.requires.1 (omega arith))
+    (stored_masks s.modes.now s.p (members s.masks) c.before.before.before.before.before.requires.1 (omega arith))
 
 pub put-mode-spec : {M : Type 1} → statement M
 put-mode-spec =

@@ -4,7 +4,7 @@ use mathlib.Core.Logic.{⊎_elim}
 use Prim.Native.Nat.{◌-◌}
 use native.Mathlib.Omega.{arith}
 use borrow.Author.Rules.{rules}
-use Rattle.book.proofs.Laws.Held.{Having, having-start, having-one, having-none, having-end}
+use Rattle.book.proofs.Laws.Held.{Having, having_start, having_one, having_none, having_end}
 use Rattle.book.proofs.mode.with_mode.Statement.{statement}
 use Rattle.book.proofs.mode.with_mode.Tie as tie
 
@@ -15,7 +15,7 @@ abbrev decreases-loop : tie.decreases-loop
 decreases-loop modes set₀ p₀ set p = 64 - p
 
 loop-holds : tie.Need-loop-init invariant-loop decreases-loop
-loop-holds c = having-start c.args.modes.now
+loop-holds c = having_start c.args.modes.now
 
 has-mode-requires : tie.Need-has-mode-requires invariant-loop decreases-loop
 has-mode-requires c κs = search rules
@@ -27,11 +27,11 @@ loop-again : tie.Need-loop-preserved invariant-loop decreases-loop
 loop-again c =
     let l = c.before.before.before.loop in
     let has = c.before.has-mode.ensures in
-    ⊎_elim (λ u. rw (u.2, u.1.ensures) (having-one (omega arith) l.invariant (sym has ∙ u.0.taken)))
-    (λ u. rw u.1 (having-none (omega arith) l.invariant (sym has ∙ u.0.left))) c.if1.branch
+    ⊎_elim (λ u. rw (u.2, u.1.ensures) (having_one (omega arith) l.invariant (sym has ∙ u.0.taken)))
+    (λ u. rw u.1 (having_none (omega arith) l.invariant (sym has ∙ u.0.left))) c.if1.branch
 
 returns : tie.Need-returns invariant-loop decreases-loop
-returns c = having-end (omega arith) c.before.loop.invariant
+returns c = having_end (omega arith) c.before.loop.invariant
 
 pub with-mode-spec : {M : Type 1} → statement M
 with-mode-spec =

@@ -1,12 +1,12 @@
 -- `cases::again::write` meets its contract. Modes that are all zeros are none. Assumes nothing.
 use borrow.Author.Rules.{rules}
-use Rattle.book.specs.Held.{modesSize}
-use Rattle.book.proofs.Laws.Held.{modeAt-zeros}
+use Rattle.book.specs.Held.{modes_size}
+use Rattle.book.proofs.Laws.Held.{mode_at_zeros}
 use Rattle.cases.proofs.again.write.Statement.{statement}
 use Rattle.cases.proofs.again.write.Tie as tie
 
 read-book-requires : tie.Need-read-book-requires
-read-book-requires c κs = modeAt-zeros modesSize
+read-book-requires c κs = mode_at_zeros modes_size
 
 write-book-requires : tie.Need-write-book-requires
 write-book-requires c κs = search rules

@@ -3,15 +3,15 @@ use borrow.Author.Rules.{rules}
 use Prim.Native.Nat.{◌-◌, ◌≤◌}
 use mathlib.Core.Path.{◌≡◌}
 use lib.ListN.{length}
-use Rattle.book.specs.Limits.{maxClauses}
+use Rattle.book.specs.Limits.{max_clauses}
 use Rattle.cases.proofs.same.moved_down.Statement.{statement}
 use Rattle.cases.proofs.same.moved_down.Tie as tie
 
 abbrev invariant-loop : tie.invariant-loop
-invariant-loop rules set numbers₀ next₀ k₀ numbers next k = (next ≤ k) × (length numbers ≡ maxClauses)
+invariant-loop rules set numbers₀ next₀ k₀ numbers next k = (next ≤ k) × (length numbers ≡ max_clauses)
 
 abbrev decreases-loop : tie.decreases-loop
-decreases-loop rules set numbers₀ next₀ k₀ numbers next k = maxClauses - k
+decreases-loop rules set numbers₀ next₀ k₀ numbers next k = max_clauses - k
 
 loop-holds : tie.Need-loop-init invariant-loop decreases-loop
 loop-holds c = search rules

@@ -1,12 +1,12 @@
 -- `cases::same::numbers` meets its contract. Modes that are all zeros are none. Assumes nothing.
 use borrow.Author.Rules.{rules}
-use Rattle.book.specs.Held.{modesSize}
-use Rattle.book.proofs.Laws.Held.{modeAt-zeros}
+use Rattle.book.specs.Held.{modes_size}
+use Rattle.book.proofs.Laws.Held.{mode_at_zeros}
 use Rattle.cases.proofs.same.numbers.Statement.{statement}
 use Rattle.cases.proofs.same.numbers.Tie as tie
 
 read-book-requires : tie.Need-read-book-requires
-read-book-requires c κs = modeAt-zeros modesSize
+read-book-requires c κs = mode_at_zeros modes_size
 
 moved-down-requires : tie.Need-moved-down-requires
 moved-down-requires c κs = search rules

@@ -1,7 +1,7 @@
 -- `cases::show::changed` meets its contract. The places left fall. Assumes nothing.
 use Prim.Native.Nat.{suc, ◌-◌}
 use borrow.Author.Rules.{rules}
-use Rattle.book.specs.Limits.{longestSheet}
+use Rattle.book.specs.Limits.{longest_sheet}
 use Rattle.cases.proofs.show.changed.Statement.{statement}
 use Rattle.cases.proofs.show.changed.Tie as tie
 
@@ -9,7 +9,7 @@ abbrev invariant-loop : tie.invariant-loop
 invariant-loop at out i₀ i = Unit {0}
 
 abbrev decreases-loop : tie.decreases-loop
-decreases-loop at out i₀ i = suc longestSheet - i
+decreases-loop at out i₀ i = suc longest_sheet - i
 
 loop-holds : tie.Need-loop-init invariant-loop decreases-loop
 loop-holds c = search rules

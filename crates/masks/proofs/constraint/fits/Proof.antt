@@ -8,7 +8,7 @@ use lib.ListN.{length, take}
 use lib.Seq.{take_all, take-length}
 use borrow.Author.Rules.{rules}
 use Rattle.masks.specs.Constraint.{admits}
-use Rattle.masks.proofs.Laws.Constraint.{admits-at, admits-suc}
+use Rattle.masks.proofs.Laws.Constraint.{admits_at, admits_suc}
 use Rattle.masks.proofs.constraint.fits.Statement.{statement}
 use Rattle.masks.proofs.constraint.fits.Tie as tie
 
@@ -31,13 +31,13 @@ returns c =
     let whole = take-length s.masks.now in
     sym
     (ap (λ (m : List ℕ). admits m s.pattern) (sym whole)
-    ∙ admits-at s.masks.now (length s.masks.now) s.pattern l.i (rw whole (omega arith)) c.if1.true)
+    ∙ admits_at s.masks.now (length s.masks.now) s.pattern l.i (rw whole (omega arith)) c.if1.true)
 
 loop-again : tie.Need-loop-preserved invariant-loop decreases-loop
 loop-again c =
     let s = c.before.before.before.before.args in
     let l = c.before.before.before.loop in
-    admits-suc s.masks.now s.pattern l.i (omega arith) l.invariant c.if1.false
+    admits_suc s.masks.now s.pattern l.i (omega arith) l.invariant c.if1.false
 
 returns-2 : tie.Need-returns-2 invariant-loop decreases-loop
 returns-2 c =

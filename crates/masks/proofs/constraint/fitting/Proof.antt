@@ -4,10 +4,10 @@ use Prim.Native.Nat.{◌-◌, ◌^◌}
 use native.Mathlib.Omega.{arith}
 use lib.Pow.{pow_pos}
 use borrow.Author.Rules.{rules}
-use Rattle.masks.specs.Lists.{howMany}
+use Rattle.masks.specs.Lists.{how_many}
 use Rattle.masks.specs.Set.{bit_at}
 use Rattle.masks.proofs.Laws.Joining.{power_le}
-use Rattle.masks.proofs.Laws.Counts.{common-bits}
+use Rattle.masks.proofs.Laws.Counts.{common_bits}
 use Rattle.masks.proofs.constraint.fitting.Statement.{statement}
 use Rattle.masks.proofs.constraint.fitting.Tie as tie
 
@@ -31,7 +31,7 @@ returns c =
     let k = c.before.before in
     let n = c.before.patterns.result in
     let e : n ≡ 2 ^ k.args.arity = omega (arith, pow_pos k.args.arity) in
-    c.count.ensures.0 ∙ common-bits k.args.set n (64 - n) (omega (arith, power_le k.args.arity k.requires)) ∙ ap (howMany (bit_at k.args.set)) e
+    c.count.ensures.0 ∙ common_bits k.args.set n (64 - n) (omega (arith, power_le k.args.arity k.requires)) ∙ ap (how_many (bit_at k.args.set)) e
 
 pub fitting-spec : {M : Type 1} → statement M
 fitting-spec =

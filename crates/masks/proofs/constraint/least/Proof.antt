@@ -8,7 +8,7 @@ use Rattle.masks.specs.Mask.{within}
 use Rattle.masks.specs.Set.{bit_at}
 use Rattle.masks.specs.Patterns.{EachLane}
 use Rattle.masks.proofs.Laws.Members.{Lowest, lowest}
-use Rattle.masks.proofs.Laws.Sets.{in-columns, Keeping, keeping_start, keeping-next, keeping-less, keeping-end}
+use Rattle.masks.proofs.Laws.Sets.{in_columns, Keeping, keeping_start, keeping_next, keeping_less, keeping_end}
 use Rattle.masks.proofs.constraint.least.Statement.{statement}
 use Rattle.masks.proofs.constraint.least.Tie as tie
 
@@ -37,16 +37,16 @@ mask-lanes-requires c κs = (first c.before.before).small
 loop-less : tie.Need-loop-smaller invariant-loop decreases-loop
 loop-less c =
     let d = c.before.before.before in
-    keeping-less _ _ d.before.loop.rest _ _ d.before.loop.invariant (first d) (in-columns (λ a p. bit_at _ a ≡ within _ p) c.mask_lanes.ensures)
+    keeping_less _ _ d.before.loop.rest _ _ d.before.loop.invariant (first d) (in_columns (λ a p. bit_at _ a ≡ within _ p) c.mask_lanes.ensures)
 
 loop-again : tie.Need-loop-preserved invariant-loop decreases-loop
 loop-again c =
     let d = c.before.before.before in
     rw c.before.before.with-member.ensures
-    (keeping-next _ _ d.before.loop.rest _ _ d.before.loop.invariant (first d) (in-columns (λ a p. bit_at _ a ≡ within _ p) c.mask_lanes.ensures))
+    (keeping_next _ _ d.before.loop.rest _ _ d.before.loop.invariant (first d) (in_columns (λ a p. bit_at _ a ≡ within _ p) c.mask_lanes.ensures))
 
 returns : tie.Need-returns invariant-loop decreases-loop
-returns c = keeping-end c.before.before.args.set _ c.before.loop.rest c.loop-test.false c.before.loop.invariant
+returns c = keeping_end c.before.before.args.set _ c.before.loop.rest c.loop-test.false c.before.loop.invariant
 
 pub least-spec : {M : Type 1} → statement M
 least-spec =

@@ -7,8 +7,8 @@ use native.Mathlib.Omega.{arith}
 use lib.Count.{count_trailing_zeros}
 use borrow.Author.Rules.{rules}
 use Rattle.masks.specs.Set.{bit_at, members}
-use Rattle.masks.proofs.Laws.Members.{others-less, Over, over-start, over-end, over-lowest, over-member, over-here, over-next}
-use Rattle.masks.proofs.Laws.Sets.{Put, put-start, put-skip, put-room, put_next}
+use Rattle.masks.proofs.Laws.Members.{others_less, Over, over_start, over_end, over_lowest, over_member, over_here, over_next}
+use Rattle.masks.proofs.Laws.Sets.{Put, put_start, put_skip, put_room, put_next}
 use Rattle.masks.proofs.constraint.put_masks.Statement.{statement}
 use Rattle.masks.proofs.constraint.put_masks.Tie as tie
 
@@ -21,7 +21,7 @@ decreases-loop out₀ at set p₀ rest₀ out p rest = rest
 loop-holds : tie.Need-loop-init invariant-loop decreases-loop
 loop-holds c =
     let s = c.args in
-    over-start (Put s.set s.out.now s.at s.at s.out.now) 64 s.set (search rules) (put-start s.set s.out.now s.at)
+    over_start (Put s.set s.out.now s.at s.at s.out.now) 64 s.set (search rules) (put_start s.set s.out.now s.at)
 
 -- in a turn: m is the lowest member of those left
 module _ (c : tie.In-loop invariant-loop decreases-loop) where
@@ -35,42 +35,42 @@ module _ (c : tie.In-loop invariant-loop decreases-loop) where
   Here = Put set c.before.before.args.out.now c.before.before.args.at c.before.loop.p c.before.loop.out
 
   abbrev skip : (k : ℕ) → bit_at set k ≡ false → Here k → Here (suc k)
-  skip = put-skip set
+  skip = put_skip set
 
   low : m < 64
-  low = (over-lowest Here 64 set c.before.loop.rest skip c.before.loop.invariant c.loop-test.true).small
+  low = (over_lowest Here 64 set c.before.loop.rest skip c.before.loop.invariant c.loop-test.true).small
 
   member : bit_at set m ≡ true
-  member = over-member Here 64 set c.before.loop.rest skip c.before.loop.invariant c.loop-test.true
+  member = over_member Here 64 set c.before.loop.rest skip c.before.loop.invariant c.loop-test.true
 
   here : Here m
-  here = over-here Here 64 set c.before.loop.rest skip c.before.loop.invariant c.loop-test.true
+  here = over_here Here 64 set c.before.loop.rest skip c.before.loop.invariant c.loop-test.true
 
 cast-out : tie.Need-overflow-cast-out invariant-loop decreases-loop
 cast-out c = let l = low c in omega arith
 
 slice-write-out : tie.Need-slice-write-out invariant-loop decreases-loop
-slice-write-out c = put-room (set c) (m c) (member c) (low c) c.before.before.requires (here c)
+slice-write-out c = put_room (set c) (m c) (member c) (low c) c.before.before.requires (here c)
 
 add-p : tie.Need-overflow-add-p invariant-loop decreases-loop
 add-p c =
-    let r = put-room (set c) (m c) (member c) (low c) c.before.before.requires (here c) in
+    let r = put_room (set c) (m c) (member c) (low c) c.before.before.requires (here c) in
     let s = (here c).size in
     omega arith
 
 loop-less : tie.Need-loop-smaller invariant-loop decreases-loop
-loop-less c = others-less c.before.loop.rest c.loop-test.true
+loop-less c = others_less c.before.loop.rest c.loop-test.true
 
 loop-again : tie.Need-loop-preserved invariant-loop decreases-loop
 loop-again c =
     let l = c.before.loop in
-    over-next (Here c) 64 (set c) l.rest (skip c) l.invariant c.loop-test.true (Put (set c) _ _ _ _) (put_next (set c) (m c) (member c) (here c))
+    over_next (Here c) 64 (set c) l.rest (skip c) l.invariant c.loop-test.true (Put (set c) _ _ _ _) (put_next (set c) (m c) (member c) (here c))
 
 -- past the loop: all are written
 ended : (c : tie.After-loop invariant-loop decreases-loop) → Put c.before.before.args.set c.before.before.args.out.now c.before.before.args.at c.before.loop.p c.before.loop.out 64
 ended c =
     let l = c.before.loop in
-    over-end (Put c.before.before.args.set _ _ l.p l.out) 64 c.before.before.args.set l.rest (put-skip c.before.before.args.set) l.invariant
+    over_end (Put c.before.before.args.set _ _ l.p l.out) 64 c.before.before.args.set l.rest (put_skip c.before.before.args.set) l.invariant
     c.loop-test.false
 
 same_length : tie.Need-same-length invariant-loop decreases-loop

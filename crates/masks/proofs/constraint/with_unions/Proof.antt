@@ -10,7 +10,7 @@ use lib.ListN.{length, take}
 use borrow.Author.Rules.{rules}
 use Rattle.masks.specs.Set.{bit_at, Holds}
 use Rattle.masks.specs.Lists.{has}
-use Rattle.masks.proofs.Laws.Set.{with-start, with-next, union-below}
+use Rattle.masks.proofs.Laws.Set.{with_start, with_next, union_below}
 use Rattle.masks.proofs.constraint.with_unions.Statement.{statement}
 use Rattle.masks.proofs.constraint.with_unions.Tie as tie
 
@@ -21,7 +21,7 @@ abbrev decreases-loop : tie.decreases-loop
 decreases-loop set m masks all₀ i₀ all i = length masks - i
 
 loop-holds : tie.Need-loop-init invariant-loop decreases-loop
-loop-holds c = (omega arith, with-start c.before.args.set c.before.args.m c.before.args.masks.now)
+loop-holds c = (omega arith, with_start c.before.args.set c.before.args.m c.before.args.masks.now)
 
 shared-slice-read-with-member : tie.Need-shared-slice-read-with-member invariant-loop decreases-loop
 shared-slice-read-with-member c = search rules
@@ -30,13 +30,13 @@ with-member-requires : tie.Need-with-member-requires invariant-loop decreases-lo
 with-member-requires c κs =
     let l = c.before.before.loop in
     let s = c.before.before.before.before.args in
-    union-below s.m s.masks.now l.i c.before.before.before.before.requires.0 c.before.before.before.before.requires.1 (omega arith)
+    union_below s.m s.masks.now l.i c.before.before.before.before.requires.0 c.before.before.before.before.requires.1 (omega arith)
 
 loop-again : tie.Need-loop-preserved invariant-loop decreases-loop
 loop-again c =
     let l = c.before.before.before.loop in
     let s = c.before.before.before.before.before.args in
-    (omega arith, λ k. ap (λ (w : ℕ). bit_at w k) c.with-member.ensures ∙ with-next s.set s.m s.masks.now l.all l.i (omega arith) l.invariant.1 k)
+    (omega arith, λ k. ap (λ (w : ℕ). bit_at w k) c.with-member.ensures ∙ with_next s.set s.m s.masks.now l.all l.i (omega arith) l.invariant.1 k)
 
 returns : tie.Need-returns invariant-loop decreases-loop
 returns c =

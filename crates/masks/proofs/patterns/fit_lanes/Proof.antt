@@ -7,8 +7,8 @@ use native.Mathlib.Omega.{arith}
 use lib.Count.{count_trailing_zeros}
 use borrow.Author.Rules.{rules}
 use Rattle.masks.specs.Set.{bit_at}
-use Rattle.masks.proofs.Laws.Members.{others-less, Over, over-start, over-end, over-lowest, over-member, over-here, over-next}
-use Rattle.masks.proofs.Laws.Sets.{Tried, tried-start, tried-skip, tried-next, tried-end}
+use Rattle.masks.proofs.Laws.Members.{others_less, Over, over_start, over_end, over_lowest, over_member, over_here, over_next}
+use Rattle.masks.proofs.Laws.Sets.{Tried, tried_start, tried_skip, tried_next, tried_end}
 use Rattle.masks.proofs.patterns.fit_lanes.Statement.{statement}
 use Rattle.masks.proofs.patterns.fit_lanes.Tie as tie
 
@@ -21,7 +21,7 @@ decreases-loop masks words r₀ rest₀ r rest = rest
 loop-holds : tie.Need-loop-init invariant-loop decreases-loop
 loop-holds c =
     let s = c.args in
-    over-start (Tried s.words.now s.masks 0) 64 s.masks (search rules) (tried-start s.words.now s.masks)
+    over_start (Tried s.words.now s.masks 0) 64 s.masks (search rules) (tried_start s.words.now s.masks)
 
 -- in a turn: m is the lowest mask of those left
 module _ (c : tie.In-loop invariant-loop decreases-loop) where
@@ -35,10 +35,10 @@ module _ (c : tie.In-loop invariant-loop decreases-loop) where
   Here = Tried c.before.before.args.words.now masks c.before.loop.r
 
   abbrev skip : (k : ℕ) → bit_at masks k ≡ false → Here k → Here (suc k)
-  skip = tried-skip c.before.before.args.words.now masks c.before.loop.r
+  skip = tried_skip c.before.before.args.words.now masks c.before.loop.r
 
   low : m < 64
-  low = (over-lowest Here 64 masks c.before.loop.rest skip c.before.loop.invariant c.loop-test.true).small
+  low = (over_lowest Here 64 masks c.before.loop.rest skip c.before.loop.invariant c.loop-test.true).small
 
 cast-m : tie.Need-overflow-cast-m invariant-loop decreases-loop
 cast-m c = let l = low c in omega arith
@@ -47,23 +47,23 @@ mask-lanes-requires : tie.Need-mask-lanes-requires invariant-loop decreases-loop
 mask-lanes-requires c κs = low c
 
 loop-less : tie.Need-loop-smaller invariant-loop decreases-loop
-loop-less c = others-less c.before.before.loop.rest c.before.loop-test.true
+loop-less c = others_less c.before.before.loop.rest c.before.loop-test.true
 
 loop-again : tie.Need-loop-preserved invariant-loop decreases-loop
 loop-again c =
     let d = c.before in
     let l = d.before.loop in
     let words = d.before.before.args.words.now in
-    over-next (Here d) 64 (masks d) l.rest (skip d) l.invariant d.loop-test.true (Tried words (masks d) _)
-    (tried-next words (masks d) l.r _ (m d) (over-member (Here d) 64 (masks d) l.rest (skip d) l.invariant d.loop-test.true) c.mask_lanes.ensures
-    (over-here (Here d) 64 (masks d) l.rest (skip d) l.invariant d.loop-test.true))
+    over_next (Here d) 64 (masks d) l.rest (skip d) l.invariant d.loop-test.true (Tried words (masks d) _)
+    (tried_next words (masks d) l.r _ (m d) (over_member (Here d) 64 (masks d) l.rest (skip d) l.invariant d.loop-test.true) c.mask_lanes.ensures
+    (over_here (Here d) 64 (masks d) l.rest (skip d) l.invariant d.loop-test.true))
 
 returns : tie.Need-returns invariant-loop decreases-loop
 returns c =
     let s = c.before.before.args in
     let l = c.before.loop in
-    tried-end s.words.now s.masks l.r
-    (over-end (Tried s.words.now s.masks l.r) 64 s.masks l.rest (tried-skip s.words.now s.masks l.r) l.invariant c.loop-test.false)
+    tried_end s.words.now s.masks l.r
+    (over_end (Tried s.words.now s.masks l.r) 64 s.masks l.rest (tried_skip s.words.now s.masks l.r) l.invariant c.loop-test.false)
 
 pub fit-lanes-spec : {M : Type 1} → statement M
 fit-lanes-spec =

@@ -4,11 +4,11 @@ use Prim.Native.Nat.{ℕ, ◌-◌, ◌<◌}
 use native.Mathlib.Omega.{arith}
 use lib.ListN.{get_or}
 use borrow.Author.Rules.{rules}
-use Rattle.book.specs.Limits.{maxPredicates}
-use Rattle.book.specs.Book.{Head, Call, noCall}
-use Rattle.book.specs.Held.{clauseAt}
-use Rattle.book.proofs.Laws.Sets.{callable-low}
-use Rattle.needs.proofs.Laws.Calls.{Adding, adding-start, adding-next, adding-end}
+use Rattle.book.specs.Limits.{max_predicates}
+use Rattle.book.specs.Book.{Head, Call, no_call}
+use Rattle.book.specs.Held.{clause_at}
+use Rattle.book.proofs.Laws.Sets.{callable_low}
+use Rattle.needs.proofs.Laws.Calls.{Adding, adding_start, adding_next, adding_end}
 use Rattle.needs.proofs.calls.add_caller.Statement.{statement}
 use Rattle.needs.proofs.calls.add_caller.Tie as tie
 
@@ -30,7 +30,7 @@ subgoals-at-requires c κs = search rules
 loop-holds : tie.Need-loop-init invariant-loop decreases-loop
 loop-holds c =
     let args = c.before.before.before.before.args in
-    adding-start args.rules.now args.k args.callers.now (let l = c.before.before.before.words.given.0.1 in omega arith)
+    adding_start args.rules.now args.k args.callers.now (let l = c.before.before.before.words.given.0.1 in omega arith)
 
 subgoal-at-requires : tie.Need-subgoal-at-requires invariant-loop decreases-loop
 subgoal-at-requires c κs = let n = c.before.before.subgoals-at.ensures in (c.before.before.before.before.before.before.requires.0, omega arith)
@@ -43,17 +43,17 @@ cast-q c = search rules
 
 -- in a turn: p is the head's predicate and q that of subgoal j
 module _ (c : tie.After-predicate2 invariant-loop decreases-loop) where
-  head : c.before.before.before.before.before.predicate.result ≡ (clauseAt c.before.before.before.before.before.before.before.before.args.rules.now c.before.before.before.before.before.before.before.before.args.k).head.pred
+  head : c.before.before.before.before.before.predicate.result ≡ (clause_at c.before.before.before.before.before.before.before.before.args.rules.now c.before.before.before.before.before.before.before.before.args.k).head.pred
   head = c.before.before.before.before.before.predicate.ensures ∙ ap (λ (h : Head). h.pred) c.before.before.before.before.before.before.head_at.ensures
 
-  is : c.predicate2.result ≡ (get_or (clauseAt c.before.before.before.before.before.before.before.before.args.rules.now c.before.before.before.before.before.before.before.before.args.k).body c.before.before.before.loop.j noCall).pred
-  is = c.predicate2.ensures ∙ ap (λ (h : Call). h.pred) c.before.subgoal-at.ensures
+  is : c.predicate2.result ≡ (get_or (clause_at c.before.before.before.before.before.before.before.before.args.rules.now c.before.before.before.before.before.before.before.before.args.k).body c.before.before.before.loop.j no_call).pred
+  is = c.predicate2.ensures ∙ ap (λ (h : Call). h.pred) c.before.subgoal_at_lem.ensures
 
-  low : c.predicate2.result < maxPredicates
+  low : c.predicate2.result < max_predicates
   low =
       let e = is in
       let n = c.before.before.before.before.subgoals-at.ensures in
-      let l = callable-low (clauseAt c.before.before.before.before.before.before.before.before.args.rules.now c.before.before.before.before.before.before.before.before.args.k).body c.before.before.before.loop.j c.before.before.before.before.before.before.before.before.requires.2 (omega arith) in
+      let l = callable_low (clause_at c.before.before.before.before.before.before.before.before.args.rules.now c.before.before.before.before.before.before.before.before.args.k).body c.before.before.before.loop.j c.before.before.before.before.before.before.before.before.requires.2 (omega arith) in
       omega arith
 
 mul-with-member : tie.Need-overflow-mul-with-member invariant-loop decreases-loop
@@ -76,10 +76,10 @@ loop-again c =
     let d = c.before.before in
     let n = c.before.before.before.before.before.before.subgoals-at.ensures in
     rw c.with-member.ensures
-    (adding-next c.before.before.before.before.before.loop.invariant c.before.before.before.before.before.before.before.predicate.result d.predicate2.result (low d) (omega arith) (head d) (is d))
+    (adding_next c.before.before.before.before.before.loop.invariant c.before.before.before.before.before.before.before.predicate.result d.predicate2.result (low d) (omega arith) (head d) (is d))
 
 returns : tie.Need-returns invariant-loop decreases-loop
-returns c = let n = c.before.before.subgoals-at.ensures in adding-end c.before.loop.invariant (omega arith)
+returns c = let n = c.before.before.subgoals-at.ensures in adding_end c.before.loop.invariant (omega arith)
 
 pub add-caller-spec : {M : Type 1} → statement M
 add-caller-spec =

@@ -4,8 +4,8 @@ use Prim.Native.Nat.{◌<◌}
 use native.Mathlib.Omega.{arith}
 use lib.Count.{count_trailing_zeros}
 use borrow.Author.Rules.{rules}
-use Rattle.masks.proofs.Laws.Members.{others-less}
-use Rattle.needs.proofs.Laws.Calls.{Passing, passing-start, passing-low, passing-next, passing-end}
+use Rattle.masks.proofs.Laws.Members.{others_less}
+use Rattle.needs.proofs.Laws.Calls.{Passing, passing_start, passing_low, passing_next, passing_end}
 use Rattle.needs.proofs.calls.calling.Statement.{statement}
 use Rattle.needs.proofs.calls.calling.Tie as tie
 
@@ -16,14 +16,14 @@ abbrev decreases-loop : tie.decreases-loop
 decreases-loop callers called set₀ rest₀ set rest = rest
 
 loop-holds : tie.Need-loop-init invariant-loop decreases-loop
-loop-holds c = passing-start c.args.callers.now c.args.called (search rules)
+loop-holds c = passing_start c.args.callers.now c.args.called (search rules)
 
 -- in a turn: q is the lowest member of those left
 low : (c : tie.In-loop invariant-loop decreases-loop) → count_trailing_zeros 64 c.before.loop.rest < 64
 low c =
     let args = c.before.before.args in
     let l = c.before.loop in
-    passing-low args.callers.now args.called l.set l.rest l.invariant c.loop-test.true
+    passing_low args.callers.now args.called l.set l.rest l.invariant c.loop-test.true
 
 cast-q : tie.Need-overflow-cast-q invariant-loop decreases-loop
 cast-q c = let l = low c in omega arith
@@ -35,19 +35,19 @@ element-copy-out-set : tie.Need-element-copy-out-set invariant-loop decreases-lo
 element-copy-out-set c = let l = low c in omega arith
 
 loop-less : tie.Need-loop-smaller invariant-loop decreases-loop
-loop-less c = others-less c.before.before.loop.rest c.before.loop-test.true
+loop-less c = others_less c.before.before.loop.rest c.before.loop-test.true
 
 loop-again : tie.Need-loop-preserved invariant-loop decreases-loop
 loop-again c =
     let args = c.before.before.before.args in
     let l = c.before.before.loop in
-    passing-next args.callers.now args.called l.set l.rest l.invariant c.before.loop-test.true
+    passing_next args.callers.now args.called l.set l.rest l.invariant c.before.loop-test.true
 
 returns : tie.Need-returns invariant-loop decreases-loop
 returns c =
     let args = c.before.before.args in
     let l = c.before.loop in
-    passing-end args.callers.now args.called l.set l.rest l.invariant c.loop-test.false
+    passing_end args.callers.now args.called l.set l.rest l.invariant c.loop-test.false
 
 pub calling-spec : {M : Type 1} → statement M
 calling-spec =

@@ -4,11 +4,11 @@ use mathlib.Core.Path.{◌≡◌, ap, ◌∙◌}
 use Prim.Native.Nat.{ℕ, ◌-◌, ◌<◌}
 use native.Mathlib.Omega.{arith}
 use borrow.Author.Rules.{rules}
-use Rattle.book.specs.Limits.{maxPredicates}
+use Rattle.book.specs.Limits.{max_predicates}
 use Rattle.book.specs.Book.{Head}
-use Rattle.book.specs.Held.{clauseAt}
-use Rattle.book.proofs.Laws.Sets.{head-low, Owning, owning-start, owning-next, owning-end}
-use Rattle.needs.proofs.Laws.Calls.{Heading, heading-start, heading-next, heading-end}
+use Rattle.book.specs.Held.{clause_at}
+use Rattle.book.proofs.Laws.Sets.{head_low, Owning, owning_start, owning_next, owning_end}
+use Rattle.needs.proofs.Laws.Calls.{Heading, heading_start, heading_next, heading_end}
 use Rattle.needs.proofs.calls.own_clauses.Statement.{statement}
 use Rattle.needs.proofs.calls.own_clauses.Tie as tie
 
@@ -21,8 +21,8 @@ decreases-loop clauses rules words₀ heads₀ k₀ words heads k = clauses - k
 loop-holds : tie.Need-loop-init invariant-loop decreases-loop
 loop-holds c =
     let s = c.before.args in (
-      owning-start s.rules.now s.clauses s.own.now (let l = c.words.given.0.1 in omega arith) c.before.requires.2,
-      heading-start s.rules.now s.clauses,
+      owning_start s.rules.now s.clauses s.own.now (let l = c.words.given.0.1 in omega arith) c.before.requires.2,
+      heading_start s.rules.now s.clauses,
     )
 
 cast-head-at : tie.Need-overflow-cast-head-at invariant-loop decreases-loop
@@ -39,11 +39,11 @@ cast-q c = search rules
 
 -- in a turn: p is the predicate of head k
 module _ (c : tie.After-predicate invariant-loop decreases-loop) where
-  is : c.predicate.result ≡ (clauseAt c.before.before.before.before.before.args.rules.now c.before.before.before.loop.k).head.pred
+  is : c.predicate.result ≡ (clause_at c.before.before.before.before.before.args.rules.now c.before.before.before.loop.k).head.pred
   is = c.predicate.ensures ∙ ap (λ (h : Head). h.pred) c.before.head_at.ensures
 
-  low : c.predicate.result < maxPredicates
-  low = head-low c.before.before.before.loop.k c.predicate.result c.before.before.before.before.before.requires.1 (omega arith) is
+  low : c.predicate.result < max_predicates
+  low = head_low c.before.before.before.loop.k c.predicate.result c.before.before.before.before.before.requires.1 (omega arith) is
 
 mul-with-member : tie.Need-overflow-mul-with-member invariant-loop decreases-loop
 mul-with-member c = let l = low c in omega arith
@@ -69,10 +69,10 @@ loop-again c =
     let l = c.before.before.before.before.before.before.loop.invariant in
     let p = d.predicate.result in
     rw (c.before.with-member.ensures, c.with-member2.ensures)
-    (owning-next l.0 p c.before.before.before.before.before.before.before.before.requires.1 (omega arith) (is d), heading-next l.1 p (omega arith) (is d))
+    (owning_next l.0 p c.before.before.before.before.before.before.before.before.requires.1 (omega arith) (is d), heading_next l.1 p (omega arith) (is d))
 
 returns : tie.Need-returns invariant-loop decreases-loop
-returns c = (owning-end c.before.loop.invariant.0 (omega arith), heading-end c.before.loop.invariant.1 (omega arith))
+returns c = (owning_end c.before.loop.invariant.0 (omega arith), heading_end c.before.loop.invariant.1 (omega arith))
 
 pub own-clauses-spec : {M : Type 1} → statement M
 own-clauses-spec =

@@ -2,7 +2,7 @@
 use Prim.Native.Nat.{◌-◌}
 use native.Mathlib.Omega.{arith}
 use borrow.Author.Rules.{rules}
-use Rattle.needs.proofs.Laws.Calls.{Gathering, gathering-start, gathering-next, gathering-end}
+use Rattle.needs.proofs.Laws.Calls.{Gathering, gathering_start, gathering_next, gathering_end}
 use Rattle.needs.proofs.calls.put_callers.Statement.{statement}
 use Rattle.needs.proofs.calls.put_callers.Tie as tie
 
@@ -13,7 +13,7 @@ abbrev decreases-loop : tie.decreases-loop
 decreases-loop clauses rules callers₀ k₀ callers k = clauses - k
 
 loop-holds : tie.Need-loop-init invariant-loop decreases-loop
-loop-holds c = gathering-start c.args.rules.now c.args.clauses c.args.callers.now c.requires.2
+loop-holds c = gathering_start c.args.rules.now c.args.clauses c.args.callers.now c.requires.2
 
 cast-add-caller : tie.Need-overflow-cast-add-caller invariant-loop decreases-loop
 cast-add-caller c = search rules
@@ -25,10 +25,10 @@ add-caller-requires c κs =
     (omega arith, known.heads k (omega arith), known.bodies k (omega arith))
 
 loop-again : tie.Need-loop-preserved invariant-loop decreases-loop
-loop-again c = gathering-next c.before.before.before.loop.invariant (omega arith) c.add-caller.ensures
+loop-again c = gathering_next c.before.before.before.loop.invariant (omega arith) c.add-caller.ensures
 
 returns : tie.Need-returns invariant-loop decreases-loop
-returns c = gathering-end c.before.loop.invariant (omega arith)
+returns c = gathering_end c.before.loop.invariant (omega arith)
 
 pub put-callers-spec : {M : Type 1} → statement M
 put-callers-spec =

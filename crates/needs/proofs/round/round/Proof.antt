@@ -10,8 +10,8 @@ use lib.Count.{count_trailing_zeros}
 use lib.ListN.{length}
 use borrow.Author.Rules.{rules}
 use Rattle.masks.specs.Set.{bit_at}
-use Rattle.masks.proofs.Laws.Members.{others-less, Over, over-start, over-end, over-lowest, over-member, over-here, over-next}
-use Rattle.needs.proofs.Laws.Rounding.{given-callable, Rounding, rounding-start, rounding-skip, rounding-same, rounding-new, rounding-end, rounding-still}
+use Rattle.masks.proofs.Laws.Members.{others_less, Over, over_start, over_end, over_lowest, over_member, over_here, over_next}
+use Rattle.needs.proofs.Laws.Rounding.{given_callable, Rounding, rounding_start, rounding_skip, rounding_same, rounding_new, rounding_end, rounding_still}
 use Rattle.needs.proofs.round.round.Statement.{statement}
 use Rattle.needs.proofs.round.round.Tie as tie
 
@@ -25,9 +25,9 @@ loop-holds : tie.Need-loop-init invariant-loop decreases-loop
 loop-holds c =
     let s = c.before.args in
     let e = c.before.requires.1 in
-    over-start (Rounding s.rules.now s.own.now s.table.now s.t4 s.due s.new.now 0) 64 s.due (search rules)
+    over_start (Rounding s.rules.now s.own.now s.table.now s.t4 s.due s.new.now 0) 64 s.due (search rules)
     (subst (λ (l : List ℕ). Rounding s.rules.now s.own.now s.table.now s.t4 s.due l 0 0) (sym e)
-    (rounding-start s.rules.now s.own.now s.table.now s.t4 s.due (ap length (sym e) ∙ c.words.given.0.1)))
+    (rounding_start s.rules.now s.own.now s.table.now s.t4 s.due (ap length (sym e) ∙ c.words.given.0.1)))
 
 -- in a turn: p is the lowest of those left
 module _ (c : tie.In-loop invariant-loop decreases-loop) where
@@ -44,19 +44,19 @@ module _ (c : tie.In-loop invariant-loop decreases-loop) where
   Here = Round c.before.loop.words c.before.loop.changed
 
   abbrev skip : (i : ℕ) → bit_at due i ≡ false → Here i → Here (suc i)
-  skip = let s = c.before.before.before.args in rounding-skip s.rules.now s.own.now s.table.now s.t4 due c.before.loop.words c.before.loop.changed
+  skip = let s = c.before.before.before.args in rounding_skip s.rules.now s.own.now s.table.now s.t4 due c.before.loop.words c.before.loop.changed
 
   low : p < 64
-  low = (over-lowest Here 64 due c.before.loop.rest skip c.before.loop.invariant c.loop-test.true).small
+  low = (over_lowest Here 64 due c.before.loop.rest skip c.before.loop.invariant c.loop-test.true).small
 
   member : bit_at due p ≡ true
-  member = over-member Here 64 due c.before.loop.rest skip c.before.loop.invariant c.loop-test.true
+  member = over_member Here 64 due c.before.loop.rest skip c.before.loop.invariant c.loop-test.true
 
   here : Here p
-  here = over-here Here 64 due c.before.loop.rest skip c.before.loop.invariant c.loop-test.true
+  here = over_here Here 64 due c.before.loop.rest skip c.before.loop.invariant c.loop-test.true
 
   next : (words : List ℕ) (changed : ℕ) → Round words changed (suc p) → Over (Round words changed) 64 due (bit_and c.before.loop.rest (c.before.loop.rest - 1))
-  next words changed = over-next Here 64 due c.before.loop.rest skip c.before.loop.invariant c.loop-test.true (Round words changed)
+  next words changed = over_next Here 64 due c.before.loop.rest skip c.before.loop.invariant c.loop-test.true (Round words changed)
 
 cast-p : tie.Need-overflow-cast-p invariant-loop decreases-loop
 cast-p c = let l = low c in omega arith
@@ -81,7 +81,7 @@ good-patterns-requires c κs =
     let d = c.before in
     let s = d.before.before.before.args in
     let r = d.before.before.before.requires.0 in
-    given-callable r.0 s.rules.now s.own.now r.1 (p d) (low d)
+    given_callable r.0 s.rules.now s.own.now r.1 (p d) (low d)
 
 mul-if1 : tie.Need-overflow-mul-if1 invariant-loop decreases-loop
 mul-if1 c = let l = low c.before.before in omega arith
@@ -99,7 +99,7 @@ with-member-requires : tie.Need-with-member-requires invariant-loop decreases-lo
 with-member-requires c κs = low c.before.before.before
 
 loop-less : tie.Need-loop-smaller invariant-loop decreases-loop
-loop-less c = let d = c.before.before.before.before in others-less d.before.loop.rest d.loop-test.true
+loop-less c = let d = c.before.before.before.before in others_less d.before.loop.rest d.loop-test.true
 
 loop-again : tie.Need-loop-preserved invariant-loop decreases-loop
 loop-again c =
@@ -108,11 +108,11 @@ loop-again c =
     let l = d.before.loop in
     rw c.with-member.ensures
     (next d _ _
-    (rounding-new s.rules.now s.own.now s.table.now s.t4 s.due l.words l.changed (p d) _ (member d) c.before.before.good-patterns.ensures
+    (rounding_new s.rules.now s.own.now s.table.now s.t4 s.due l.words l.changed (p d) _ (member d) c.before.before.good-patterns.ensures
     (here d) (low d) c.before.if1.true))
 
 loop-less-2 : tie.Need-loop-smaller-2 invariant-loop decreases-loop
-loop-less-2 c = let d = c.before.before.before in others-less d.before.loop.rest d.loop-test.true
+loop-less-2 c = let d = c.before.before.before in others_less d.before.loop.rest d.loop-test.true
 
 loop-again-2 : tie.Need-loop-preserved-2 invariant-loop decreases-loop
 loop-again-2 c =
@@ -120,7 +120,7 @@ loop-again-2 c =
     let s = d.before.before.before.args in
     let l = d.before.loop in
     next d _ _
-    (rounding-same s.rules.now s.own.now s.table.now s.t4 s.due l.words l.changed (p d) _ (member d) c.before.good-patterns.ensures
+    (rounding_same s.rules.now s.own.now s.table.now s.t4 s.due l.words l.changed (p d) _ (member d) c.before.good-patterns.ensures
     (here d) c.if1.false)
 
 -- past the loop: all that are due are done
@@ -130,8 +130,8 @@ ended : (c : tie.After-loop invariant-loop decreases-loop)
 ended c =
     let s = c.before.before.before.args in
     let l = c.before.loop in
-    over-end (Rounding s.rules.now s.own.now s.table.now s.t4 s.due l.words l.changed) 64 s.due l.rest
-    (rounding-skip s.rules.now s.own.now s.table.now s.t4 s.due l.words l.changed) l.invariant c.loop-test.false
+    over_end (Rounding s.rules.now s.own.now s.table.now s.t4 s.due l.words l.changed) 64 s.due l.rest
+    (rounding_skip s.rules.now s.own.now s.table.now s.t4 s.due l.words l.changed) l.invariant c.loop-test.false
 
 same-requires : tie.Need-same-requires invariant-loop decreases-loop
 same-requires c κs = (ended c.before.before).size
@@ -142,14 +142,14 @@ returns c =
     let s = d.before.before.before.args in
     let r = d.before.before.before.requires.0 in
     λ B g u.
-    rounding-still s.rules.now s.own.now s.table.now s.t4 s.due B g r.2 u (ended d) (c.before.same.ensures.same· c.if2.true)
+    rounding_still s.rules.now s.own.now s.table.now s.t4 s.due B g r.2 u (ended d) (c.before.same.ensures.same· c.if2.true)
 
 returns-2 : tie.Need-returns-2 invariant-loop decreases-loop
 returns-2 c =
     let d = c.before.before.before.before in
     let s = d.before.before.before.args in
     let r = d.before.before.before.requires.0 in
-    λ B g u. rounding-end s.rules.now s.own.now s.table.now s.t4 s.due B g r.2 u (ended d)
+    λ B g u. rounding_end s.rules.now s.own.now s.table.now s.t4 s.due B g r.2 u (ended d)
 
 pub round-spec : {M : Type 1} → statement M
 round-spec =

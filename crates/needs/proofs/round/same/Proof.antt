@@ -4,7 +4,7 @@ use Prim.Native.Nat.{◌-◌, ◌≤◌}
 use native.Mathlib.Omega.{arith}
 use borrow.Author.Rules.{rules}
 use borrow.Author.Tests.{eqb-true, eqb-false}
-use Rattle.needs.proofs.Laws.Rounding.{Comparing, comparing-start, comparing-next, comparing-end}
+use Rattle.needs.proofs.Laws.Rounding.{Comparing, comparing_start, comparing_next, comparing_end}
 use Rattle.needs.proofs.round.same.Statement.{statement}
 use Rattle.needs.proofs.round.same.Tie as tie
 
@@ -15,7 +15,7 @@ abbrev decreases-loop : tie.decreases-loop
 decreases-loop old new differ₀ p₀ differ p = 64 - p
 
 loop-holds : tie.Need-loop-init invariant-loop decreases-loop
-loop-holds c = (omega arith, comparing-start c.args.old.now c.args.new.now)
+loop-holds c = (omega arith, comparing_start c.args.old.now c.args.new.now)
 
 mul-differ : tie.Need-overflow-mul-differ invariant-loop decreases-loop
 mul-differ c = omega arith
@@ -33,13 +33,13 @@ loop-again : tie.Need-loop-preserved invariant-loop decreases-loop
 loop-again c =
     let s = c.before.before.before.before.args in
     let l = c.before.before.before.loop in
-    (omega arith, comparing-next s.old.now s.new.now l.differ l.p l.invariant.1)
+    (omega arith, comparing_next s.old.now s.new.now l.differ l.p l.invariant.1)
 
 returns : tie.Need-returns invariant-loop decreases-loop
 returns c =
     let s = c.before.before.args in
     let l = c.before.loop in
-    comparing-end s.old.now s.new.now l.differ l.p (omega arith) l.invariant.1
+    comparing_end s.old.now s.new.now l.differ l.p (omega arith) l.invariant.1
 
 pub same_spec : {M : Type 1} → statement M
 same_spec =

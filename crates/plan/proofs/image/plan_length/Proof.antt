@@ -5,8 +5,8 @@ use mathlib.Core.Logic.{⊎_elim}
 use Prim.Native.Nat.{ℕ, ◌+◌, ◌-◌}
 use native.Mathlib.Omega.{arith}
 use borrow.Author.Rules.{rules}
-use Rattle.book.proofs.Laws.Held.{clauseAt-few}
-use Rattle.plan.proofs.Laws.Lengths.{Planning, planning-start, planning-most, planning-next, planning-skip, planning-end}
+use Rattle.book.proofs.Laws.Held.{clause_at_few}
+use Rattle.plan.proofs.Laws.Lengths.{Planning, planning_start, planning_most, planning_next, planning_skip, planning_end}
 use Rattle.plan.proofs.image.plan_length.Statement.{statement}
 use Rattle.plan.proofs.image.plan_length.Tie as tie
 
@@ -20,10 +20,10 @@ subgoals-at-requires : tie.Need-subgoals-at-requires invariant-loop decreases-lo
 subgoals-at-requires c κs = search rules
 
 add_total : tie.Need-overflow-add-total invariant-loop decreases-loop
-add_total c = let e = c.subgoals-at.ensures in let few = clauseAt-few c.before.args.rules.now 64 in omega arith
+add_total c = let e = c.subgoals-at.ensures in let few = clause_at_few c.before.args.rules.now 64 in omega arith
 
 loop-holds : tie.Need-loop-init invariant-loop decreases-loop
-loop-holds c = let s = c.before.args in planning-start s.preds s.rules.now s.own.now s.reached.now (ap (λ (n : ℕ). 3 + n) c.subgoals-at.ensures)
+loop-holds c = let s = c.before.args in planning_start s.preds s.rules.now s.own.now s.reached.now (ap (λ (n : ℕ). 3 + n) c.subgoals-at.ensures)
 
 cast-q : tie.Need-overflow-cast-q invariant-loop decreases-loop
 cast-q c = omega arith
@@ -53,10 +53,10 @@ rows-length-requires : tie.Need-rows-length-requires invariant-loop decreases-lo
 rows-length-requires c κs = search rules
 
 mul-total : tie.Need-overflow-mul-total invariant-loop decreases-loop
-mul-total c = let m = planning-most c.before.before.before.before.before.before.before.loop.invariant (omega arith) c.rows-length.ensures.0 c.before.before.count.ensures in omega arith
+mul-total c = let m = planning_most c.before.before.before.before.before.before.before.loop.invariant (omega arith) c.rows_length_lem.ensures.0 c.before.before.count.ensures in omega arith
 
 add-total-2 : tie.Need-overflow-add-total-2 invariant-loop decreases-loop
-add-total-2 c = let m = planning-most c.before.before.before.before.before.before.before.loop.invariant (omega arith) c.rows-length.ensures.0 c.before.before.count.ensures in omega arith
+add-total-2 c = let m = planning_most c.before.before.before.before.before.before.before.loop.invariant (omega arith) c.rows_length_lem.ensures.0 c.before.before.count.ensures in omega arith
 
 add-p : tie.Need-overflow-add-p invariant-loop decreases-loop
 add-p c = omega arith
@@ -68,12 +68,12 @@ loop-again : tie.Need-loop-preserved invariant-loop decreases-loop
 loop-again c =
     let d = c.before.before.before.loop.invariant in
     ⊎_elim
-    (λ u. rw u.5 (planning-next d (omega arith) u.4.ensures.0 u.2.ensures))
-    (λ u. rw u.1 (planning-skip d (omega arith) u.0.left))
+    (λ u. rw u.5 (planning_next d (omega arith) u.4.ensures.0 u.2.ensures))
+    (λ u. rw u.1 (planning_skip d (omega arith) u.0.left))
     c.if1.branch
 
 returns : tie.Need-returns invariant-loop decreases-loop
-returns c = planning-end c.before.loop.invariant (omega arith)
+returns c = planning_end c.before.loop.invariant (omega arith)
 
 pub plan-length-spec : {M : Type 1} → statement M
 plan-length-spec =

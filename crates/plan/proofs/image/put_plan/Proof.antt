@@ -7,16 +7,16 @@ use native.Mathlib.Omega.{arith}
 use lib.ListN.{get_or}
 use Rattle.masks.specs.Lists.{joined}
 use Rattle.ordering.specs.Held.{places_of}
-use Rattle.choices.specs.Plan.{encQuery}
-use Rattle.plan.specs.Lent.{patternRows, planBytes}
-use Rattle.writing.proofs.Laws.Chunks.{Writing, joined-chunks, writing_start, writing-length, writing-room, writing-next, writing-end}
-use Rattle.writing.proofs.Laws.Wrote.{wrote-append, wrote-length, room-first, room-second}
+use Rattle.choices.specs.Plan.{enc_query}
+use Rattle.plan.specs.Lent.{pattern_rows, plan_bytes}
+use Rattle.writing.proofs.Laws.Chunks.{Writing, joined_chunks, writing_start, writing_length, writing_room, writing_next, writing_end}
+use Rattle.writing.proofs.Laws.Wrote.{wrote_append, wrote_length, room_first, room_second}
 use Rattle.plan.proofs.image.put_plan.Statement.{statement}
 use Rattle.plan.proofs.image.put_plan.Tie as tie
 
 -- the rows of predicate p
 abbrev rows : List ℕ → List ℕ → List ℕ → List ℕ → ℕ → List ℕ
-rows rules table own words p = patternRows rules table (get_or own p 0) (get_or words p 0)
+rows rules table own words p = pattern_rows rules table (get_or own p 0) (get_or words p 0)
 
 abbrev invariant-loop : tie.invariant-loop
 invariant-loop out₀ preds rules table own reached at₀ p₀ out at p = Writing preds (joined (rows rules table own reached)) (rows rules table own reached) (joined (rows rules table own reached) preds) out₀ at₀ p out at
@@ -25,15 +25,15 @@ abbrev decreases-loop : tie.decreases-loop
 decreases-loop out₀ preds rules table own reached at₀ p₀ out at p = preds - p
 
 put-query-requires : tie.Need-put-query-requires invariant-loop decreases-loop
-unfolding planBytes
-put-query-requires c κs = let s = c.before.before.args in room-first s.out.now 0 (encQuery (places_of s.query)) (joined (rows s.rules.now s.table.now s.own.now s.reached.now) s.preds) c.before.before.requires.3
+unfolding plan_bytes
+put-query-requires c κs = let s = c.before.before.args in room_first s.out.now 0 (enc_query (places_of s.query)) (joined (rows s.rules.now s.table.now s.own.now s.reached.now) s.preds) c.before.before.requires.3
 
 loop-holds : tie.Need-loop-init invariant-loop decreases-loop
-unfolding planBytes
+unfolding plan_bytes
 loop-holds c =
     let s = c.before.before.before.before.before.args in
     let chunk = rows s.rules.now s.table.now s.own.now s.reached.now in
-    writing_start (joined-chunks chunk s.preds) (room-second (joined chunk s.preds) c.before.before.put-query.ensures c.before.before.before.before.before.requires.3)
+    writing_start (joined_chunks chunk s.preds) (room_second (joined chunk s.preds) c.before.before.put-query.ensures c.before.before.before.before.before.requires.3)
 
 cast-q : tie.Need-overflow-cast-q invariant-loop decreases-loop
 cast-q c = omega arith
@@ -51,7 +51,7 @@ element-copy-out-put-patterns-2 : tie.Need-element-copy-out-put-patterns-2 invar
 element-copy-out-put-patterns-2 c = omega arith
 
 put-patterns-requires : tie.Need-put-patterns-requires invariant-loop decreases-loop
-put-patterns-requires c κs = let s = c.before.before.before.before.before.before.before.before.before.before.requires in (s.1 _ (omega arith), s.2, writing-room c.before.before.before.before.loop.invariant (omega arith))
+put-patterns-requires c κs = let s = c.before.before.before.before.before.before.before.before.before.before.requires in (s.1 _ (omega arith), s.2, writing_room c.before.before.before.before.loop.invariant (omega arith))
 
 add-p : tie.Need-overflow-add-p invariant-loop decreases-loop
 add-p c = omega arith
@@ -60,14 +60,14 @@ loop-less : tie.Need-loop-smaller invariant-loop decreases-loop
 loop-less c = omega arith
 
 loop-again : tie.Need-loop-preserved invariant-loop decreases-loop
-loop-again c = writing-next c.before.before.before.before.before.before.before.loop.invariant (omega arith) c.before.before.put-patterns.ensures
+loop-again c = writing_next c.before.before.before.before.before.before.before.loop.invariant (omega arith) c.before.before.put-patterns.ensures
 
 same_length : tie.Need-same-length invariant-loop decreases-loop
-same_length c = writing-length c.before.loop.invariant ∙ wrote-length c.before.before.before.before.put-query.ensures
+same_length c = writing_length c.before.loop.invariant ∙ wrote_length c.before.before.before.before.put-query.ensures
 
 returns : tie.Need-returns invariant-loop decreases-loop
-unfolding planBytes
-returns c = wrote-append c.before.before.before.before.put-query.ensures (writing-end c.before.loop.invariant (omega arith))
+unfolding plan_bytes
+returns c = wrote_append c.before.before.before.before.put-query.ensures (writing_end c.before.loop.invariant (omega arith))
 
 pub put-plan-spec : {M : Type 1} → statement M
 put-plan-spec =

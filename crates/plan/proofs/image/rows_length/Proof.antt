@@ -2,8 +2,8 @@
 -- those passed. Assumes nothing.
 use native.Mathlib.Omega.{arith}
 use borrow.Author.Rules.{rules}
-use Rattle.masks.proofs.Laws.Members.{others-less}
-use Rattle.plan.proofs.Laws.Lengths.{Adding, adding-start, adding-low, adding-most, adding-next, adding-end, rows-most}
+use Rattle.masks.proofs.Laws.Members.{others_less}
+use Rattle.plan.proofs.Laws.Lengths.{Adding, adding_start, adding_low, adding_most, adding_next, adding_end, rows_most}
 use Rattle.plan.proofs.image.rows_length.Statement.{statement}
 use Rattle.plan.proofs.image.rows_length.Tie as tie
 
@@ -14,30 +14,30 @@ abbrev decreases-loop : tie.decreases-loop
 decreases-loop rules own total₀ rest₀ total rest = rest
 
 loop-holds : tie.Need-loop-init invariant-loop decreases-loop
-loop-holds c = adding-start c.args.rules.now c.args.own (search rules)
+loop-holds c = adding_start c.args.rules.now c.args.own (search rules)
 
 cast-k : tie.Need-overflow-cast-k invariant-loop decreases-loop
-cast-k c = let l = adding-low c.before.loop.invariant c.loop-test.true in omega arith
+cast-k c = let l = adding_low c.before.loop.invariant c.loop-test.true in omega arith
 
 subgoals-at-requires : tie.Need-subgoals-at-requires invariant-loop decreases-loop
-subgoals-at-requires c κs = let l = adding-low c.before.loop.invariant c.loop-test.true in omega arith
+subgoals-at-requires c κs = let l = adding_low c.before.loop.invariant c.loop-test.true in omega arith
 
 add_total : tie.Need-overflow-add-total invariant-loop decreases-loop
-add_total c = let m = adding-most c.before.before.loop.invariant c.before.loop-test.true c.subgoals-at.ensures in omega arith
+add_total c = let m = adding_most c.before.before.loop.invariant c.before.loop-test.true c.subgoals-at.ensures in omega arith
 
 add-total-2 : tie.Need-overflow-add-total-2 invariant-loop decreases-loop
-add-total-2 c = let m = adding-most c.before.before.loop.invariant c.before.loop-test.true c.subgoals-at.ensures in omega arith
+add-total-2 c = let m = adding_most c.before.before.loop.invariant c.before.loop-test.true c.subgoals-at.ensures in omega arith
 
 loop-less : tie.Need-loop-smaller invariant-loop decreases-loop
-loop-less c = others-less c.before.before.loop.rest c.before.loop-test.true
+loop-less c = others_less c.before.before.loop.rest c.before.loop-test.true
 
 loop-again : tie.Need-loop-preserved invariant-loop decreases-loop
-loop-again c = adding-next c.before.before.loop.invariant c.before.loop-test.true c.subgoals-at.ensures
+loop-again c = adding_next c.before.before.loop.invariant c.before.loop-test.true c.subgoals-at.ensures
 
 returns : tie.Need-returns invariant-loop decreases-loop
 returns c =
-    let e = adding-end c.before.loop.invariant c.loop-test.false in
-    let m = rows-most c.before.before.args.rules.now c.before.before.args.own in
+    let e = adding_end c.before.loop.invariant c.loop-test.false in
+    let m = rows_most c.before.before.args.rules.now c.before.before.args.own in
     (e, omega arith)
 
 pub rows-length-spec : {M : Type 1} → statement M

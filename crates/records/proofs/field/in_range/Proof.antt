@@ -3,7 +3,7 @@ use mathlib.Core.Path.{◌∙◌}
 use native.Mathlib.Omega.{arith}
 use borrow.Author.Rules.{rules}
 use Rattle.book.specs.Format.{allows}
-use Rattle.records.proofs.Laws.Reads.{argument_is, no-wildcard-is}
+use Rattle.records.proofs.Laws.Reads.{argument_is, no_wildcard_is}
 use Rattle.records.proofs.field.in_range.Statement.{statement}
 use Rattle.records.proofs.field.in_range.Tie as tie
 
@@ -37,7 +37,7 @@ returns-3 : tie.Need-returns-3
 returns-3 c = rw c.before.enum_told.given.1 (c.is-argument.ensures ∙ argument_is _ (omega arith))
 
 returns-4 : tie.Need-returns-4
-returns-4 c = rw c.before.enum-told2.given.1 (c.is-argument2.ensures ∙ no-wildcard-is _ (omega arith))
+returns-4 c = rw c.before.enum-told2.given.1 (c.is-argument2.ensures ∙ no_wildcard_is _ (omega arith))
 
 pub in-range-spec : {M : Type 1} → statement M
 in-range-spec =

@@ -2,7 +2,7 @@
 use mathlib.Core.Path.{sym, ◌∙◌}
 use native.Mathlib.Omega.{arith}
 use borrow.Author.Rules.{rules}
-use Rattle.records.proofs.Laws.Reads.{byte_past, byte-out, byte-in}
+use Rattle.records.proofs.Laws.Reads.{byte_past, byte_out, byte_in}
 use Rattle.records.proofs.field.read_byte.Statement.{statement}
 use Rattle.records.proofs.field.read_byte.Tie as tie
 
@@ -16,10 +16,10 @@ in-range-requires : tie.Need-in-range-requires
 in-range-requires c κs = search rules
 
 returns-2 : tie.Need-returns-2
-returns-2 c = byte-in _ _ _ (omega arith) (sym c.before.in-range.ensures ∙ c.if2.true)
+returns-2 c = byte_in _ _ _ (omega arith) (sym c.before.in_range_lem.ensures ∙ c.if2.true)
 
 returns-3 : tie.Need-returns-3
-returns-3 c = byte-out _ _ _ (omega arith) (sym c.before.in-range.ensures ∙ c.if2.false)
+returns-3 c = byte_out _ _ _ (omega arith) (sym c.before.in_range_lem.ensures ∙ c.if2.false)
 
 pub read-byte-spec : {M : Type 1} → statement M
 read-byte-spec =

@@ -2,7 +2,7 @@
 use Prim.Native.Nat.{◌-◌}
 use native.Mathlib.Omega.{arith}
 use borrow.Author.Rules.{rules}
-use Rattle.records.proofs.Laws.Stores.{Laying, laying-start, laying-size, laying-bad, laying-next, laying-end}
+use Rattle.records.proofs.Laws.Stores.{Laying, laying_start, laying_size, laying_bad, laying_next, laying_end}
 use Rattle.records.proofs.field.read_bytes.Statement.{statement}
 use Rattle.records.proofs.field.read_bytes.Tie as tie
 
@@ -13,7 +13,7 @@ abbrev decreases-loop : tie.decreases-loop
 decreases-loop s from k range out₀ start n at₀ i₀ out at i = n - i
 
 loop-holds : tie.Need-loop-init invariant-loop decreases-loop
-loop-holds c = laying-start _ _ _ _ _ _ c.before.before.requires.0
+loop-holds c = laying_start _ _ _ _ _ _ c.before.before.requires.0
 
 read-byte-requires : tie.Need-read-byte-requires invariant-loop decreases-loop
 read-byte-requires c κs = c.before.loop.invariant.left.inside
@@ -22,14 +22,14 @@ enum_told : tie.Need-enum-told invariant-loop decreases-loop
 enum_told c = search rules
 
 same_length : tie.Need-same-length invariant-loop decreases-loop
-same_length c = laying-size _ _ _ _ _ _ c.before.before.before.before.loop.invariant
+same_length c = laying_size _ _ _ _ _ _ c.before.before.before.before.loop.invariant
 
 returns : tie.Need-returns invariant-loop decreases-loop
 returns c =
     let loop = c.before.before.before.before.loop in
     let loop-test = c.before.before.before.loop-test in
     let read_byte = c.before.before.read_byte in
-    laying-bad _ _ _ _ _ _ loop.invariant loop-test.true read_byte.ensures c.enum_told.given.1
+    laying_bad _ _ _ _ _ _ loop.invariant loop-test.true read_byte.ensures c.enum_told.given.1
 
 enum-known-g : tie.Need-enum-known-g invariant-loop decreases-loop
 enum-known-g c = search rules
@@ -53,13 +53,13 @@ loop-again c =
     let read_byte = c.before.before.before.before.before.before.before.read_byte in
     let g = c.before.before.before.before.before.g in
     let put_byte = c.before.before.put_byte in
-    laying-next _ _ _ _ _ _ loop.invariant loop-test.true read_byte.ensures g.given.1 put_byte.ensures
+    laying_next _ _ _ _ _ _ loop.invariant loop-test.true read_byte.ensures g.given.1 put_byte.ensures
 
 same-length-2 : tie.Need-same-length-2 invariant-loop decreases-loop
-same-length-2 c = laying-size _ _ _ _ _ _ c.before.loop.invariant
+same-length-2 c = laying_size _ _ _ _ _ _ c.before.loop.invariant
 
 returns-2 : tie.Need-returns-2 invariant-loop decreases-loop
-returns-2 c = laying-end _ _ _ _ _ _ c.before.loop.invariant 0 c.loop-test.false
+returns-2 c = laying_end _ _ _ _ _ _ c.before.loop.invariant 0 c.loop-test.false
 
 pub read-bytes-spec : {M : Type 1} → statement M
 read-bytes-spec =

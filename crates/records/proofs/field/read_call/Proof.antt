@@ -1,9 +1,9 @@
 -- `records::field::read_call` meets its contract. A fault of the predicate is the call's; else its arity says how many arguments decide. Assumes nothing.
 use native.Mathlib.Omega.{arith}
 use borrow.Author.Rules.{rules}
-use Rattle.book.proofs.Laws.Bound.{arities-at}
-use Rattle.records.proofs.Laws.Calls.{call_none, call-read}
-use Rattle.records.proofs.Laws.Reads.{predicate-known, next-inside}
+use Rattle.book.proofs.Laws.Bound.{arities_at}
+use Rattle.records.proofs.Laws.Calls.{call_none, call_read}
+use Rattle.records.proofs.Laws.Reads.{predicate_known, next_inside}
 use Rattle.records.proofs.field.read_call.Statement.{statement}
 use Rattle.records.proofs.field.read_call.Tie as tie
 
@@ -27,7 +27,7 @@ shared-slice-read-read-args c =
     let args = c.before.before.before.before.before.before.before.args in
     let read_byte = c.before.before.before.before.read_byte in
     let g = c.before.before.g in
-    predicate-known args.ar.now args.s.now args.at read_byte.ensures g.given.1
+    predicate_known args.ar.now args.s.now args.at read_byte.ensures g.given.1
 
 read-args-requires : tie.Need-read-args-requires
 read-args-requires c κs =
@@ -35,7 +35,7 @@ read-args-requires c κs =
     let pre = c.before.before.before.before.before.before.before.requires in
     let read_byte = c.before.before.before.before.read_byte in
     let g = c.before.before.g in
-    (next-inside read_byte.ensures g.given.1, arities-at args.ar.now pre.1.fit g.given.0.1.0, pre.2)
+    (next_inside read_byte.ensures g.given.1, arities_at args.ar.now pre.1.fit g.given.0.1.0, pre.2)
 
 returns : tie.Need-returns
 returns c =
@@ -48,7 +48,7 @@ returns-2 c =
     let args = c.before.before.before.before.before.before.before.before.args in
     let read_byte = c.before.before.before.before.before.read_byte in
     let g = c.before.before.before.g in
-    call-read _ _ _ args.at read_byte.ensures g.given.1 c.read-args.ensures
+    call_read _ _ _ args.at read_byte.ensures g.given.1 c.read-args.ensures
 
 pub read-call-spec : {M : Type 1} → statement M
 read-call-spec =

@@ -1,8 +1,8 @@
 -- `records::field::read_masks` meets its contract. A fault of the number is the masks'; else so many bytes decide. Assumes nothing.
 use native.Mathlib.Omega.{arith}
 use borrow.Author.Rules.{rules}
-use Rattle.records.proofs.Laws.Stores.{none-laid, masks-laid}
-use Rattle.records.proofs.Laws.Reads.{next-inside}
+use Rattle.records.proofs.Laws.Stores.{none_laid, masks_laid}
+use Rattle.records.proofs.Laws.Reads.{next_inside}
 use Rattle.records.proofs.field.read_masks.Statement.{statement}
 use Rattle.records.proofs.field.read_masks.Tie as tie
 
@@ -37,13 +37,13 @@ read-bytes-requires : tie.Need-read-bytes-requires
 read-bytes-requires c κs =
     let read_byte = c.before.before.before.before.before.before.before.before.before.before.before.before.read_byte in
     let g = c.before.before.before.before.before.before.before.before.before.before.g in
-    (next-inside read_byte.ensures g.given.1, omega arith)
+    (next_inside read_byte.ensures g.given.1, omega arith)
 
 returns : tie.Need-returns
 returns c =
     let args = c.before.before.before.before.before.args in
     let read_byte = c.before.before.read_byte in
-    none-laid _ _ _ args.at read_byte.ensures _ c.enum_told.given.1
+    none_laid _ _ _ args.at read_byte.ensures _ c.enum_told.given.1
 
 same_length : tie.Need-same-length
 same_length c = search rules
@@ -56,7 +56,7 @@ returns-2 c =
     let put_byte = c.before.before.before.before.before.before.before.before.before.before.put_byte in
     let put-byte2 = c.before.before.before.before.before.before.put-byte2 in
     let read-bytes = c.before.before.read-bytes in
-    masks-laid _ _ _ args.at read_byte.ensures _ g.given.1 put_byte.ensures put-byte2.ensures read-bytes.ensures
+    masks_laid _ _ _ args.at read_byte.ensures _ g.given.1 put_byte.ensures put-byte2.ensures read-bytes.ensures
 
 pub read-masks-spec : {M : Type 1} → statement M
 read-masks-spec =

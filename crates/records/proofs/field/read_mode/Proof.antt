@@ -2,9 +2,9 @@
 use Prim.Native.Nat.{ℕ, ◌+◌}
 use native.Mathlib.Omega.{arith}
 use borrow.Author.Rules.{rules}
-use Rattle.book.proofs.Laws.Bound.{arities-at}
-use Rattle.records.proofs.Laws.Stores.{mode-none, mode-unlaid, mode-clash, mode-laid}
-use Rattle.records.proofs.Laws.Reads.{predicate-known, next-inside}
+use Rattle.book.proofs.Laws.Bound.{arities_at}
+use Rattle.records.proofs.Laws.Stores.{mode_none, mode_unlaid, mode_clash, mode_laid}
+use Rattle.records.proofs.Laws.Reads.{predicate_known, next_inside}
 use Rattle.records.proofs.field.read_mode.Statement.{statement}
 use Rattle.records.proofs.field.read_mode.Tie as tie
 
@@ -40,17 +40,17 @@ module _ (k : tie.After-known-told) where
 shared-slice-read-arity : tie.Need-shared-slice-read-arity
 shared-slice-read-arity c =
     let k = c.before in
-    predicate-known (start k).args.ar.now (start k).args.s.now (from k) (read k).read_byte.ensures k.before.g.given.1
+    predicate_known (start k).args.ar.now (start k).args.s.now (from k) (read k).read_byte.ensures k.before.g.given.1
 
 patterns-requires : tie.Need-patterns-requires
 patterns-requires c κs =
     let k = c.before in
-    arities-at (start k).args.ar.now (start k).requires.1.fit k.before.g.given.0.1.0
+    arities_at (start k).args.ar.now (start k).requires.1.fit k.before.g.given.0.1.0
 
 read-masks-requires : tie.Need-read-masks-requires
 read-masks-requires c κs =
     let k = c.before.before.before in
-    next-inside (read k).read_byte.ensures k.before.g.given.1
+    next_inside (read k).read_byte.ensures k.before.g.given.1
 
 enum-told-2 : tie.Need-enum-told-2
 enum-told-2 c = search rules
@@ -65,13 +65,13 @@ returns : tie.Need-returns
 returns c =
     let d = c.before.before.before.before.before.before in
     let k = d.before.before.before.before in
-    mode-clash _ _ _ (from k) (read k).read_byte.ensures _ k.before.g.given.1 d.before.before.patterns.ensures d.read-masks.ensures c.before.before.h.given.1 (omega arith) (start k).requires.0 (omega arith)
+    mode_clash _ _ _ (from k) (read k).read_byte.ensures _ k.before.g.given.1 d.before.before.patterns.ensures d.read-masks.ensures c.before.before.h.given.1 (omega arith) (start k).requires.0 (omega arith)
 
 returns-2 : tie.Need-returns-2
 returns-2 c =
     let args = c.before.before.before.before.before.before.args in
     let read_byte = c.before.before.read_byte in
-    mode-none _ _ _ (args.at + 2) read_byte.ensures _ c.enum_told.given.1
+    mode_none _ _ _ (args.at + 2) read_byte.ensures _ c.enum_told.given.1
 
 same-length-2 : tie.Need-same-length-2
 same-length-2 c = search rules
@@ -80,7 +80,7 @@ returns-3 : tie.Need-returns-3
 returns-3 c =
     let d = c.before.before.before.before in
     let k = d.before.before.before.before in
-    mode-unlaid _ _ _ (from k) (read k).read_byte.ensures _ k.before.g.given.1 d.before.before.patterns.ensures d.read-masks.ensures c.enum-told2.given.1
+    mode_unlaid _ _ _ (from k) (read k).read_byte.ensures _ k.before.g.given.1 d.before.before.patterns.ensures d.read-masks.ensures c.enum-told2.given.1
 
 same-length-3 : tie.Need-same-length-3
 same-length-3 c = search rules
@@ -89,7 +89,7 @@ returns-4 : tie.Need-returns-4
 returns-4 c =
     let d = c.before.before.before.before.before.before in
     let k = d.before.before.before.before in
-    mode-laid _ _ _ (from k) (read k).read_byte.ensures _ k.before.g.given.1 d.before.before.patterns.ensures d.read-masks.ensures c.before.before.h.given.1 (start k).requires.1 (omega arith)
+    mode_laid _ _ _ (from k) (read k).read_byte.ensures _ k.before.g.given.1 d.before.before.patterns.ensures d.read-masks.ensures c.before.before.h.given.1 (start k).requires.1 (omega arith)
 
 pub read-mode-spec : {M : Type 1} → statement M
 read-mode-spec =

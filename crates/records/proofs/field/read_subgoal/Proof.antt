@@ -2,7 +2,7 @@
 use mathlib.Core.Path.{sym, ◌∙◌}
 use mathlib.Core.Bool.{true, false}
 use borrow.Author.Rules.{rules}
-use Rattle.records.proofs.Laws.Reads.{subgoal-reads}
+use Rattle.records.proofs.Laws.Reads.{subgoal_reads}
 use Rattle.records.proofs.field.read_subgoal.Statement.{statement}
 use Rattle.records.proofs.field.read_subgoal.Tie as tie
 
@@ -16,7 +16,7 @@ read-call-requires : tie.Need-read-call-requires
 read-call-requires c κs = search rules
 
 returns : tie.Need-returns
-returns c = subgoal-reads _ c.before.before.before.before.before.before.args.at _ true (sym c.before.before.is-mark.ensures ∙ c.before.if1.true) c.read-call.ensures
+returns c = subgoal_reads _ c.before.before.before.before.before.before.args.at _ true (sym c.before.before.is-mark.ensures ∙ c.before.if1.true) c.read-call.ensures
 
 add-read-call-2 : tie.Need-overflow-add-read-call-2
 add-read-call-2 c = search rules
@@ -25,7 +25,7 @@ read-call-requires-2 : tie.Need-read-call-requires-2
 read-call-requires-2 c κs = search rules
 
 returns-2 : tie.Need-returns-2
-returns-2 c = subgoal-reads _ c.before.before.before.before.before.before.args.at _ false (sym c.before.before.is-mark.ensures ∙ c.before.if1.false) c.read-call2.ensures
+returns-2 c = subgoal_reads _ c.before.before.before.before.before.before.args.at _ false (sym c.before.before.is-mark.ensures ∙ c.before.if1.false) c.read-call2.ensures
 
 pub read-subgoal-spec : {M : Type 1} → statement M
 read-subgoal-spec =

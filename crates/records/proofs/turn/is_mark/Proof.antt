@@ -1,12 +1,12 @@
 -- `records::turn::is_mark` meets its contract. Fewer than two bytes are left, or the first differs, or the second decides. Assumes nothing.
 use native.Mathlib.Omega.{arith}
 use borrow.Author.Rules.{rules}
-use Rattle.records.proofs.Laws.Turns.{leads-short, leads-other, leads-same}
+use Rattle.records.proofs.Laws.Turns.{leads_short, leads_other, leads_same}
 use Rattle.records.proofs.turn.is_mark.Statement.{statement}
 use Rattle.records.proofs.turn.is_mark.Tie as tie
 
 returns : tie.Need-returns
-returns c = leads-short _ c.before.args.at _ c.if1.true
+returns c = leads_short _ c.before.args.at _ c.if1.true
 
 shared-slice-read-if2 : tie.Need-shared-slice-read-if2
 shared-slice-read-if2 c = search rules
@@ -17,7 +17,7 @@ element-copy-out-if2 c = search rules
 returns-2 : tie.Need-returns-2
 returns-2 c =
     let args = c.before.before.before.before.args in
-    leads-other args.s.now args.at _ (omega arith) c.if2.true
+    leads_other args.s.now args.at _ (omega arith) c.if2.true
 
 shared-slice-read-result : tie.Need-shared-slice-read-result
 shared-slice-read-result c = search rules
@@ -29,7 +29,7 @@ returns-3 : tie.Need-returns-3
 returns-3 c =
     let args = c.before.before.before.before.before.before.args in
     let if2 = c.before.before.if2 in
-    leads-same args.s.now args.at _ (omega arith) if2.false
+    leads_same args.s.now args.at _ (omega arith) if2.false
 
 pub is-mark-spec : {M : Type 1} → statement M
 is-mark-spec =

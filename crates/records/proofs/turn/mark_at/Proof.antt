@@ -1,7 +1,7 @@
 -- `records::turn::mark_at` meets its contract. By the tests so far. Assumes nothing.
 use mathlib.Core.Path.{sym, ◌∙◌}
 use borrow.Author.Rules.{rules}
-use Rattle.book.specs.Format.{markAt}
+use Rattle.book.specs.Format.{mark_at}
 use Rattle.records.proofs.turn.mark_at.Statement.{statement}
 use Rattle.records.proofs.turn.mark_at.Tie as tie
 
@@ -9,14 +9,14 @@ is-mark-requires : tie.Need-is-mark-requires
 is-mark-requires c κs = search rules
 
 returns : tie.Need-returns
-unfolding markAt
+unfolding mark_at
 returns c = rw (sym c.before.is-mark.ensures ∙ c.if1.true)
 
 is-mark-requires-2 : tie.Need-is-mark-requires-2
 is-mark-requires-2 c κs = search rules
 
 returns-2 : tie.Need-returns-2
-unfolding markAt
+unfolding mark_at
 returns-2 c =
     let is-mark = c.before.before.before.before.is-mark in
     let if1 = c.before.before.before.if1 in
@@ -26,7 +26,7 @@ is-mark-requires-3 : tie.Need-is-mark-requires-3
 is-mark-requires-3 c κs = search rules
 
 returns-3 : tie.Need-returns-3
-unfolding markAt
+unfolding mark_at
 returns-3 c =
     let is-mark = c.before.before.before.before.before.before.before.is-mark in
     let if1 = c.before.before.before.before.before.before.if1 in
@@ -38,7 +38,7 @@ is-mark-requires-4 : tie.Need-is-mark-requires-4
 is-mark-requires-4 c κs = search rules
 
 returns-4 : tie.Need-returns-4
-unfolding markAt
+unfolding mark_at
 returns-4 c =
     let is-mark = c.before.before.before.before.before.before.before.before.before.before.is-mark in
     let if1 = c.before.before.before.before.before.before.before.before.before.if1 in
@@ -52,7 +52,7 @@ is-mark-requires-5 : tie.Need-is-mark-requires-5
 is-mark-requires-5 c κs = search rules
 
 returns-5 : tie.Need-returns-5
-unfolding markAt
+unfolding mark_at
 returns-5 c =
     let is-mark = c.before.before.before.before.before.before.before.before.before.before.before.before.before.is-mark in
     let if1 = c.before.before.before.before.before.before.before.before.before.before.before.before.if1 in
@@ -68,7 +68,7 @@ is-mark-requires-6 : tie.Need-is-mark-requires-6
 is-mark-requires-6 c κs = search rules
 
 returns-6 : tie.Need-returns-6
-unfolding markAt
+unfolding mark_at
 returns-6 c =
     let is-mark = c.before.before.before.before.before.before.before.before.before.before.before.before.before.before.before.before.is-mark in
     let if1 = c.before.before.before.before.before.before.before.before.before.before.before.before.before.before.before.if1 in
@@ -86,7 +86,7 @@ unmarked-requires : tie.Need-unmarked-requires
 unmarked-requires c κs = search rules
 
 returns-7 : tie.Need-returns-7
-unfolding markAt
+unfolding mark_at
 returns-7 c =
     let is-mark = c.before.before.before.before.before.before.before.before.before.before.before.before.before.before.before.before.before.is-mark in
     let if1 = c.before.before.before.before.before.before.before.before.before.before.before.before.before.before.before.before.if1 in

@@ -2,7 +2,7 @@
 use mathlib.Core.Path.{sym, ap, ◌∙◌}
 use borrow.Author.Rules.{rules}
 use Rattle.book.specs.Format.{turn}
-use Rattle.records.proofs.Laws.Turns.{stops-no, stops-over, stops-mine}
+use Rattle.records.proofs.Laws.Turns.{stops_no, stops_over, stops_mine}
 use Rattle.records.proofs.turn.run_end.Statement.{statement}
 use Rattle.records.proofs.turn.run_end.Tie as tie
 
@@ -32,7 +32,7 @@ returns c =
     let turned = c.before.before.before.before.turn in
     let t = c.before.before.t in
     rw c.place.ensures
-    (stops-no args.p args.s.now args.at pre _ 0 (sym (turned.ensures ∙ ap (turn args.p) mark-at.ensures) ∙ t.given.1))
+    (stops_no args.p args.s.now args.at pre _ 0 (sym (turned.ensures ∙ ap (turn args.p) mark-at.ensures) ∙ t.given.1))
 
 returns-2 : tie.Need-returns-2
 returns-2 c =
@@ -40,7 +40,7 @@ returns-2 c =
     let pre = c.before.before.before.before.before.requires in
     let mark-at = c.before.before.before.mark-at in
     let turned = c.before.before.turn in
-    stops-over args.p args.s.now args.at pre _ 0 (sym (turned.ensures ∙ ap (turn args.p) mark-at.ensures) ∙ c.enum_told.given.1)
+    stops_over args.p args.s.now args.at pre _ 0 (sym (turned.ensures ∙ ap (turn args.p) mark-at.ensures) ∙ c.enum_told.given.1)
 
 returns-3 : tie.Need-returns-3
 returns-3 c =
@@ -48,7 +48,7 @@ returns-3 c =
     let pre = c.before.before.before.before.before.requires in
     let mark-at = c.before.before.before.mark-at in
     let turned = c.before.before.turn in
-    stops-mine args.p args.s.now args.at pre _ 0 (sym (turned.ensures ∙ ap (turn args.p) mark-at.ensures) ∙ c.enum-told2.given.1)
+    stops_mine args.p args.s.now args.at pre _ 0 (sym (turned.ensures ∙ ap (turn args.p) mark-at.ensures) ∙ c.enum-told2.given.1)
 
 pub run-end-spec : {M : Type 1} → statement M
 run-end-spec =

@@ -3,8 +3,8 @@ use native.Mathlib.Omega.{arith}
 use lib.ListN.{length-append}
 use borrow.Author.Rules.{rules}
 use Rattle.printing.specs.Sheet.{decimal, after}
-use Rattle.writing.proofs.Laws.Wrote.{wrote-append, wrote_as}
-use Rattle.sheet.proofs.Laws.Decimal.{spelled, spelled-room}
+use Rattle.writing.proofs.Laws.Wrote.{wrote_append, wrote_as}
+use Rattle.sheet.proofs.Laws.Decimal.{spelled, spelled_room}
 use Rattle.sheet.proofs.line.put_field.Statement.{statement}
 use Rattle.sheet.proofs.line.put_field.Tie as tie
 
@@ -26,7 +26,7 @@ put-bytes-requires-2 c κs =
     let k = c.before.before.before.before.before.before.before.before.before.before in
     let d = c.before.before.decimal in
     let first = c.before.before.before.before.before.before.put-bytes.ensures in
-    spelled-room k.args.part.now k.args.n d.result d.ensures.1.0 d.ensures.1.1 first k.requires
+    spelled_room k.args.part.now k.args.n d.result d.ensures.1.0 d.ensures.1.1 first k.requires
 
 same_length : tie.Need-same-length
 same_length c = search rules
@@ -36,7 +36,7 @@ returns c =
     let k = c.before.before.before.before.before.before.before.before.before.before.before.before.before in
     let d = c.before.before.before.before.before.decimal in
     let first = c.before.before.before.before.before.before.before.before.before.put-bytes.ensures in
-    wrote_as (spelled k.args.part.now k.args.n d.result d.ensures.1.0 d.ensures.1.1) (wrote-append first c.before.before.put-bytes2.ensures)
+    wrote_as (spelled k.args.part.now k.args.n d.result d.ensures.1.0 d.ensures.1.1) (wrote_append first c.before.before.put-bytes2.ensures)
 
 pub put-field-spec : {M : Type 1} → statement M
 put-field-spec =

@@ -4,7 +4,7 @@ use native.Mathlib.Omega.{arith}
 use lib.ListN.{length}
 use borrow.Author.Rules.{rules}
 use Rattle.writing.proofs.Laws.Wrote.{wrote_as}
-use Rattle.sheet.proofs.Laws.Lines.{listing-some, listing_none}
+use Rattle.sheet.proofs.Laws.Lines.{listing_some, listing_none}
 use Rattle.sheet.proofs.line.put_listing.Statement.{statement}
 use Rattle.sheet.proofs.line.put_listing.Tie as tie
 
@@ -25,7 +25,7 @@ returns c =
 put-fields-requires : tie.Need-put-fields-requires
 put-fields-requires c κs =
     let s = c.before.before.before.before.before.before.args in
-    let e = ap length (listing-some s.none.now s.list.now (λ z. absurd (omega arith))) in
+    let e = ap length (listing_some s.none.now s.list.now (λ z. absurd (omega arith))) in
     omega arith
 
 same-length-2 : tie.Need-same-length-2
@@ -34,7 +34,7 @@ same-length-2 c = search rules
 returns-2 : tie.Need-returns-2
 returns-2 c =
     let s = c.before.before.before.before.before.before.before.before.before.args in
-    wrote_as (sym (listing-some s.none.now s.list.now (λ z. absurd (omega arith)))) c.before.before.put-fields.ensures
+    wrote_as (sym (listing_some s.none.now s.list.now (λ z. absurd (omega arith)))) c.before.before.put-fields.ensures
 
 pub put-listing-spec : {M : Type 1} → statement M
 put-listing-spec =

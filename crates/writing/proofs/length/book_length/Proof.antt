@@ -2,7 +2,7 @@
 use native.Mathlib.Omega.{arith}
 use lib.ListN.{length-take}
 use borrow.Author.Rules.{rules}
-use Rattle.writing.proofs.Laws.Book.{book-length}
+use Rattle.writing.proofs.Laws.Book.{book_length_lem}
 use Rattle.writing.proofs.length.book_length.Statement.{statement}
 use Rattle.writing.proofs.length.book_length.Tie as tie
 
@@ -36,7 +36,7 @@ add-result-4 c = search rules
 returns : tie.Need-returns
 returns c =
     let s = c.before.before.before.before.before.args in
-    let e = book-length s.preds s.arities.now s.modes.now s.clauses s.rules.now in
+    let e = book_length_lem s.preds s.arities.now s.modes.now s.clauses s.rules.now in
     let p = length-take s.preds s.arities.now in
     let m = c.before.before.modes-length.ensures.0 in
     let k = c.before.clauses-length.ensures.0 in

@@ -6,8 +6,8 @@ use native.Mathlib.Omega.{arith}
 use lib.ListN.{length}
 use borrow.Author.Rules.{rules}
 use Rattle.masks.specs.Set.{members}
-use Rattle.masks.proofs.Laws.Sets.{members-most}
-use Rattle.writing.proofs.Laws.Wrote.{wrote-append, wrote-before, wrote_as, wrote-length}
+use Rattle.masks.proofs.Laws.Sets.{members_most}
+use Rattle.writing.proofs.Laws.Wrote.{wrote_append, wrote_before, wrote_as, wrote_length}
 use Rattle.writing.proofs.put.put_constraint.Statement.{statement}
 use Rattle.writing.proofs.put.put_constraint.Tie as tie
 
@@ -17,14 +17,14 @@ put-byte-requires c κs = omega arith
 add-put-masks : tie.Need-overflow-add-put-masks
 add-put-masks c =
     let w = c.before.before.before.put_byte.ensures in
-    let e = wrote-length w in
+    let e = wrote_length w in
     let n = w.ends in
     omega (arith, c.before.before.before.before.before.before.requires)
 
 put-masks-requires : tie.Need-put-masks-requires
 put-masks-requires c κs =
     let w = c.before.before.before.put_byte.ensures in
-    let e = wrote-length w in
+    let e = wrote_length w in
     let n = w.ends in
     omega (arith, c.before.before.before.before.before.before.requires)
 
@@ -37,7 +37,7 @@ sub-put-byte-2 c = let e = c.before.before.before.put-masks.ensures.1 in omega a
 cast-put-byte : tie.Need-overflow-cast-put-byte
 cast-put-byte c =
     let e = c.before.before.before.put-masks.ensures.1 in
-    let n = members-most c.before.before.before.before.before.before.before.before.before.before.args.masks in
+    let n = members_most c.before.before.before.before.before.before.before.before.before.before.args.masks in
     omega arith
 
 put-byte-requires-2 : tie.Need-put-byte-requires-2
@@ -52,8 +52,8 @@ returns c =
     let masks = members k.before.before.before.before.before.before.before.args.masks in
     let first = k.before.before.before.before.put_byte in
     let n : k.put-masks.result - first.result - 1 ≡ length masks = (let e = k.put-masks.ensures.1 in omega arith) in
-    let behind = wrote-before k.put-masks.ensures.0 k.put-masks.ensures.1 c.before.before.put-byte2.ensures in
-    wrote-append first.ensures (wrote_as (ap (λ (i : ℕ). i ∷ masks) n) behind)
+    let behind = wrote_before k.put-masks.ensures.0 k.put-masks.ensures.1 c.before.before.put-byte2.ensures in
+    wrote_append first.ensures (wrote_as (ap (λ (i : ℕ). i ∷ masks) n) behind)
 
 pub put-constraint-spec : {M : Type 1} → statement M
 put-constraint-spec =

@@ -1,7 +1,7 @@
 -- `writing::put::put_mark` meets its contract. One byte after another, and two bytes are the whole mark. Assumes nothing.
 use native.Mathlib.Omega.{arith}
 use borrow.Author.Rules.{rules}
-use Rattle.writing.proofs.Laws.Wrote.{wrote-append, wrote_as, two_bytes}
+use Rattle.writing.proofs.Laws.Wrote.{wrote_append, wrote_as, two_bytes}
 use Rattle.writing.proofs.put.put_mark.Statement.{statement}
 use Rattle.writing.proofs.put.put_mark.Tie as tie
 
@@ -25,7 +25,7 @@ returns c =
     let m = c.before.before.before.before.before.before.before.before.before.before.before.before.args.m.now in
     let first = c.before.before.before.before.before.before.before.put_byte.ensures in
     let second = c.before.before.put-byte2.ensures in
-    wrote_as (two_bytes m (omega arith)) (wrote-append first second)
+    wrote_as (two_bytes m (omega arith)) (wrote_append first second)
 
 pub put-mark-spec : {M : Type 1} → statement M
 put-mark-spec =

@@ -2,7 +2,7 @@
 use native.Mathlib.Omega.{arith}
 use borrow.Author.Rules.{rules}
 use borrow.Author.Tests.{lt-ltb, le-ltb}
-use Rattle.masks.specs.Outcome.{inRoom}
+use Rattle.masks.specs.Outcome.{in_room}
 use Rattle.masks.proofs.reply.Reply.in_room.Statement.{statement}
 use Rattle.masks.proofs.reply.Reply.in_room.Tie as tie
 
@@ -10,11 +10,11 @@ refused-requires : tie.Need-refused-requires
 refused-requires c κs = search rules
 
 returns : tie.Need-returns
-unfolding inRoom
+unfolding in_room
 returns c = let s = c.before.before.args in rw (lt-ltb s.room s.n (omega arith)) c.refused.ensures
 
 returns-2 : tie.Need-returns-2
-unfolding inRoom
+unfolding in_room
 returns-2 c = let s = c.before.args in rw (le-ltb s.room s.n (omega arith))
 
 pub in-room-spec : {M : Type 1} → statement M
