@@ -1,6 +1,8 @@
 // Patterns and constraints. Here are the two public operations, the choice and the joint of two constraints, and what they call; constraints as sets
 // of masks and their written form are in `constraint`, all patterns tried at once in `patterns`, the answer that every operation gives in `reply`, the
 // numbers in `limits`.
+#![tactic(auto)]
+
 pub mod constraint;
 pub mod limits;
 pub mod patterns;

@@ -12,11 +12,11 @@ use lib.ListN.{length, get_or, take}
 use lib.Pow.{shr-shr}
 use borrow.Author.Tests.{eq-eqb, ne_eqb, eqb-true, eqb-false}
 use Rattle.masks.specs.Limits.{all_patterns}
-use Rattle.masks.specs.Constraint.{written, in_range, minimise, choice}
+use Rattle.masks.specs.Constraint.{in_range}
 use Rattle.masks.specs.Set.{bit_at, Holds}
 use Rattle.masks.specs.Lists.{has}
 use Rattle.masks.proofs.Laws.Logic.{by_bool, same, or_case, or_left, or_right}
-use Rattle.masks.proofs.Laws.Constraint.{in_range_at, written_cong}
+use Rattle.masks.proofs.Laws.Constraint.{in_range_at}
 use Rattle.masks.proofs.Laws.Lists.{any_suc, has_append, has_map}
 
 -- ---- the bits of a word

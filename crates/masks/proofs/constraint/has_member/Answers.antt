@@ -2,20 +2,12 @@
 use mathlib.Core.Path.{◌≡◌, ap, ◌∙◌}
 use Prim.Native.Nat.{◌+◌}
 use native.Mathlib.Omega.{arith}
-use borrow.Author.Rules.{rules}
 use Rattle.masks.specs.Set.{bit_at}
 use Rattle.masks.proofs.Laws.Set.{bit_at_shift}
-use Rattle.masks.proofs.constraint.has_member.Statement.{statement}
-use Rattle.masks.proofs.constraint.has_member.Tie as tie
+use Rattle.masks.proofs.constraint.has_member.Goals as goal
 
-shr-result : tie.Need-overflow-shr-result
-shr-result c = search rules
-
-returns : tie.Need-returns
+pub returns : goal.returns
 unfolding bit_at
 returns c =
     let e : c.args.m + 0 ≡ c.args.m = omega arith in
     bit_at_shift c.args.set c.args.m 0 ∙ ap (bit_at c.args.set) e
-
-pub has-member-spec : {M : Type 1} → statement M
-has-member-spec = tie.close (tie.spec shr-result returns)

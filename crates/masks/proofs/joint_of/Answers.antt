@@ -1,0 +1,28 @@
+-- `masks::joint_of` meets its contract. The loop's invariant: the set has the unions of the first i masks of one list with those of the other. Assumes nothing.
+use mathlib.Core.Path.{◌∙◌}
+use native.Mathlib.Omega.{arith}
+use Rattle.masks.proofs.Laws.Joining.{joint_start, joint_next, joint_held}
+use Rattle.masks.proofs.Laws.Constraint.{in_range_at}
+use Rattle.masks.proofs.joint_of.Goals as goal
+
+pub loop-i-init : goal.loop-i-init
+loop-i-init c = (omega arith, joint_start c.args.first.now c.args.second.now)
+
+pub with_unions-set-requires : goal.with_unions-set-requires
+with_unions-set-requires c =
+    let l = c.loop-i in
+    let p = c.requires in
+    let s = c.args in
+    (in_range_at 64 s.first.now l.i p.0 (omega arith), p.1)
+
+pub loop-i-preserved : goal.loop-i-preserved
+loop-i-preserved c =
+    let s = c.args in
+    let l = c.loop-i in
+    (omega arith, joint_next l.set c.with_unions-set.result s.first.now s.second.now l.i (omega arith) l.invariant.1 c.with_unions-set.ensures)
+
+pub returns : goal.returns
+returns c =
+    let s = c.args in
+    let l = c.loop-i in
+    c.written.ensures ∙ joint_held l.set s.first.now s.second.now l.i (omega arith) l.invariant.1
