@@ -305,6 +305,8 @@ class Function:
                         if s:
                             kind[x] = ("step", s)
                     out.append(m[0][: m.start(4) - m.start()] + new + m[0][m.end(5) - m.start() :])
+                elif h in kind and rest:
+                    out.append(m[0][: m.start(4) - m.start()] + ".".join([h, *self.of_kind(kind[h], rest)]) + m[0][m.end(5) - m.start() :])
                 else:
                     out.append(m[0])
                 continue
@@ -312,20 +314,21 @@ class Function:
             if h in env:
                 out.append(self.rename_path([h, *rest], env)[0])
             elif h in kind:
-                k, callee = kind[h]
-                if k == "step" and len(rest) > 1 and rest[0] == "ensures" and rest[1].isdigit():
-                    c = self.clause(callee, "ensures", int(rest[1]))
-                    if c:
-                        rest[1] = c
-                elif k in ("requires", "ensures") and rest[0].isdigit():
-                    c = self.clause(callee, k, int(rest[0]))
-                    if c:
-                        rest[0] = c
+                rest = self.of_kind(kind[h], rest)
                 out.append(".".join([h, *rest]))
             else:
                 out.append(m[0])
         out.append(text[last:])
         return "".join(out)
+
+    def of_kind(self, kind, rest):
+        k, callee = kind
+        at = 1 if k == "step" and rest[0] == "ensures" else 0
+        if len(rest) > at and rest[at].isdigit() and (at or k != "step"):
+            c = self.clause(callee, "ensures" if k == "step" else k, int(rest[at]))
+            if c:
+                rest[at] = c
+        return rest
 
     def callee_of(self, path, env):
         if path[-1] == "requires":

@@ -4,22 +4,11 @@ use mathlib.Core.Path.{sym, ap}
 use Prim.Native.Nat.{ℕ, ◌*◌}
 use native.Mathlib.Omega.{arith}
 use lib.Dec.{eqb}
-use borrow.Author.Rules.{rules}
 use Rattle.book.specs.Held.{mode_size}
 use Rattle.book.proofs.Laws.Windows.{get_or_window_first}
-use Rattle.book.proofs.mode.has_mode.Statement.{statement}
-use Rattle.book.proofs.mode.has_mode.Tie as tie
+use Rattle.book.proofs.mode.has_mode.Goals as goal
 
-mul_at : tie.Need-overflow-mul-at
-mul_at c = search rules
-
-element-copy-out-result : tie.Need-element-copy-out-result
-element-copy-out-result c = search rules
-
-returns : tie.Need-returns
+pub returns : goal.returns
 returns c =
-    let s = c.before.args in
+    let s = c.args in
     ap (λ (n : ℕ). not (eqb n 0)) (sym (get_or_window_first (s.p * mode_size) mode_size s.modes.now (omega arith)))
-
-pub has-mode-spec : {M : Type 1} → statement M
-has-mode-spec = tie.close (tie.spec mul_at element-copy-out-result returns)

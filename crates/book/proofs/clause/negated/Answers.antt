@@ -4,14 +4,10 @@ use Prim.Native.Nat.{ℕ, ◌/◌, ◌%◌, ◌^◌}
 use native.Mathlib.Omega.{arith}
 use lib.Dec.{eqb}
 use Rattle.book.specs.Held.{byte_of}
-use Rattle.book.proofs.clause.negated.Statement.{statement}
-use Rattle.book.proofs.clause.negated.Tie as tie
+use Rattle.book.proofs.clause.negated.Goals as goal
 
-returns : tie.Need-returns
+pub returns : goal.returns
 returns c =
     let w = c.args.call in
     let e : w / 2 ^ 11 % 2 ≡ byte_of w 1 / 8 % 2 = omega arith in
     ap (λ (x : ℕ). eqb x 1) e
-
-pub negated-spec : {M : Type 1} → statement M
-negated-spec = tie.close (tie.spec returns)
