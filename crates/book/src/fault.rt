@@ -2,7 +2,7 @@
 ghost use Rattle.std.specs.Prelude.{◌≡◌};
 ghost use Rattle.book.specs.Format as format;
 
-#[derive(Drop)]
+#[derive(Clone, Copy)]
 pub enum Fault {
     PastEnd,
     NoMark,

@@ -2,7 +2,7 @@
 use crate::fault::Fault;
 
 // What stands where a record may begin: one of the six marks, two other bytes, one byte, or nothing.
-#[derive(Drop)]
+#[derive(Clone, Copy)]
 pub enum Mark {
     Pr,
     Mo,
@@ -17,7 +17,7 @@ pub enum Mark {
 
 // The runs of records of a book: its predicates, modes and clauses, the body of a clause, and that of the query. Of a page: its queries, and the body of
 // one of them.
-#[derive(Drop)]
+#[derive(Clone, Copy)]
 pub enum Phase {
     Predicates,
     Modes,
@@ -29,7 +29,7 @@ pub enum Phase {
 }
 
 // What a mark means in a run: a record of the run, the end of the run, or a fault.
-#[derive(Drop)]
+#[derive(Clone, Copy)]
 pub enum Turn {
     Mine,
     Over,

@@ -1,5 +1,5 @@
 // "a byte is out of its range: arity, predicate, n, mask, argument".
-#[derive(Drop)]
+#[derive(Clone, Copy)]
 pub enum Range {
     Below(u8),
     AtMost(u8),

@@ -4,7 +4,7 @@ use crate::{show, words};
 use libc::STDOUT_FILENO;
 use masks::reply::Reply;
 
-#[derive(Drop)]
+#[derive(Clone, Copy)]
 enum Operation {
     Analyse,
     Plan,

@@ -18,7 +18,7 @@ use masks::limits::MAX_ARGUMENTS;
 use masks::patterns::{ALL, COLUMNS, fit_lanes};
 
 // What a pass over the subgoals comes to: the lanes in which each was ready in its turn, and whether any was placed in a lane where it was not.
-#[derive(Drop)]
+#[derive(Clone, Copy)]
 pub struct Pass {
     pub good: u64,
     pub moved: bool,

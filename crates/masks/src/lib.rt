@@ -19,7 +19,7 @@ use crate::limits::{MAX_ARITY, MAX_MASKS};
 use crate::reply::Reply;
 
 // "Two constraints of one arity are combined in two ways."
-#[derive(Drop)]
+#[derive(Clone, Copy)]
 pub enum Way {
     Choice,
     Joint,

@@ -4,7 +4,7 @@ ghost use Rattle.masks.specs.Outcome.{in_room};
 
 // The number of the reply and its value; the rounds are the analysis's own, and 0 elsewhere and at any refusal.
 #[repr(C)]
-#[derive(Drop)]
+#[derive(Clone, Copy)]
 pub struct Reply {
     pub number: u32,
     pub value: u64,

@@ -22,7 +22,7 @@ use book::clause::{argument, arguments, negated, predicate, subgoal_at, subgoals
 use book::limits::{LAST_VARIABLE, MAX_PREDICATES, MAX_SUBGOALS, RULES_SIZE};
 
 // An order of the subgoals of a body, if one was found: the first n places of the array, and beside each the pattern that its subgoal has in its turn.
-#[derive(Drop)]
+#[derive(Clone, Copy)]
 pub struct Order {
     pub found: bool,
     pub n: u8,
@@ -31,7 +31,7 @@ pub struct Order {
 }
 
 // A place, and the pattern of the subgoal there.
-#[derive(Drop)]
+#[derive(Clone, Copy)]
 struct Pick {
     place: usize,
     pattern: u8,

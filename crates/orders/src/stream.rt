@@ -7,7 +7,7 @@ use libc::{EINTR, STDIN_FILENO, STDOUT_FILENO};
 const CALLS: u64 = 1000000;
 
 // How many bytes were read, and whether a read failed.
-#[derive(Drop)]
+#[derive(Clone, Copy)]
 pub struct Input {
     pub n: usize,
     pub failed: bool,

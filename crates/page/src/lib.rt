@@ -29,14 +29,14 @@ use tally::{Tally, stepped};
 use writing::put::{put_byte, put_bytes};
 
 // What a page comes to: the reply, and the tally that it leaves.
-#[derive(Drop)]
+#[derive(Clone, Copy)]
 pub struct Paged {
     pub reply: Reply,
     pub tally: Tally,
 }
 
 // What a run comes to: where none of its records has a fault, how many bytes its answers have, and their tally.
-#[derive(Drop)]
+#[derive(Clone, Copy)]
 struct Answered {
     found: Found,
     size: usize,
@@ -44,7 +44,7 @@ struct Answered {
 }
 
 // What a query comes to: the place after its answer, and whether it is accepted.
-#[derive(Drop)]
+#[derive(Clone, Copy)]
 struct Verdict {
     next: usize,
     accepted: bool,

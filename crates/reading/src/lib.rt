@@ -20,7 +20,7 @@ use records::turn::{is_mark, is_subgoal, run_end};
 
 // What reading a book comes to: what the check answers; and where that is 0, how many predicates and clauses the book has, and the set of the predicates
 // that have `MO`.
-#[derive(Drop)]
+#[derive(Clone, Copy)]
 pub struct Reading {
     pub reply: Reply,
     pub preds: u8,
@@ -29,21 +29,21 @@ pub struct Reading {
 }
 
 // A run of records, where one was found: how many there are.
-#[derive(Drop)]
+#[derive(Clone, Copy)]
 pub struct FoundRun {
     pub found: Found,
     pub n: usize,
 }
 
 // The run of modes, where one was found: the set of the predicates that have one.
-#[derive(Drop)]
+#[derive(Clone, Copy)]
 pub struct FoundModes {
     pub found: Found,
     pub with_mode: u64,
 }
 
 // What follows the predicates, where it was found: how many clauses there are, and the set of the predicates that have `MO`.
-#[derive(Drop)]
+#[derive(Clone, Copy)]
 pub struct FoundRules {
     pub found: Found,
     pub n: usize,

@@ -16,14 +16,14 @@ use masks::limits::{MAX_ARITY, MAX_MASKS};
 
 // What reading comes to: the place after what was read and, where that is a byte, the byte, or a fault and its place. Whatever is counted or larger
 // stands beside it.
-#[derive(Drop)]
+#[derive(Clone, Copy)]
 pub enum Found {
     Next(usize, u8),
     Bad(Fault, usize),
 }
 
 // The word of a call, where one was found.
-#[derive(Drop)]
+#[derive(Clone, Copy)]
 pub struct FoundCall {
     pub found: Found,
     pub call: u64,

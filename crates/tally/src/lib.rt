@@ -4,7 +4,7 @@ ghost use Rattle.tally.specs.Tallied.{Roomy, tallied};
 
 // The two numbers, as C lays them out.
 #[repr(C)]
-#[derive(Drop)]
+#[derive(Clone, Copy)]
 pub struct Tally {
     pub accepted: u64,
     pub turned_away: u64,
