@@ -104,6 +104,8 @@ def main():
                 table.pop(n, None)
                 continue
         if new != n:
+            if new.endswith("_lem"):
+                table.pop(n, None)
             (behind if n not in table else table)[n] = new
     seen = collections.Counter(list(table.values()) + list(behind.values()))
     for o, w in list(table.items()):

@@ -51,7 +51,7 @@ subgoal-at-requires c κs =
 ready-lanes-requires : tie.Need-ready-lanes-requires invariant-loop decreases-loop
 ready-lanes-requires c κs =
     let n = c.before.before.before.before.before.before.subgoals-at.ensures in
-    (subgoal c.before.before.before.before.before.before.before.before.requires.1 (omega arith) c.before.subgoal_at_lem.ensures).low
+    (subgoal c.before.before.before.before.before.before.before.before.requires.1 (omega arith) c.before.subgoal-at.ensures).low
 
 mul_words : tie.Need-overflow-mul-words invariant-loop decreases-loop
 mul_words c =

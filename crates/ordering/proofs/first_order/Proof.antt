@@ -112,7 +112,7 @@ bind-all-requires : tie.Need-bind-all-requires invariant-loop decreases-loop
 bind-all-requires c κs =
     let k = c.before.before.before.before.before.before in (
       c.before.before.before.before.loop.invariant.0,
-      args_read (body k) c.before.before.first-ready.result.place c.subgoal_at_lem.ensures k.before.requires.1 (inside c.before),
+      args_read (body k) c.before.before.first-ready.result.place c.subgoal-at.ensures k.before.requires.1 (inside c.before),
     )
 
 power-requires-2 : tie.Need-power-requires-2 invariant-loop decreases-loop
@@ -135,7 +135,7 @@ loop-again c =
     let g = f.before.before.before.loop in (
       c.before.bind_all.ensures.1,
       going_next g.invariant.1 r.result.place r.result.pattern r.ensures.0 r.ensures.1 (omega arith) h
-          (after_read (body k) r.result.place c.before.before.subgoal_at_lem.ensures (bound_of g.now) c.before.bind_all.ensures.0)
+          (after_read (body k) r.result.place c.before.before.subgoal-at.ensures (bound_of g.now) c.before.bind_all.ensures.0)
           (ap (bit_xor g.left) (power_is _ r.result.place c.power2.ensures (omega arith))) refl refl,
     )
 

@@ -83,7 +83,7 @@ subgoal-at-requires c κs = (c.before.before.requires.0, inside c)
 pattern-requires : tie.Need-pattern-requires invariant-loop decreases-loop
 pattern-requires c κs =
     let k = c.before.before.before in
-    (k.requires.3, args_read (body k) (p c.before) c.subgoal_at_lem.ensures k.requires.1 (inside c.before))
+    (k.requires.3, args_read (body k) (p c.before) c.subgoal-at.ensures k.requires.1 (inside c.before))
 
 predicate-requires : tie.Need-predicate-requires invariant-loop decreases-loop
 predicate-requires c κs = search rules
@@ -94,24 +94,24 @@ module _ (c : tie.After-predicate invariant-loop decreases-loop) where
   pred-low =
       let k = c.before.before.before.before.before in
       let e = c.predicate.ensures in
-      let l = pred_read (body k) (p c.before.before.before) c.before.before.subgoal_at_lem.ensures k.requires.1 (inside c.before.before.before) in
+      let l = pred_read (body k) (p c.before.before.before) c.before.before.subgoal-at.ensures k.requires.1 (inside c.before.before.before) in
       omega arith
 
-  few : length (call_in c.before.before.subgoal_at_lem.result).args ≤ max_arity
-  few = let n = args_count c.before.before.subgoal_at_lem.result in omega arith
+  few : length (call_in c.before.before.subgoal-at.result).args ≤ max_arity
+  few = let n = args_count c.before.before.subgoal-at.result in omega arith
 
   pattern_low : c.before.pattern.result < 64
   pattern_low =
       let k = c.before.before.before.before.before in
       let e = c.before.pattern.ensures in
-      let l = pattern_small (bound_of k.args.bound) max_arity (call_in c.before.before.subgoal_at_lem.result).args few in
+      let l = pattern_small (bound_of k.args.bound) max_arity (call_in c.before.before.subgoal-at.result).args few in
       omega arith
 
   passes-here : passes c.before.before.before.before.before (p c.before.before.before)
-      ≡ can_run (get_or c.before.before.before.before.before.args.table.now c.predicate.result 0) (call_in c.before.before.subgoal_at_lem.result) c.before.pattern.result
+      ≡ can_run (get_or c.before.before.before.before.before.args.table.now c.predicate.result 0) (call_in c.before.before.subgoal-at.result) c.before.pattern.result
   passes-here =
       let k = c.before.before.before.before.before in
-      ready_read (body k) (p c.before.before.before) c.before.before.subgoal_at_lem.ensures k.args.table.now (bound_of k.args.bound) k.requires.1 k.requires.2 few
+      ready_read (body k) (p c.before.before.before) c.before.before.subgoal-at.ensures k.args.table.now (bound_of k.args.bound) k.requires.1 k.requires.2 few
       (inside c.before.before.before) c.predicate.ensures c.before.pattern.ensures
 
 cast-can-run : tie.Need-overflow-cast-can-run invariant-loop decreases-loop
@@ -134,7 +134,7 @@ returns c =
     let i = inside t in
     let n = clause_at_few k.args.rules.now k.args.k in (
       scan_here (left t) (passes k) (p t) (omega arith) (member t) (passes-here d ∙ sym c.before.can-run.ensures ∙ c.if1.true) (here t),
-      pattern_read (body k) (p t) d.before.before.subgoal_at_lem.ensures (bound_of k.args.bound) d.before.pattern.ensures,
+      pattern_read (body k) (p t) d.before.before.subgoal-at.ensures (bound_of k.args.bound) d.before.pattern.ensures,
     )
 
 loop-less : tie.Need-loop-smaller invariant-loop decreases-loop

@@ -23,15 +23,15 @@ first-order-requires c κs =
 -- the order is the first good one, with nothing bound at the start
 first : (c : tie.After-first-order)
     → let s = c.before.before.args in
-    order_of c.first_order_lem.result ≡ first_good (table_in s.admits.now max_predicates) (clause_at s.rules.now max_clauses).body nothing
-first c = rw (← bound_of_zero) c.first_order_lem.ensures.0
+    order_of c.first-order.result ≡ first_good (table_in s.admits.now max_predicates) (clause_at s.rules.now max_clauses).body nothing
+first c = rw (← bound_of_zero) c.first-order.ensures.0
 
 put-answer-requires : tie.Need-put-answer-requires
 put-answer-requires c κs =
     let k = c.before in
     let s = k.before.before.args in
     let few = clause_at_few s.rules.now max_clauses in
-    let room = order_room _ _ k.first_order_lem.result (first k) few in
+    let room = order_room _ _ k.first-order.result (first k) few in
     let pre = k.before.before.requires.2 in
     omega arith
 
@@ -43,10 +43,10 @@ returns c =
     let k = c.before.before.before.before in
     let s = k.before.before.args in
     let few = clause_at_few s.rules.now max_clauses in
-    let room = order_room _ _ k.first_order_lem.result (first k) few in
+    let room = order_room _ _ k.first-order.result (first k) few in
     let w = c.before.before.put-answer.ensures in
     let ends = w.ends in
-    (wrote_as (order_answer _ _ k.first_order_lem.result (first k)) w, (order_accepts _ _ k.first_order_lem.result (first k), omega arith))
+    (wrote_as (order_answer _ _ k.first-order.result (first k)) w, (order_accepts _ _ k.first-order.result (first k), omega arith))
 
 pub answer-query-spec : {M : Type 1} → statement M
 answer-query-spec =

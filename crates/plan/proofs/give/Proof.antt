@@ -30,8 +30,8 @@ first-order-requires c κs =
 -- the query's order is its first good one
 found : (c : tie.After-first-order)
     → let s = c.before.before.args in
-    Found (table_in s.admits.now max_predicates) (clause_at s.rules.now max_clauses).body nothing c.first_order_lem.result
-found c = rw (← bound_of_zero) (record { first = c.first_order_lem.ensures.0; beside = c.first_order_lem.ensures.1 })
+    Found (table_in s.admits.now max_predicates) (clause_at s.rules.now max_clauses).body nothing c.first-order.result
+found c = rw (← bound_of_zero) (record { first = c.first-order.ensures.0; beside = c.first-order.ensures.1 })
 
 -- the words that `reach` marks
 abbrev reached : tie.After-reach → List ℕ
@@ -45,8 +45,8 @@ returns c B l =
     let d = c.before.before.before in
     let s = d.before.before.args in
     rw
-    (given_none B s.preds s.clauses s.rules.now s.own.now s.admits.now l d.first_order_lem.result (found d).first
-    (not-true d.first_order_lem.result.found c.before.if1.true))
+    (given_none B s.preds s.clauses s.rules.now s.own.now s.admits.now l d.first-order.result (found d).first
+    (not-true d.first-order.result.found c.before.if1.true))
     (answers_refused 7 0 s.out.now c.refused.ensures)
 
 reach-requires : tie.Need-reach-requires
@@ -78,9 +78,9 @@ put-plan-requires c κs =
       few_preds h.0 s.preds s.clauses s.rules.now s.own.now s.admits.now h.1,
       lent_callable h.0 s.preds s.clauses s.rules.now s.own.now s.admits.now h.1,
       lent_full h.0 s.preds s.clauses s.rules.now s.own.now s.admits.now h.1,
-      given_room h.0 s.preds s.clauses s.rules.now s.own.now s.admits.now h.1 d.first_order_lem.result (found d).first
-          (not-false d.first_order_lem.result.found k.before.before.before.before.if1.false) (reached k.before.before) k.before.before.reach.ensures
-          k.plan_length_lem.result k.plan_length_lem.ensures s.out.now (omega arith),
+      given_room h.0 s.preds s.clauses s.rules.now s.own.now s.admits.now h.1 d.first-order.result (found d).first
+          (not-false d.first-order.result.found k.before.before.before.before.if1.false) (reached k.before.before) k.before.before.reach.ensures
+          k.plan-length.result k.plan-length.ensures s.out.now (omega arith),
     )
 
 same_length : tie.Need-same-length
@@ -91,9 +91,9 @@ returns-2 c B l =
     let k = c.before.before.before.before.before.before.before.before in
     let d = k.before.before.before.before.before.before in
     let s = d.before.before.args in
-    given_done B s.preds s.clauses s.rules.now s.own.now s.admits.now l d.first_order_lem.result (found d).first
-    (not-false d.first_order_lem.result.found k.before.before.before.before.if1.false) (reached k.before.before) k.before.before.reach.ensures
-    k.plan_length_lem.result k.plan_length_lem.ensures _ c.before.before.before.before.before.before.before.in-room.ensures (omega arith)
+    given_done B s.preds s.clauses s.rules.now s.own.now s.admits.now l d.first-order.result (found d).first
+    (not-false d.first-order.result.found k.before.before.before.before.if1.false) (reached k.before.before) k.before.before.reach.ensures
+    k.plan-length.result k.plan-length.ensures _ c.before.before.before.before.before.before.before.in-room.ensures (omega arith)
     (λ z. omega (arith, c.before.before.before.before.before.if2.true)) c.before.before.put-plan.ensures
 
 returns-3 : tie.Need-returns-3
@@ -101,9 +101,9 @@ returns-3 c B l =
     let k = c.before.before.before in
     let d = k.before.before.before.before.before.before in
     let s = d.before.before.args in
-    given_short B s.preds s.clauses s.rules.now s.own.now s.admits.now l d.first_order_lem.result (found d).first
-    (not-false d.first_order_lem.result.found k.before.before.before.before.if1.false) (reached k.before.before) k.before.before.reach.ensures
-    k.plan_length_lem.result k.plan_length_lem.ensures _ c.before.before.in-room.ensures (omega arith) (λ z. c.if2.false (omega arith))
+    given_short B s.preds s.clauses s.rules.now s.own.now s.admits.now l d.first-order.result (found d).first
+    (not-false d.first-order.result.found k.before.before.before.before.if1.false) (reached k.before.before) k.before.before.reach.ensures
+    k.plan-length.result k.plan-length.ensures _ c.before.before.in-room.ensures (omega arith) (λ z. c.if2.false (omega arith))
 
 pub give_spec : {M : Type 1} → statement M
 give_spec =

@@ -49,7 +49,7 @@ low : (c : tie.After-predicate invariant-loop decreases-loop) → c.predicate.re
 low c =
     let s = c.before.before.before.before.before.before.before in
     let e = c.predicate.ensures in
-    let l = pred_read (clause_at s.args.rules.now s.args.k).body _ c.before.subgoal_at_lem.ensures s.requires.1 (place c.before.before.before) in
+    let l = pred_read (clause_at s.args.rules.now s.args.k).body _ c.before.subgoal-at.ensures s.requires.1 (place c.before.before.before) in
     omega arith
 
 cast-q : tie.Need-overflow-cast-q invariant-loop decreases-loop
@@ -72,7 +72,7 @@ with-member-requires c κs =
     let n = d.before.before.before.before.order-length.ensures.0 in
     let l =
     pattern_low f.0 (clause_at s.args.rules.now s.args.k).body f.1 s.args.t3 f.2.first f.2.beside
-    d.before.before.before.loop.i (omega arith) d.subgoal_at_lem.result d.subgoal_at_lem.ensures in
+    d.before.before.before.loop.i (omega arith) d.subgoal-at.result d.subgoal-at.ensures in
     omega arith
 
 mul_words : tie.Need-overflow-mul-words invariant-loop decreases-loop
@@ -88,7 +88,7 @@ loop-again : tie.Need-loop-preserved invariant-loop decreases-loop
 loop-again c =
     let d = c.before.before.before.before in
     let s = d.before in
-    marking_next s.subgoal_at_lem.result s.before.before.before.loop.invariant (omega arith) s.subgoal_at_lem.ensures d.predicate.ensures (low d) c.before.with-member.ensures c.with-member2.ensures
+    marking_next s.subgoal-at.result s.before.before.before.loop.invariant (omega arith) s.subgoal-at.ensures d.predicate.ensures (low d) c.before.with-member.ensures c.with-member2.ensures
 
 returns : tie.Need-returns invariant-loop decreases-loop
 returns c =

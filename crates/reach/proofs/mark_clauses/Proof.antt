@@ -64,12 +64,12 @@ found : (c : tie.After-first-order invariant-loop decreases-loop)
     → let d = c.before.before.before in
     let s = d.before.before.args in
     let k = count_trailing_zeros 64 d.before.loop.rest in
-    Found (table_in s.table.now max_predicates) (clause_at s.rules.now k).body (head_bound (clause_at s.rules.now k).head.args s.a) c.first_order_lem.result
+    Found (table_in s.table.now max_predicates) (clause_at s.rules.now k).body (head_bound (clause_at s.rules.now k).head.args s.a) c.first-order.result
 found c =
     let d = c.before.before.before in
     let s = d.before.before.args in
     found_clause s.rules.now s.table.now (count_trailing_zeros 64 d.before.loop.rest) s.a c.before.before.head_at.result c.before.before.head_at.ensures
-    c.before.head-bound.ensures (record { first = c.first_order_lem.ensures.0; beside = c.first_order_lem.ensures.1 })
+    c.before.head-bound.ensures (record { first = c.first-order.ensures.0; beside = c.first-order.ensures.1 })
 
 mark-calls-requires : tie.Need-mark-calls-requires invariant-loop decreases-loop
 mark-calls-requires c κs = let d = c.before.before.before.before in let h = low d in (omega arith, known d, (_, _, found c.before))

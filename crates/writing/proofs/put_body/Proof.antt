@@ -30,7 +30,7 @@ subgoal-at-requires : tie.Need-subgoal-at-requires invariant-loop decreases-loop
 subgoal-at-requires c κs = let k = c.before.before.before in let e = k.subgoals-at.ensures in (k.before.before.requires.0, omega arith)
 
 put-subgoal-requires : tie.Need-put-subgoal-requires invariant-loop decreases-loop
-put-subgoal-requires c κs = let e = ap (λ (s : Call). length (enc_subgoal s)) c.subgoal_at_lem.ensures in let r = writing_room c.before.before.before.loop.invariant (omega arith) in omega arith
+put-subgoal-requires c κs = let e = ap (λ (s : Call). length (enc_subgoal s)) c.subgoal-at.ensures in let r = writing_room c.before.before.before.loop.invariant (omega arith) in omega arith
 
 add-j : tie.Need-overflow-add-j invariant-loop decreases-loop
 add-j c = omega arith
@@ -40,7 +40,7 @@ loop-less c = omega arith
 
 loop-again : tie.Need-loop-preserved invariant-loop decreases-loop
 loop-again c =
-    let one = wrote_as (ap enc_subgoal c.before.before.before.subgoal_at_lem.ensures) c.before.before.put-subgoal.ensures in
+    let one = wrote_as (ap enc_subgoal c.before.before.before.subgoal-at.ensures) c.before.before.put-subgoal.ensures in
     writing_next c.before.before.before.before.before.before.loop.invariant (omega arith) one
 
 same_length : tie.Need-same-length invariant-loop decreases-loop

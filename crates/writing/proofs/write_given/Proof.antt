@@ -13,7 +13,7 @@ in-room-requires c κs = search rules
 
 put-book-requires : tie.Need-put-book-requires
 put-book-requires c κs =
-    let size = c.before.before.before.before.book_length_lem.ensures in
+    let size = c.before.before.before.before.book-length.ensures in
     let h = room_enough _ _ _ c.before.before.before.in-room.ensures (λ z. omega arith) in
     (c.before.before.before.before.before.before.requires, omega arith)
 
@@ -23,10 +23,10 @@ same_length c = search rules
 returns : tie.Need-returns
 returns c =
     let k = c.before.before.before.before.before.before in
-    answers_done _ _ _ k.in-room.ensures _ k.before.book_length_lem.ensures (omega arith) (λ z. omega arith) c.before.before.put-book.ensures.is
+    answers_done _ _ _ k.in-room.ensures _ k.before.book-length.ensures (omega arith) (λ z. omega arith) c.before.before.put-book.ensures.is
 
 returns-2 : tie.Need-returns-2
-returns-2 c = let k = c.before.before in answers_short _ _ _ k.in-room.ensures _ k.before.book_length_lem.ensures (omega arith) c.if1.false
+returns-2 c = let k = c.before.before in answers_short _ _ _ k.in-room.ensures _ k.before.book-length.ensures (omega arith) c.if1.false
 
 pub write-given-spec : {M : Type 1} → statement M
 write-given-spec =

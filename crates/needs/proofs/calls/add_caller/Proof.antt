@@ -47,7 +47,7 @@ module _ (c : tie.After-predicate2 invariant-loop decreases-loop) where
   head = c.before.before.before.before.before.predicate.ensures ∙ ap (λ (h : Head). h.pred) c.before.before.before.before.before.before.head_at.ensures
 
   is : c.predicate2.result ≡ (get_or (clause_at c.before.before.before.before.before.before.before.before.args.rules.now c.before.before.before.before.before.before.before.before.args.k).body c.before.before.before.loop.j no_call).pred
-  is = c.predicate2.ensures ∙ ap (λ (h : Call). h.pred) c.before.subgoal_at_lem.ensures
+  is = c.predicate2.ensures ∙ ap (λ (h : Call). h.pred) c.before.subgoal-at.ensures
 
   low : c.predicate2.result < max_predicates
   low =

@@ -53,10 +53,10 @@ rows-length-requires : tie.Need-rows-length-requires invariant-loop decreases-lo
 rows-length-requires c κs = search rules
 
 mul-total : tie.Need-overflow-mul-total invariant-loop decreases-loop
-mul-total c = let m = planning_most c.before.before.before.before.before.before.before.loop.invariant (omega arith) c.rows_length_lem.ensures.0 c.before.before.count.ensures in omega arith
+mul-total c = let m = planning_most c.before.before.before.before.before.before.before.loop.invariant (omega arith) c.rows-length.ensures.0 c.before.before.count.ensures in omega arith
 
 add-total-2 : tie.Need-overflow-add-total-2 invariant-loop decreases-loop
-add-total-2 c = let m = planning_most c.before.before.before.before.before.before.before.loop.invariant (omega arith) c.rows_length_lem.ensures.0 c.before.before.count.ensures in omega arith
+add-total-2 c = let m = planning_most c.before.before.before.before.before.before.before.loop.invariant (omega arith) c.rows-length.ensures.0 c.before.before.count.ensures in omega arith
 
 add-p : tie.Need-overflow-add-p invariant-loop decreases-loop
 add-p c = omega arith

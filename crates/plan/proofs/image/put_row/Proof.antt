@@ -32,13 +32,13 @@ put-byte-requires-2 : tie.Need-put-byte-requires-2
 put-byte-requires-2 c κs = search rules
 
 -- the row of the order found
-row : (c : tie.After-first-order) → let s = c.before.before.before.before.args in let σ = places_of c.first_order_lem.result in 67 ∷ 79 ∷ s.k ∷ s.a ∷ length σ ∷ σ ≡ enc_row (row_by s.rules.now s.table.now s.k s.a)
-row c = let s = c.before.before.before.before.args in row_found s.rules.now s.table.now s.k s.a c.before.before.head_at.result c.before.head-bound.result c.first_order_lem.result c.before.before.head_at.ensures c.before.head-bound.ensures c.first_order_lem.ensures.0
+row : (c : tie.After-first-order) → let s = c.before.before.before.before.args in let σ = places_of c.first-order.result in 67 ∷ 79 ∷ s.k ∷ s.a ∷ length σ ∷ σ ≡ enc_row (row_by s.rules.now s.table.now s.k s.a)
+row c = let s = c.before.before.before.before.args in row_found s.rules.now s.table.now s.k s.a c.before.before.head_at.result c.before.head-bound.result c.first-order.result c.before.before.head_at.ensures c.before.head-bound.ensures c.first-order.ensures.0
 
 put-order-requires : tie.Need-put-order-requires
 put-order-requires c κs =
     let found = c.before.before.before.before.before.before.before.before.before.before.before.before.before.before in
-    let σ = places_of found.first_order_lem.result in
+    let σ = places_of found.first-order.result in
     let e = ap length (row found) in
     let r = c.before.before.before.before.before.before.before.before.before.before.before.before.before.before.before.before.before.before.requires.3 in
     room_second (length σ ∷ σ) (wrote_append c.before.before.before.before.before.before.before.before.before.before.before.put-mark.ensures (wrote_append c.before.before.before.before.before.before.before.put_byte.ensures c.before.before.before.put-byte2.ensures)) (omega arith)

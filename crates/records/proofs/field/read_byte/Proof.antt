@@ -16,10 +16,10 @@ in-range-requires : tie.Need-in-range-requires
 in-range-requires c κs = search rules
 
 returns-2 : tie.Need-returns-2
-returns-2 c = byte_in _ _ _ (omega arith) (sym c.before.in_range_lem.ensures ∙ c.if2.true)
+returns-2 c = byte_in _ _ _ (omega arith) (sym c.before.in-range.ensures ∙ c.if2.true)
 
 returns-3 : tie.Need-returns-3
-returns-3 c = byte_out _ _ _ (omega arith) (sym c.before.in_range_lem.ensures ∙ c.if2.false)
+returns-3 c = byte_out _ _ _ (omega arith) (sym c.before.in-range.ensures ∙ c.if2.false)
 
 pub read-byte-spec : {M : Type 1} → statement M
 read-byte-spec =

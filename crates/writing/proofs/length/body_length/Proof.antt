@@ -52,7 +52,7 @@ loop-less c = omega arith
 loop-again : tie.Need-loop-preserved invariant-loop decreases-loop
 loop-again c =
     let e = c.arguments.ensures.0 in
-    let f = ap (λ (x : Call). length x.args) c.before.subgoal_at_lem.ensures in
+    let f = ap (λ (x : Call). length x.args) c.before.subgoal-at.ensures in
     let s = c.before.before.before.before.before.args in
     let g = subgoal_size (call_at s.rules.now s.k c.before.before.before.loop.j) in
     measuring_next c.before.before.before.loop.invariant (omega arith) (omega arith) (omega arith)
