@@ -173,6 +173,41 @@ class Function:
         self.own_places = {}
         self.views, self.parameters, self.plain = set(), None, set()
 
+        arms = names.get("arms", [])
+        self.arm_of = {norm(p[0]): arms[i] for i, p in enumerate(self.places) if i < len(arms) and arms[i]}
+        self.final, self.first = {}, {}
+        for q, a in self.arm_of.items():
+            f = q
+            while self.parent[f] in self.arm_of and self.arm_of[self.parent[f]][:2] == [a[0], self.arm_of[f][1] - 1]:
+                f = self.parent[f]
+            self.first[q] = f
+        for q in self.arm_of:
+            end = [r for r in self.arm_of if self.first[r] == self.first[q] and self.arm_of[r][0] == self.arm_of[q][0]]
+            self.final[q] = max(end, key=lambda r: self.arm_of[r][1])
+
+    def is_past(self, q):
+        return q in self.arm_of and self.final[q] == q and self.arm_of[q][1] > 1
+
+    def up(self, q):
+        """The place one step back in today's records: past the whole of an arm."""
+        return self.parent[self.first[q]] if self.is_past(q) else self.parent[q]
+
+    def back(self, place, steps):
+        """The place that an older file meant by so many steps back, and how many they are today."""
+        t = place
+        for _ in range(steps):
+            t = self.parent[t] if t else None
+            while self.is_new(t):
+                t = self.parent[t]
+        if t is None:
+            return None, steps
+        q, n = place, 0
+        while q is not None:
+            if q == t or (self.is_past(q) and t in self.arm_of and self.final[t] == q):
+                return q, n
+            q, n = self.up(q), n + 1
+        return t, steps
+
     def read_goals(self, text):
         """Which places have a view of their own, and with what parameters records are told."""
         for m in re.finditer(r"(?m)^abbrev pub (\S+) : Type 0\n\S+ =((?:\s+\S+)+?)\n\n", text):
@@ -227,21 +262,17 @@ class Function:
         """A path x.f.g.., with x bound to a place: today's spelling of it."""
         head, *rest = path
         place = env[head]
-        out = [head]
         i = 0
-        if head in self.at_view:
-            out.append("before")
-        if self.is_new(place):
-            out.append("before")
-            place = self.parent.get(place)
         while i < len(rest) and rest[i] == "before":
-            out.append("before")
-            if place is not None:
-                place = self.parent.get(place)
-            while self.is_new(place):
-                out.append("before")
-                place = self.parent.get(place)
             i += 1
+        if place is not None:
+            start = 0
+            while self.is_new(place):
+                place, start = self.up(place), start + 1
+            place, n = self.back(place, i)
+            out = [head] + ["before"] * (n + start + (head in self.at_view))
+        else:
+            out = [head] + ["before"] * i
         callee = None
         if i < len(rest):
             word = rest[i]
@@ -289,7 +320,12 @@ class Function:
                 continue
             if m[3]:
                 x, h, rest = m[3], m[4], [w for w in m[5].split(".") if w]
-                if h in env:
+                step = self.arm_step(env[h], rest) if h in env else None
+                if step:
+                    kind[x] = ("arm", step)
+                    env.pop(x, None)
+                    out.append(m[0][: m.start(4) - m.start()] + h + "." + step[0] + m[0][m.end(5) - m.start() :])
+                elif h in env:
                     new, place, _ = self.rename_path([h, *rest], env)
                     if all(w == "before" for w in rest):
                         self.at_view.discard(x)
@@ -319,16 +355,50 @@ class Function:
             else:
                 out.append(m[0])
         out.append(text[last:])
-        return "".join(out)
+        # a test of !x says of x what the other outcome says
+        out = re.sub(rf"not-(?:true|false) _ ({NAME}(?:\.{NAME})*\.if-not-{NAME}\.(?:true|false))", r"\1", "".join(out))
+        return re.sub(rf"\)\.({NAME})((?:\.{NAME})*)", self.of_call, out)
+
+    def of_call(self, m):
+        """A step of what a helper of the file answers, as (read k).read_byte.ensures."""
+        rest = m[2].split(".")[1:]
+        new = self.any_step(m[1]) if m[1] not in ("args", "requires", "before") else None
+        if new is None:
+            if m[1] == "requires" and rest and rest[0].isdigit():
+                rest[0] = self.clause("::".join([self.crate] + self.path), "requires", int(rest[0])) or rest[0]
+            return ")." + ".".join([m[1], *rest])
+        if len(rest) > 1 and rest[0] == "ensures" and rest[1].isdigit():
+            rest[1] = self.clause(new[1], "ensures", int(rest[1])) or rest[1]
+        return ")." + ".".join([new[0], *rest])
 
     def of_kind(self, kind, rest):
         k, callee = kind
+        if k == "arm":
+            for field, path in callee[1]:
+                if [norm(w) for w in rest[: len(path)]] == [norm(w) for w in path]:
+                    return [field, *rest[len(path) :]]
+            return rest
         at = 1 if k == "step" and rest[0] == "ensures" else 0
         if len(rest) > at and rest[at].isdigit() and (at or k != "step"):
             c = self.clause(callee, "ensures" if k == "step" else k, int(rest[at]))
             if c:
                 rest[at] = c
         return rest
+
+    def arm_step(self, place, rest):
+        """Where a path ends in a step that an arm stands for: the arm, and its fields for the step's."""
+        steps = [w for w in rest if w != "before"]
+        if len(steps) != 1:
+            return None
+        q = place
+        while q is not None:
+            a = self.arm_of.get(q)
+            if a:
+                found = [(field, path) for field, step, path in a[2] if norm(step) == norm(steps[0]) and path]
+                if found:
+                    return a[0], found
+            q = self.parent[q]
+        return None
 
     def callee_of(self, path, env):
         if path[-1] == "requires":
@@ -352,12 +422,14 @@ class Function:
             if new is None:
                 self.problems.append(f"no place {m[1]}")
                 return m[0]
-            self.own_places[new] = self.places[self.by_old[norm(m[1])]][0]
+            q = self.final.get(norm(m[1]), norm(m[1]))
+            new = self.new_place[q]
+            self.own_places[new] = ("Past-" if self.is_past(q) else "") + self.places[self.by_old[q]][0]
             return new
 
         for m in re.finditer(rf"\(({NAME})\s*:\s*tie\.({NAME})", text):
             if norm(m[2]) in self.by_old:
-                env[m[1]] = norm(m[2])
+                env[m[1]] = self.final.get(norm(m[2]), norm(m[2]))
         text = re.sub(rf"tie\.({NAME})((?:\s+(?:{loops})(?![\w-]))*)", place, text)
         return text, env
 

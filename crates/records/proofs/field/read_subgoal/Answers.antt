@@ -1,0 +1,11 @@
+-- `records::field::read_subgoal` meets its contract. The mark tells the kind, and the fields of a record stand after it. Assumes nothing.
+use mathlib.Core.Path.{sym, ◌∙◌}
+use mathlib.Core.Bool.{true, false}
+use Rattle.records.proofs.Laws.Reads.{subgoal_reads}
+use Rattle.records.proofs.field.read_subgoal.Goals as goal
+
+pub returns-then-is_mark : goal.returns-then-is_mark
+returns-then-is_mark c = subgoal_reads _ c.args.at _ true (sym c.is_mark.ensures ∙ c.if-is_mark.true) c.read_call.ensures
+
+pub returns : goal.returns
+returns c = subgoal_reads _ c.args.at _ false (sym c.is_mark.ensures ∙ c.if-is_mark.false) c.read_call-2.ensures
