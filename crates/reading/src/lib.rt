@@ -1,6 +1,7 @@
 // Reading a book: every string of bytes is a book or has a first fault. Here are the public operation `check`, `read_book` for the crates above,
 // and the runs of records; single records, their bytes and their marks are in the crate `records`. One pass from the left: each
 // byte is looked at once, and the bytes of a mark where a run ends again by what judges that end and by the run that follows.
+#![tactic(auto)]
 ghost use Rattle.std.specs.Prelude.{◌≡◌, [], ◌+◌, ◌≤◌, ◌<◌, length, take, drop};
 ghost use Rattle.book.specs.Limits.{max_predicates, max_clauses};
 ghost use Rattle.book.specs.Format as format;

@@ -86,11 +86,17 @@ le_refl (x ∷ b) = (λ h. h, le_refl b)
 pub le_trans : (b c d : Bound) → Le b c → Le c d → Le b d
 le_trans [] [] [] h k = tt
 le_trans (x ∷ b) (y ∷ c) (z ∷ d) h k = (λ e. k.0 (h.0 e), le_trans b c d h.1 k.1)
+le_trans [] [] (z ∷ d) h k = elim k [ ]
+le_trans [] (y ∷ c) d h k = elim h [ ]
+le_trans (x ∷ b) [] d h k = elim h [ ]
+le_trans (x ∷ b) (y ∷ c) [] h k = elim k [ ]
 
 le_get : (b b' : Bound) (v : ℕ) → Le b b' → get_or b v false ≡ true → get_or b' v false ≡ true
 le_get [] [] v h t = t
 le_get (x ∷ b) (y ∷ b') zero h t = h.0 t
 le_get (x ∷ b) (y ∷ b') (suc v) h t = le_get b b' v h.1 t
+le_get [] (y ∷ b') v h t = elim h [ ]
+le_get (x ∷ b) [] v h t = elim h [ ]
 
 set_grows : (b : Bound) (v : ℕ) → Le b (set b v true)
 set_grows [] v = tt
@@ -101,6 +107,8 @@ set_mono : (b b' : Bound) (v : ℕ) → Le b b' → Le (set b v true) (set b' v 
 set_mono [] [] v h = tt
 set_mono (x ∷ b) (y ∷ b') zero h = (λ k. refl, h.1)
 set_mono (x ∷ b) (y ∷ b') (suc v) h = (h.0, set_mono b b' v h.1)
+set_mono [] (y ∷ b') v h = elim h [ ]
+set_mono (x ∷ b) [] v h = elim h [ ]
 
 set_swap : (b : Bound) (v w : ℕ) → set (set b v true) w true ≡ set (set b w true) v true
 set_swap b v w = ⊎_elim (λ e. rw e) (set_comm b v w true true) (same? v w)

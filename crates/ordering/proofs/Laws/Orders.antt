@@ -229,6 +229,7 @@ pub count_in_lem : (i n p : ℕ) → In p (count i n) → (i ≤ p) × (p < i + 
 unfolding count
 count_in_lem i (suc n) p (inl e) = omega arith
 count_in_lem i (suc n) p (inr m) = let h = count_in_lem (suc i) n p m in omega arith
+count_in_lem i zero p x' = elim x' [ ]
 
 pub in_count : (i n p : ℕ) → i ≤ p → p < i + n → In p (count i n)
 unfolding count
@@ -333,6 +334,7 @@ map_in x σ (τ ∷ l) (inr m) = let r = map_in x σ l m in (r.0, r.1, inr r.2)
 in_map : (x : ℕ) (τ : List ℕ) (l : List (List ℕ)) → In τ l → In (x ∷ τ) (map (λ u. x ∷ u) l)
 in_map x τ (u ∷ l) (inl e) = inl (ap (λ v. x ∷ v) e)
 in_map x τ (u ∷ l) (inr m) = inr (in_map x τ l m)
+in_map x τ [] x'' = elim x'' [ ]
 
 module _ (f : ℕ → List (List ℕ)) where
   each_in_lem : (σ : List ℕ) (l : List ℕ) → In σ (each f l) → (x : ℕ) × In x l × In σ (f x)
@@ -345,6 +347,7 @@ module _ (f : ℕ → List (List ℕ)) where
   unfolding each
   in_each σ (y ∷ l) x (inl e) k = append_left σ (f y) (each f l) (subst (λ (u : ℕ). In σ (f u)) e k)
   in_each σ (y ∷ l) x (inr m) k = append_right σ (f y) (each f l) (in_each σ l x m k)
+  in_each σ [] x x4 k = elim x4 [ ]
 
 orders_takes : (n : ℕ) (rem : List ℕ) → length rem ≡ n → (σ : List ℕ) → In σ (orders_of n rem) → Takes rem σ
 unfolding orders_of
@@ -353,6 +356,7 @@ orders_takes (suc n) rem e σ m =
     let r = each_in_lem (λ x. map (λ τ. x ∷ τ) (orders_of n (without x rem))) σ rem m in
     let q = map_in r.0 σ (orders_of n (without r.0 rem)) r.2 in
     rw q.1 (r.1, orders_takes n (without r.0 rem) (suc_inj (sym (without_length r.0 rem r.1) ∙ e)) q.0 q.2)
+orders_takes zero rem e σ (inr x3) = elim x3 [ ]
 
 takes_orders : (n : ℕ) (rem : List ℕ) → length rem ≡ n → (σ : List ℕ) → Takes rem σ → In σ (orders_of n rem)
 unfolding orders_of

@@ -1,0 +1,43 @@
+-- `writing::put_body` meets its contract. The loop's invariant: the first j subgoals are written. Assumes nothing.
+use mathlib.Core.Path.{ap}
+use Prim.Native.Nat.{◌-◌}
+use native.Mathlib.Omega.{arith}
+use lib.ListN.{length}
+use Rattle.book.specs.Book.{Call}
+use Rattle.book.specs.Encode.{run, enc_subgoal}
+use Rattle.book.specs.Held.{clause_at}
+use Rattle.writing.proofs.Laws.Wrote.{wrote_as}
+use Rattle.writing.proofs.Laws.Chunks.{Writing, writing_start, writing_length, writing_room, writing_next, writing_end}
+use Rattle.writing.proofs.Laws.Runs.{subgoals_to, subgoal_at, subgoals_chunks}
+use Rattle.writing.proofs.put_body.Goals as goal
+
+pub subgoals_at-n-requires : goal.subgoals_at-n-requires
+subgoals_at-n-requires c = c.requires.0
+
+pub loop-j-init : goal.loop-j-init
+loop-j-init c =
+    let s = c.before.before.before in
+    writing_start (subgoals_chunks s.args.rules.now s.args.k c.subgoals_at-n.ensures) s.requires.1
+
+pub subgoal_at-requires : goal.subgoal_at-requires
+subgoal_at-requires c = let k = c.before.before.before in let e = k.subgoals_at-n.ensures in (k.requires.0, omega arith)
+
+pub put_subgoal-p-requires : goal.put_subgoal-p-requires
+put_subgoal-p-requires c = let e = ap (λ (s : Call). length (enc_subgoal s)) c.subgoal_at.ensures in let r = writing_room c.loop-j.invariant (omega arith) in omega arith
+
+pub overflow_add-j : goal.overflow_add-j
+overflow_add-j c = omega arith
+
+pub loop-j-smaller : goal.loop-j-smaller
+loop-j-smaller c = omega arith
+
+pub loop-j-preserved : goal.loop-j-preserved
+loop-j-preserved c =
+    let one = wrote_as (ap enc_subgoal c.subgoal_at.ensures) c.put_subgoal-p.ensures in
+    writing_next c.loop-j.invariant (omega arith) one
+
+pub shape_of-out : goal.shape_of-out
+shape_of-out c = writing_length c.loop-j.invariant
+
+pub returns : goal.returns
+returns c = writing_end c.loop-j.invariant (omega arith)
