@@ -9,6 +9,7 @@ use Rattle.book.specs.Held.{call_in}
 use Rattle.ordering.specs.Held.{bound_of}
 use Rattle.ordering.proofs.Laws.Adorn.{after_positive, after_negated}
 use Rattle.ordering.proofs.Laws.Bound.{cleared, binds_three, binds_six}
+use Rattle.ordering.proofs.bind_all.Goals.{then-n-le3, else-n-le3}
 use Rattle.ordering.proofs.bind_all.Goals as goal
 
 pub returns-then-negated : goal.returns-then-negated
@@ -24,6 +25,7 @@ returns c =
     let e = after_positive (bound_of s.bound) (call_in s.s) (sym c.negated.ensures ∙ c.if-negated.false) in
     let r =
     cleared _ refl c.if-n-le3.all
-    (⊎_elim (λ w. binds_three s.bound s.s k.requires.0 k.requires.1 c.if-n-le3.all (w.1 ∙ low.ensures) (omega arith))
-    (λ w. binds_six s.bound s.s k.requires.0 k.requires.1 low.result c.if-n-le3.all low.ensures (w.2 ∙ w.1.ensures))
-    c.if-n-le3.branch) in record { result_value = r.0 ∙ sym e; marked = r.1 }
+    (elim c.if-n-le3.branch [
+      then-n-le3 w ↦ binds_three s.bound s.s k.requires.0 k.requires.1 c.if-n-le3.all (w.all-is ∙ low.ensures) (omega arith)
+    | else-n-le3 w ↦ binds_six s.bound s.s k.requires.0 k.requires.1 low.result c.if-n-le3.all low.ensures (w.all-is ∙ w.bind_three-all.ensures)
+    ]) in record { result_value = r.0 ∙ sym e; marked = r.1 }

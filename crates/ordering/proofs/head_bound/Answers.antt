@@ -8,6 +8,7 @@ use Rattle.book.specs.Held.{head_in}
 use Rattle.ordering.specs.Held.{bound_of}
 use Rattle.ordering.proofs.Laws.Steps.{Heading, heading_start, heading_bound, heading_free, heading_end}
 use Rattle.ordering.proofs.Laws.Bound.{bound_of_zero}
+use Rattle.ordering.proofs.head_bound.Goals.{then-rest-eq1, else-rest-eq1}
 use Rattle.ordering.proofs.head_bound.Goals as goal
 
 pub loop-i-init : goal.loop-i-init
@@ -26,8 +27,10 @@ pub loop-i-preserved : goal.loop-i-preserved
 loop-i-preserved c =
     let n = c.arguments-n.ensures.value in
     let l = c.loop-i.invariant in
-    ⊎_elim (λ w. rw (w.3, w.2.ensures, w.1.ensures) (heading_bound l (omega arith) (omega arith)))
-    (λ w. rw w.1 (heading_free l (omega arith) (λ e. omega arith))) c.if-rest-eq1.branch
+    elim c.if-rest-eq1.branch [
+      then-rest-eq1 w ↦ rw (w.b-is, w.bind_var-b.ensures, w.argument.ensures) (heading_bound l (omega arith) (omega arith))
+    | else-rest-eq1 w ↦ rw w.b-is (heading_free l (omega arith) (λ e. omega arith))
+    ]
 
 pub returns : goal.returns
 returns c = let n = c.arguments-n.ensures.value in heading_end c.loop-i.invariant (omega arith)

@@ -11,6 +11,7 @@ use Rattle.ordering.proofs.Laws.Bound.{power_is, counted, pattern_three, pattern
 use Rattle.ordering.proofs.pattern.Lts
 use Rattle.ordering.proofs.pattern.Reads
 use Rattle.ordering.proofs.pattern.Tie
+use Rattle.ordering.proofs.pattern.Goals.{then-n-le3, else-n-le3}
 use Rattle.ordering.proofs.pattern.Goals as goal
 
 -- places that several goals come past
@@ -38,9 +39,9 @@ returns c =
     let s = k.args in
     let low = c.three_bits-low.ensures.value in
     ap (λ (d : ℕ). c.if-n-le3.all % d) (divisor c)
-    ∙ ⊎_elim
-    (λ w. ap (λ (x : ℕ). x % 2 ^ counted s.s) (w.1 ∙ low) ∙ pattern_three s.bound s.s k.requires.0 k.requires.1 (omega arith))
-    (λ w.
-    ap (λ (x : ℕ). x % 2 ^ counted s.s) (w.2 ∙ ap₂ (λ (x y : ℕ). x + 8 * y) low w.1.ensures.0)
-    ∙ pattern_six s.bound s.s k.requires.0 k.requires.1)
-    c.if-n-le3.branch
+    ∙ (elim c.if-n-le3.branch [
+      then-n-le3 w ↦ ap (λ (x : ℕ). x % 2 ^ counted s.s) (w.all-is ∙ low) ∙ pattern_three s.bound s.s k.requires.0 k.requires.1 (omega arith)
+    | else-n-le3 w ↦
+        ap (λ (x : ℕ). x % 2 ^ counted s.s) (w.all-is ∙ ap₂ (λ (x y : ℕ). x + 8 * y) low w.three_bits.ensures.value)
+        ∙ pattern_six s.bound s.s k.requires.0 k.requires.1
+    ])
