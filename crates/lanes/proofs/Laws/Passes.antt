@@ -123,6 +123,7 @@ module _ {B : Type 0} {ready : B → ℕ → Bool} {after : B → ℕ → B} {Le
   visits_take (q ∷ σ) b c p h r (inr m) =
       let d = visit ready after c q in
       visits_take σ b d p (grow.le_trans b c d h (visit_grows c q)) r m
+  visits_take [] b c p h r x3 = elim x3 [ ]
 
   -- one pass fewer than it has places
   reach : (n p : ℕ) (σ : List ℕ) (b c : B) → good_from ready after b (p ∷ σ) ≡ true → Le b c → ((q : ℕ) → In q (p ∷ σ) → q < n)
@@ -267,6 +268,7 @@ module _ {B : Type 0} {ready : B → ℕ → Bool} {after : B → ℕ → B} {Le
   all_again b p (q ∷ σ) (inl e) =
       ap (λ c. all_after after c σ) (subst (λ (u : ℕ). after (after b p) u ≡ after b u) e (grow.after_twice b p))
   all_again b p (q ∷ σ) (inr m) = ap (λ c. all_after after c σ) (grow.after_swap b p q) ∙ all_again (after b q) p σ m
+  all_again b p [] x' = elim x' [ ]
 
   all_visit : (b : B) (p : ℕ) (σ : List ℕ) → In p σ → all_after after (visit ready after b p) σ ≡ all_after after b σ
   unfolding visit

@@ -1,0 +1,50 @@
+-- `lanes::bind_lanes` meets its contract. A negated subgoal binds nothing. The loop's invariant: the contract for the first i arguments. Assumes nothing.
+use mathlib.Core.Path.{sym, ◌∙◌}
+use mathlib.Core.Logic.{⊎_elim}
+use Prim.Native.Nat.{◌-◌, ◌≤◌}
+use native.Mathlib.Omega.{arith}
+use borrow.Author.Rules.{rules}
+use Rattle.book.specs.Held.{call_in}
+use Rattle.lanes.specs.Lanes.{Binds}
+use Rattle.lanes.proofs.Laws.Steps.{one_var, one_other, up_to, binding_none, binding_start, binding_next, binding_end}
+use Rattle.lanes.proofs.bind_lanes.Goals as goal
+
+pub returns-then-negated : goal.returns-then-negated
+returns-then-negated c =
+    let s = c.args in
+    binding_none (call_in s.s) s.r s.vars.now (sym c.negated.ensures ∙ c.if-negated.true)
+
+pub loop-i-init : goal.loop-i-init
+loop-i-init c =
+    let args = c.args in
+    (omega arith, binding_start (call_in args.s).pred (call_in args.s).args args.r args.vars.now)
+
+pub argument-v-requires : goal.argument-v-requires
+argument-v-requires c = let n = c.arguments-n.ensures.value in omega arith
+
+pub bounds-vars-w : goal.bounds-vars-w
+bounds-vars-w c = omega arith
+
+pub bounds-vars-w-then-v-le-LAST_VARIABLE : goal.bounds-vars-w-then-v-le-LAST_VARIABLE
+bounds-vars-w-then-v-le-LAST_VARIABLE c = omega arith
+
+pub loop-i-preserved : goal.loop-i-preserved
+loop-i-preserved c =
+    let l = c.loop-i in
+    let args = c.args in
+    let n = c.arguments-n.ensures in
+    let v = c.argument-v in
+    let next = binding_next (call_in args.s).pred (call_in args.s).args args.r args.vars.now l.i (omega arith) in (
+      omega arith,
+      ⊎_elim
+          (λ u. next (rw (← v.ensures) (one_var v.result args.r l.vars (omega arith) u.2)) l.invariant.1)
+          (λ u. next (rw (← v.ensures) (one_other v.result args.r l.vars (omega arith) u.1)) l.invariant.1) c.if-v-le-LAST_VARIABLE.branch,
+    )
+
+pub returns : goal.returns
+returns c =
+    let l = c.loop-i in
+    let k = c.before.before.before in
+    let args = k.args in
+    let n = c.arguments-n.ensures.value in
+    binding_end (call_in args.s).pred (call_in args.s).args args.r args.vars.now l.i (sym k.negated.ensures ∙ k.if-negated.false) (omega arith) l.invariant.1

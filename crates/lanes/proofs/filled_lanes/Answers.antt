@@ -1,0 +1,33 @@
+-- `lanes::filled_lanes` meets its contract. The loop's invariant: the word has the lanes in which the first i arguments are bound. Assumes nothing.
+use Prim.Native.Nat.{◌-◌, ◌≤◌}
+use native.Mathlib.Omega.{arith}
+use borrow.Author.Rules.{rules}
+use Rattle.book.specs.Held.{head_in}
+use Rattle.lanes.proofs.Laws.Steps.{Filling, filling_start, filling_next, filling_end}
+use Rattle.lanes.proofs.filled_lanes.Goals as goal
+
+pub loop-i-init : goal.loop-i-init
+loop-i-init c = (omega arith, filling_start c.args.vars.now (head_in c.args.call).args)
+
+pub argument-requires : goal.argument-requires
+argument-requires c = let n = c.arguments-n.ensures.value in omega arith
+
+pub overflow_add-i : goal.overflow_add-i
+overflow_add-i c = let n = c.arguments-n.ensures.upper_bound in omega arith
+
+pub loop-i-preserved : goal.loop-i-preserved
+loop-i-preserved c =
+    let l = c.loop-i in
+    let args = c.args in
+    let n = c.arguments-n.ensures.value in
+    let v = c.argument in (
+      omega arith,
+      filling_next args.vars.now (head_in args.call).args l.i c.arg_lanes-filled.result (omega arith) (rw (← v.ensures) c.arg_lanes-filled.ensures) l.invariant.1,
+    )
+
+pub returns : goal.returns
+returns c =
+    let l = c.loop-i in
+    let args = c.args in
+    let n = c.arguments-n.ensures.value in
+    filling_end args.vars.now (head_in args.call).args l.i (omega arith) l.invariant.1
