@@ -7,6 +7,7 @@ use borrow.Author.Rules.{rules}
 use Rattle.book.specs.Held.{call_in}
 use Rattle.lanes.specs.Lanes.{Binds}
 use Rattle.lanes.proofs.Laws.Steps.{one_var, one_other, up_to, binding_none, binding_start, binding_next, binding_end}
+use Rattle.lanes.proofs.bind_lanes.Goals.{then-v-le-LAST_VARIABLE, else-v-le-LAST_VARIABLE}
 use Rattle.lanes.proofs.bind_lanes.Goals as goal
 
 pub returns-then-negated : goal.returns-then-negated
@@ -36,9 +37,10 @@ loop-i-preserved c =
     let v = c.argument-v in
     let next = binding_next (call_in args.s).pred (call_in args.s).args args.r args.vars.now l.i (omega arith) in (
       omega arith,
-      ⊎_elim
-          (λ u. next (rw (← v.ensures) (one_var v.result args.r l.vars (omega arith) u.2)) l.invariant.1)
-          (λ u. next (rw (← v.ensures) (one_other v.result args.r l.vars (omega arith) u.1)) l.invariant.1) c.if-v-le-LAST_VARIABLE.branch,
+      elim c.if-v-le-LAST_VARIABLE.branch [
+        then-v-le-LAST_VARIABLE u ↦ next (rw (← v.ensures) (one_var v.result args.r l.vars (omega arith) u.vars-is)) l.invariant.1
+      | else-v-le-LAST_VARIABLE u ↦ next (rw (← v.ensures) (one_other v.result args.r l.vars (omega arith) u.vars-is)) l.invariant.1
+      ],
     )
 
 pub returns : goal.returns

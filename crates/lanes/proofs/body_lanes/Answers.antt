@@ -11,6 +11,7 @@ use Rattle.lanes.proofs.Laws.Passing.{Passing, passing_start, passing_next, pass
 use Rattle.lanes.proofs.body_lanes.Lts
 use Rattle.lanes.proofs.body_lanes.Reads
 use Rattle.lanes.proofs.body_lanes.Tie
+use Rattle.lanes.proofs.body_lanes.Goals.{then-p-via-then-p, then-p-via-else-p+then-not-p, then-p-via-else-p+else-not-p+then-n-passes}
 use Rattle.lanes.proofs.body_lanes.Goals as goal
 
 -- places that several goals come past
@@ -36,13 +37,15 @@ returns-then-p c =
     let args = c.args in
     let pass = c.one_pass-p.ensures.passed in
     let T = table_in args.table.now max_predicates in
-    let body = (clause_at args.rules.now args.k).body in record { each_lane = ⊎_elim (λ u. passing_good T body args.vars.now pass l.invariant u.taken)
-          (⊎_elim (λ u. passing_still T body args.vars.now pass l.invariant (not-true _ u.2.taken))
-          (λ u. let h = leb-true n.result l.passes u.3.taken in passing_end T body args.vars.now pass l.invariant (omega arith))) c.then-p.branch; each_lane_2 = passing_ran T body args.vars.now pass l.invariant }
+    let body = (clause_at args.rules.now args.k).body in record { each_lane = elim c.then-p.branch [
+        then-p-via-then-p u ↦ passing_good T body args.vars.now pass l.invariant u.if-p.true
+      | then-p-via-else-p+then-not-p u ↦ passing_still T body args.vars.now pass l.invariant (not-true _ u.if-not-p.true)
+      | then-p-via-else-p+else-not-p+then-n-passes u ↦ passing_end T body args.vars.now pass l.invariant (omega arith)
+      ]; each_lane_2 = passing_ran T body args.vars.now pass l.invariant }
 
 -- where nothing ends the loop, there are more subgoals than passes
 more : (c : Else-n-passes) → c.loop-placed.passes < c.subgoals_at-n.result
-more c = leb-false _ _ c.if-n-passes.false
+more c = c.if-n-passes.false
 
 pub overflow_add-passes : goal.overflow_add-passes
 overflow_add-passes c = let h = more c.before in omega arith

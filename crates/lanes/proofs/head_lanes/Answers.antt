@@ -8,6 +8,7 @@ use borrow.Author.Rules.{rules}
 use Rattle.book.specs.Held.{head_in}
 use Rattle.masks.proofs.Laws.Patterns.{column}
 use Rattle.lanes.proofs.Laws.Steps.{one_var, one_other, Headed, headed_start, headed_next, headed_end}
+use Rattle.lanes.proofs.head_lanes.Goals.{then-v-le-LAST_VARIABLE, else-v-le-LAST_VARIABLE}
 use Rattle.lanes.proofs.head_lanes.Goals as goal
 
 pub loop-i-init : goal.loop-i-init
@@ -39,10 +40,15 @@ loop-i-preserved c =
     let v = c.argument-v in (
       omega arith,
       headed_next args l.i (omega arith) (omega arith)
-          (⊎_elim (λ u. ap length u.1 ∙ length-set l.vars _ _) (λ u. ap length u.1) c.if-v-le-LAST_VARIABLE.branch)
+          (elim c.if-v-le-LAST_VARIABLE.branch [
+            then-v-le-LAST_VARIABLE u ↦ ap length u.vars-is ∙ length-set l.vars _ _
+          | else-v-le-LAST_VARIABLE u ↦ ap length u.vars-is
+          ])
           (rw (← v.ensures)
-          (⊎_elim (λ u. one_var v.result (column l.i) l.vars (omega arith) u.1) (λ u. one_other v.result (column l.i) l.vars (omega arith) u.1)
-          c.if-v-le-LAST_VARIABLE.branch))
+          (elim c.if-v-le-LAST_VARIABLE.branch [
+            then-v-le-LAST_VARIABLE u ↦ one_var v.result (column l.i) l.vars (omega arith) u.vars-is
+          | else-v-le-LAST_VARIABLE u ↦ one_other v.result (column l.i) l.vars (omega arith) u.vars-is
+          ]))
           l.invariant.1,
     )
 

@@ -10,6 +10,7 @@ use Rattle.book.specs.Held.{call_in, clause_at}
 use Rattle.book.specs.Table.{table_in}
 use Rattle.book.proofs.Laws.Held.{clause_at_few}
 use Rattle.lanes.proofs.Laws.Passing.{Subgoal, subgoal, Visiting, visiting_start, visiting_over, visiting_same, visiting_new, visiting_end}
+use Rattle.lanes.proofs.one_pass.Goals.{then-before+then-now-before, then-before+else-now-before, else-before}
 use Rattle.lanes.proofs.one_pass.Goals as goal
 
 pub subgoals_at-n-requires : goal.subgoals_at-n-requires
@@ -47,19 +48,17 @@ ready_lanes-r-requires c =
 
 pub offset_bounds-words-j-then-now-before : goal.offset_bounds-words-j-then-now-before
 offset_bounds-words-j-then-now-before c =
-    let d = c.before.before.before.before.before.before.before in
-    let args = d.args in
+    let args = c.args in
     let f = clause_at_few args.rules.now args.k in
-    let n = d.subgoals_at-n.ensures in
+    let n = c.subgoals_at-n.ensures in
     omega arith
 
 pub bounds-words-j-then-now-before : goal.bounds-words-j-then-now-before
 bounds-words-j-then-now-before c =
-    let d = c.before.before.before.before.before.before.before in
-    let args = d.args in
+    let args = c.args in
     let f = clause_at_few args.rules.now args.k in
-    let n = d.subgoals_at-n.ensures in
-    let r = d.loop-j.invariant.room in
+    let n = c.subgoals_at-n.ensures in
+    let r = c.loop-j.invariant.room in
     omega arith
 
 pub overflow_add-j : goal.overflow_add-j
@@ -77,16 +76,17 @@ loop-j-preserved c =
     let body = (clause_at p.args.rules.now p.args.k).body in
     let few = clause_at_few p.args.rules.now p.args.k in
     let here : l.j < length body = omega arith in
-    ⊎_elim
-    (λ u.
-    rw (u.7, u.8, u.9, u.10)
-    (visiting_new T body p.args.vars.now l.invariant here few u.3.result (subgoal p.requires.1 here u.1.ensures) u.3.ensures u.6.ensures))
-    (⊎_elim
-    (λ u.
-    rw (u.5, u.6, u.7, u.8)
-    (visiting_same T body p.args.vars.now l.invariant here few u.3.result (subgoal p.requires.1 here u.1.ensures) u.3.ensures u.4.left))
-    (λ u. rw (u.1, u.2, u.3, u.4) (visiting_over T body p.args.vars.now l.invariant here few u.0.left)))
-    c.if-before.branch
+    elim c.if-before.branch [
+      then-before+then-now-before u ↦
+        rw (u.vars-is, u.words-is, u.good-is, u.moved-is)
+        (visiting_new T body p.args.vars.now l.invariant here few u.ready_lanes-r.result (subgoal p.requires.1 here u.subgoal_at-s.ensures)
+        u.ready_lanes-r.ensures u.bind_lanes.ensures)
+    | then-before+else-now-before u ↦
+        rw (u.vars-is, u.words-is, u.good-is, u.moved-is)
+        (visiting_same T body p.args.vars.now l.invariant here few u.ready_lanes-r.result (subgoal p.requires.1 here u.subgoal_at-s.ensures)
+        u.ready_lanes-r.ensures u.if-now-before.false)
+    | else-before u ↦ rw (u.vars-is, u.words-is, u.good-is, u.moved-is) (visiting_over T body p.args.vars.now l.invariant here few u.if-before.false)
+    ]
 
 pub returns : goal.returns
 returns c = 
