@@ -45,7 +45,10 @@ def clauses_of_sources():
                     m = re.match(r"\s*(?:pub(?:\([a-z]+\))? )?(?:unsafe )?(?:extern \"C\" )?fn (\w+)", line)
                     if m:
                         fn = "::".join([crate, *mods, *([impl] if impl and line.startswith(" ") else []), m[1]])
-                        table[fn] = {"requires": [], "ensures": []}
+                        head = read(os.path.join(folder, f)).split(line, 1)[1]
+                        whole = line + head[: head.find("{")]
+                        lent = re.findall(r"(\w+): &(?:'\w+ )?mut ", whole.split("requires")[0].split("ensures")[0])
+                        table[fn] = {"requires": [], "ensures": [], "new": lent}
                     m = re.match(r"\s+(requires|ensures)\*?(?: (\w+))? ?\{", line)
                     if m and fn:
                         table[fn][m[1]].append(m[2])
@@ -238,7 +241,7 @@ class Function:
 
     def clause(self, callee, kind, number):
         names = CLAUSES.get(callee, {}).get(kind, [])
-        if len(names) > 1 and number < len(names) and names[number]:
+        if (len(names) > 1 or kind == "new") and number < len(names) and names[number]:
             return names[number]
         return None
 
@@ -277,10 +280,10 @@ class Function:
         if i < len(rest):
             word = rest[i]
             new = None
-            out = [head]
+            out = [self.alias.get(head, head)]
             arm = self.arm(place, rest[i:])
             if arm:
-                return ".".join([head] + arm[0] + rest[i + arm[1] :]), place, i
+                return ".".join([self.alias.get(head, head)] + arm[0] + rest[i + arm[1] :]), place, i
             if word not in ("args", "requires", "ranges", "lifetimes"):
                 new = (self.step(place, word) if place is not None else None) or self.any_step(word)
             if new:
@@ -295,8 +298,8 @@ class Function:
             i += 1
         while i < len(rest):
             w = rest[i]
-            if w.isdigit() and rest[i - 1] == "ensures" and callee:
-                c = self.clause(callee, "ensures", int(w))
+            if w.isdigit() and rest[i - 1] in ("ensures", "new") and callee:
+                c = self.clause(callee, rest[i - 1], int(w))
                 if c:
                     w = c
             if w.isdigit() and rest[i - 1] == "requires" and not callee:
@@ -309,6 +312,7 @@ class Function:
         """All paths of a term; `let x = PATH in` with only steps back binds x to a place."""
         env = dict(env)
         kind = {}
+        self.alias = {}
         out, last = [], 0
         token = re.compile(rf"(?<![^\s(){{}};,@\[\]])({NAME})((?:\.{NAME})+)|(?<![\w-])let\s+({NAME})\s*=\s*({NAME})((?:\.{NAME})*)\s+in(?![\w-])|(?<![^\s(){{}};,\[\]])({NAME})(?=[\s(){{}};,\[\]]|$)")
         for m in token.finditer(text):
@@ -320,11 +324,20 @@ class Function:
                 continue
             if m[3]:
                 x, h, rest = m[3], m[4], [w for w in m[5].split(".") if w]
+                later = text[m.end() :]
+                bare = re.search(rf"(?<![^\s(){{}};,@\[\]]){re.escape(x)}(?=[\s(){{}};,\[\]]|$)|(?<![^\s(){{}};,@\[\]]){re.escape(x)}(?:\.before)+(?=[\s(){{}};,\[\]]|$)", later)
+                if h in env and rest and all(w == "before" for w in rest) and not bare:
+                    env[x] = self.rename_path([h, *rest], env)[1]
+                    self.alias[x] = self.alias.get(h, h)
+                    self.at_view.discard(x)
+                    while last < len(text) and text[last].isspace():
+                        last += 1
+                    continue
                 step = self.arm_step(env[h], rest) if h in env else None
                 if step:
                     kind[x] = ("arm", step)
                     env.pop(x, None)
-                    out.append(m[0][: m.start(4) - m.start()] + h + "." + step[0] + m[0][m.end(5) - m.start() :])
+                    out.append(m[0][: m.start(4) - m.start()] + self.alias.get(h, h) + "." + step[0] + m[0][m.end(5) - m.start() :])
                 elif h in env:
                     new, place, _ = self.rename_path([h, *rest], env)
                     if all(w == "before" for w in rest):
@@ -367,8 +380,8 @@ class Function:
             if m[1] == "requires" and rest and rest[0].isdigit():
                 rest[0] = self.clause("::".join([self.crate] + self.path), "requires", int(rest[0])) or rest[0]
             return ")." + ".".join([m[1], *rest])
-        if len(rest) > 1 and rest[0] == "ensures" and rest[1].isdigit():
-            rest[1] = self.clause(new[1], "ensures", int(rest[1])) or rest[1]
+        if len(rest) > 1 and rest[0] in ("ensures", "new") and rest[1].isdigit():
+            rest[1] = self.clause(new[1], rest[0], int(rest[1])) or rest[1]
         return ")." + ".".join([new[0], *rest])
 
     def of_kind(self, kind, rest):
@@ -378,9 +391,9 @@ class Function:
                 if [norm(w) for w in rest[: len(path)]] == [norm(w) for w in path]:
                     return [field, *rest[len(path) :]]
             return rest
-        at = 1 if k == "step" and rest[0] == "ensures" else 0
+        at = 1 if k == "step" and rest[0] in ("ensures", "new") else 0
         if len(rest) > at and rest[at].isdigit() and (at or k != "step"):
-            c = self.clause(callee, "ensures" if k == "step" else k, int(rest[at]))
+            c = self.clause(callee, rest[0] if k == "step" else k, int(rest[at]))
             if c:
                 rest[at] = c
         return rest
