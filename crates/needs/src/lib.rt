@@ -2,6 +2,7 @@
 // that call one that changed; the rest keep their constraint, which is what the round would give them. A table is held in words: the masks of each
 // constraint, made again where it changed, and the patterns that it admits. Sets of predicates and of clauses are words too: a number is in the set
 // where its bit is set.
+#![tactic(auto)]
 pub mod calls;
 pub mod round;
 

@@ -1,0 +1,60 @@
+-- `needs::calls::own_clauses` meets its contract. The loop's invariant: each predicate's set has its own of the first k clauses, and the heads' predicates
+-- are told. Assumes nothing.
+use mathlib.Core.Path.{◌≡◌, ap, ◌∙◌}
+use Prim.Native.Nat.{ℕ, ◌-◌, ◌<◌}
+use native.Mathlib.Omega.{arith}
+use borrow.Author.Rules.{rules}
+use Rattle.book.specs.Limits.{max_predicates}
+use Rattle.book.specs.Book.{Head}
+use Rattle.book.specs.Held.{clause_at}
+use Rattle.book.proofs.Laws.Sets.{head_low, Owning, owning_start, owning_next, owning_end}
+use Rattle.needs.proofs.Laws.Calls.{Heading, heading_start, heading_next, heading_end}
+use Rattle.needs.proofs.calls.own_clauses.Lts
+use Rattle.needs.proofs.calls.own_clauses.Reads
+use Rattle.needs.proofs.calls.own_clauses.Tie
+use Rattle.needs.proofs.calls.own_clauses.Goals as goal
+
+-- places that several goals come past
+abbrev After-predicate-p : Type 0
+After-predicate-p = Lts.After-predicate Tie.the-claims Reads.Pre Reads.Post goal.the-invariant-loop-k goal.the-decreases-loop-k Tie.handed_clauses
+
+pub loop-k-init : goal.loop-k-init
+loop-k-init c =
+    let s = c.args in (
+      owning_start s.rules.now s.clauses s.own.now (let l = c.words-1.given.0.1 in omega arith) c.requires.2,
+      heading_start s.rules.now s.clauses,
+    )
+
+-- in a turn: p is the predicate of head k
+module _ (c : After-predicate-p) where
+  is : c.predicate-p.result ≡ (clause_at c.args.rules.now c.loop-k.k).head.pred
+  is = c.predicate-p.ensures ∙ ap (λ (h : Head). h.pred) c.head_at.ensures
+
+  low : c.predicate-p.result < max_predicates
+  low = head_low c.loop-k.k c.predicate-p.result c.requires.1 (omega arith) is
+
+pub offset_bounds-words-q : goal.offset_bounds-words-q
+offset_bounds-words-q c = let l = low c in omega arith
+
+pub bounds-words-q : goal.bounds-words-q
+bounds-words-q c = let l = low c.before.before in let s = c.loop-k.invariant.0.size in omega arith
+
+pub offset_bounds-words-q-in-loop-k : goal.offset_bounds-words-q-in-loop-k
+offset_bounds-words-q-in-loop-k c = let l = low c.before.before in omega arith
+
+pub bounds-words-q-in-loop-k : goal.bounds-words-q-in-loop-k
+bounds-words-q-in-loop-k c = let l = low c.before.before in let s = c.loop-k.invariant.0.size in omega arith
+
+pub with_member-heads-requires : goal.with_member-heads-requires
+with_member-heads-requires c = low c.before.before
+
+pub loop-k-preserved : goal.loop-k-preserved
+loop-k-preserved c =
+    let d = c.before.before.before in
+    let l = c.loop-k.invariant in
+    let p = d.predicate-p.result in
+    rw (c.with_member.ensures, c.with_member-heads.ensures)
+    (owning_next l.0 p c.requires.1 (omega arith) (is d), heading_next l.1 p (omega arith) (is d))
+
+pub returns : goal.returns
+returns c = record { owns = owning_end c.loop-k.invariant.0 (omega arith); holds = heading_end c.loop-k.invariant.1 (omega arith) }

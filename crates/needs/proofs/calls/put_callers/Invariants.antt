@@ -1,0 +1,12 @@
+-- `needs::calls::put_callers` meets its contract. The loop's invariant: each predicate's set has those whose first k clauses call it. Assumes nothing.
+use Prim.Native.Nat.{◌-◌}
+use native.Mathlib.Omega.{arith}
+use borrow.Author.Rules.{rules}
+use Rattle.needs.proofs.Laws.Calls.{Gathering, gathering_start, gathering_next, gathering_end}
+use Rattle.needs.proofs.calls.put_callers.Given as goal
+
+abbrev pub invariant-loop-k : goal.invariant-loop-k
+invariant-loop-k l = Gathering l.rules l.clauses l.k l.callers
+
+abbrev pub decreases-loop-k : goal.decreases-loop-k
+decreases-loop-k l = l.clauses - l.k

@@ -1,0 +1,14 @@
+-- `needs::round::same` meets its contract. The loop's invariant: nothing differs exactly where the first p words are the same. Assumes nothing.
+use mathlib.Core.Path.{◌≡◌}
+use Prim.Native.Nat.{◌-◌, ◌≤◌}
+use native.Mathlib.Omega.{arith}
+use borrow.Author.Rules.{rules}
+use borrow.Author.Tests.{eqb-true, eqb-false}
+use Rattle.needs.proofs.Laws.Rounding.{Comparing, comparing_start, comparing_next, comparing_end}
+use Rattle.needs.proofs.round.same.Given as goal
+
+abbrev pub invariant-loop-p : goal.invariant-loop-p
+invariant-loop-p l = (l.p ≤ 64) × Comparing l.old l.new l.differ l.p
+
+abbrev pub decreases-loop-p : goal.decreases-loop-p
+decreases-loop-p l = 64 - l.p
