@@ -47,8 +47,8 @@ def clauses_of_sources():
                         fn = "::".join([crate, *mods, *([impl] if impl and line.startswith(" ") else []), m[1]])
                         head = read(os.path.join(folder, f)).split(line, 1)[1]
                         whole = line + head[: head.find("{")]
-                        lent = re.findall(r"(\w+): &(?:'\w+ )?mut ", whole.split("requires")[0].split("ensures")[0])
-                        table[fn] = {"requires": [], "ensures": [], "new": lent}
+                        given = re.findall(r"(?:mut )?(\w+): ", whole.split("requires")[0].split("ensures")[0])
+                        table[fn] = {"requires": [], "ensures": [], "new": given}
                     m = re.match(r"\s+(requires|ensures)\*?(?: (\w+))? ?\{", line)
                     if m and fn:
                         table[fn][m[1]].append(m[2])
@@ -241,7 +241,7 @@ class Function:
 
     def clause(self, callee, kind, number):
         names = CLAUSES.get(callee, {}).get(kind, [])
-        if (len(names) > 1 or kind == "new") and number < len(names) and names[number]:
+        if len(names) > 1 and number < len(names) and names[number]:
             return names[number]
         return None
 
@@ -296,9 +296,10 @@ class Function:
                     if c:
                         rest[i + 1] = c
             i += 1
+            rest = rest[:i] + self.news(callee, rest[i:])
         while i < len(rest):
             w = rest[i]
-            if w.isdigit() and rest[i - 1] in ("ensures", "new") and callee:
+            if w.isdigit() and rest[i - 1] == "ensures" and callee:
                 c = self.clause(callee, rest[i - 1], int(w))
                 if c:
                     w = c
@@ -380,18 +381,33 @@ class Function:
             if m[1] == "requires" and rest and rest[0].isdigit():
                 rest[0] = self.clause("::".join([self.crate] + self.path), "requires", int(rest[0])) or rest[0]
             return ")." + ".".join([m[1], *rest])
-        if len(rest) > 1 and rest[0] in ("ensures", "new") and rest[1].isdigit():
+        rest = self.news(new[1], rest)
+        if len(rest) > 1 and rest[0] == "ensures" and rest[1].isdigit():
             rest[1] = self.clause(new[1], rest[0], int(rest[1])) or rest[1]
         return ")." + ".".join([new[0], *rest])
 
+    def news(self, callee, rest):
+        """What a call left in an argument: an older file counts every argument, .new.1.1.0 for the third."""
+        if "new" in rest and callee:
+            i = rest.index("new") + 1
+            j = i
+            while j < len(rest) and rest[j] == "1":
+                j += 1
+            names = CLAUSES.get(callee, {}).get("new", [])
+            if j < len(rest) and rest[j] == "0" and j - i < len(names):
+                return rest[:i] + [names[j - i]] + rest[j + 1 :]
+        return rest
+
     def of_kind(self, kind, rest):
         k, callee = kind
+        if k == "step":
+            rest = self.news(callee, rest)
         if k == "arm":
             for field, path in callee[1]:
                 if [norm(w) for w in rest[: len(path)]] == [norm(w) for w in path]:
                     return [field, *rest[len(path) :]]
             return rest
-        at = 1 if k == "step" and rest[0] in ("ensures", "new") else 0
+        at = 1 if k == "step" and rest[0] == "ensures" else 0
         if len(rest) > at and rest[at].isdigit() and (at or k != "step"):
             c = self.clause(callee, rest[0] if k == "step" else k, int(rest[at]))
             if c:

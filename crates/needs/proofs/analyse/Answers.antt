@@ -36,7 +36,7 @@ put_image-requires c =
     let b = read.ensures in
     let w = read_well b c.if-b-ne0.false in
     let d = c.settle-rounds.ensures _ (read_held _ _ _ _ _ b.listed.each b.few w) in
-    let size = c.image_length-n.ensures read.new.modes.0 in
+    let size = c.image_length-n.ensures read.new.arities in
     let h = room_enough _ _ _ c.in_room-r.ensures (λ z. omega arith) in
     (b.listed.few, read_low _ _ _ _ _ w, d.admitted, omega arith)
 
@@ -47,7 +47,7 @@ returns-then-r-eq0 c =
     let z = c.if-b-ne0.false in
     let h = read_held _ _ _ _ _ b.listed.each b.few (read_well b z) in
     rw (← analysed_book _ _ _ _ _ _ (read_made b z analysed) h (c.settle-rounds.ensures _ h))
-    (answers_done _ _ _ c.in_room-r.ensures _ (c.image_length-n.ensures read.new.modes.0) (omega arith) (λ z. omega arith) c.put_image.ensures.is)
+    (answers_done _ _ _ c.in_room-r.ensures _ (c.image_length-n.ensures read.new.arities) (omega arith) (λ z. omega arith) c.put_image.ensures.is)
 
 pub returns-else-r-eq0 : goal.returns-else-r-eq0
 returns-else-r-eq0 c =
@@ -56,4 +56,4 @@ returns-else-r-eq0 c =
     let z = c.if-b-ne0.false in
     let h = read_held _ _ _ _ _ b.listed.each b.few (read_well b z) in
     rw (← analysed_book _ _ _ _ _ _ (read_made b z analysed) h (c.settle-rounds.ensures _ h))
-    (answers_short _ _ _ c.in_room-r.ensures _ (c.image_length-n.ensures read.new.modes.0) (omega arith) c.if-r-eq0.false)
+    (answers_short _ _ _ c.in_room-r.ensures _ (c.image_length-n.ensures read.new.arities) (omega arith) c.if-r-eq0.false)

@@ -72,14 +72,14 @@ less c =
     omega arith
 
 pub overflow_add-k : goal.overflow_add-k
-overflow_add-k c = let l = less c.before.before.before.before.before in omega arith
+overflow_add-k c = let l = less c.before.before.before.before in omega arith
 
 pub loop-callers-smaller : goal.loop-callers-smaller
-loop-callers-smaller c = let l = less c.before.before.before.before.before in omega arith
+loop-callers-smaller c = let l = less c.before.before.before.before in omega arith
 
 pub loop-callers-preserved : goal.loop-callers-preserved
 loop-callers-preserved c =
-    let d = c.before.before.before.before.before.before in
+    let d = c.before.before.before.before.before in
     let l = d.loop-callers in
     λ B h.
     rw add-one

@@ -28,9 +28,9 @@ pub loop-rest-init : goal.loop-rest-init
 loop-rest-init c =
     let s = c.args in
     let e = c.requires.1 in
-    over_start (Rounding s.rules.now s.own.now s.table.now s.t4 s.due s.new.now 0) 64 s.due (search rules)
-    (subst (λ (l : List ℕ). Rounding s.rules.now s.own.now s.table.now s.t4 s.due l 0 0) (sym e)
-    (rounding_start s.rules.now s.own.now s.table.now s.t4 s.due (ap length (sym e) ∙ c.words-1.given.0.1)))
+    over_start (Rounding s.rules.now s.own.now s.table.now s.old s.due s.new.now 0) 64 s.due (search rules)
+    (subst (λ (l : List ℕ). Rounding s.rules.now s.own.now s.table.now s.old s.due l 0 0) (sym e)
+    (rounding_start s.rules.now s.own.now s.table.now s.old s.due (ap length (sym e) ∙ c.words-1.given.0.1)))
 
 -- in a turn: p is the lowest of those left
 module _ (c : In-loop-rest) where
@@ -41,13 +41,13 @@ module _ (c : In-loop-rest) where
   p = count_trailing_zeros 64 c.loop-rest.rest
 
   abbrev Round : List ℕ → ℕ → ℕ → Type 0
-  Round = let s = c.args in Rounding s.rules.now s.own.now s.table.now s.t4 due
+  Round = let s = c.args in Rounding s.rules.now s.own.now s.table.now s.old due
 
   abbrev Here : ℕ → Type 0
   Here = Round c.loop-rest.words c.loop-rest.changed
 
   abbrev skip : (i : ℕ) → bit_at due i ≡ false → Here i → Here (suc i)
-  skip = let s = c.args in rounding_skip s.rules.now s.own.now s.table.now s.t4 due c.loop-rest.words c.loop-rest.changed
+  skip = let s = c.args in rounding_skip s.rules.now s.own.now s.table.now s.old due c.loop-rest.words c.loop-rest.changed
 
   low : p < 64
   low = (over_lowest Here 64 due c.loop-rest.rest skip c.loop-rest.invariant c.loop-rest-test.true).small
@@ -111,7 +111,7 @@ loop-rest-preserved-then-good-old c =
     let l = d.loop-rest in
     rw c.with_member-changed.ensures
     (next d _ _
-    (rounding_new s.rules.now s.own.now s.table.now s.t4 s.due l.words l.changed (p d) _ (member d) c.good_patterns-good.ensures
+    (rounding_new s.rules.now s.own.now s.table.now s.old s.due l.words l.changed (p d) _ (member d) c.good_patterns-good.ensures
     (here d) (low d) c.if-good-old.true))
 
 pub loop-rest-smaller : goal.loop-rest-smaller
@@ -123,33 +123,33 @@ loop-rest-preserved c =
     let s = d.args in
     let l = d.loop-rest in
     next d _ _
-    (rounding_same s.rules.now s.own.now s.table.now s.t4 s.due l.words l.changed (p d) _ (member d) c.good_patterns-good.ensures
+    (rounding_same s.rules.now s.own.now s.table.now s.old s.due l.words l.changed (p d) _ (member d) c.good_patterns-good.ensures
     (here d) c.if-good-old.false)
 
 -- past the loop: all that are due are done
 ended : (c : After-loop-rest)
-    → Rounding c.args.rules.now c.args.own.now c.args.table.now c.args.t4 c.args.due
+    → Rounding c.args.rules.now c.args.own.now c.args.table.now c.args.old c.args.due
     c.loop-rest.words c.loop-rest.changed 64
 ended c =
     let s = c.args in
     let l = c.loop-rest in
-    over_end (Rounding s.rules.now s.own.now s.table.now s.t4 s.due l.words l.changed) 64 s.due l.rest
-    (rounding_skip s.rules.now s.own.now s.table.now s.t4 s.due l.words l.changed) l.invariant c.loop-rest-test.false
+    over_end (Rounding s.rules.now s.own.now s.table.now s.old s.due l.words l.changed) 64 s.due l.rest
+    (rounding_skip s.rules.now s.own.now s.table.now s.old s.due l.words l.changed) l.invariant c.loop-rest-test.false
 
 pub same-requires : goal.same-requires
-same-requires c = (ended c.before.before).size
+same-requires c = (ended c.before).size
 
 pub returns-then-same : goal.returns-then-same
 returns-then-same c =
-    let d = c.before.before.before.before in
+    let d = c.before.before.before in
     let s = d.args in
     let r = d.requires.0 in
     λ B g u.
-    rounding_still s.rules.now s.own.now s.table.now s.t4 s.due B g r.2 u (ended d) (c.same.ensures.same· c.if-same.true)
+    rounding_still s.rules.now s.own.now s.table.now s.old s.due B g r.2 u (ended d) (c.same.ensures.same· c.if-same.true)
 
 pub returns-else-same : goal.returns-else-same
 returns-else-same c =
-    let d = c.before.before.before.before in
+    let d = c.before.before.before in
     let s = d.args in
     let r = d.requires.0 in
-    λ B g u. rounding_end s.rules.now s.own.now s.table.now s.t4 s.due B g r.2 u (ended d)
+    λ B g u. rounding_end s.rules.now s.own.now s.table.now s.old s.due B g r.2 u (ended d)
