@@ -8,11 +8,16 @@ use borrow.Author.Rules.{rules}
 use Rattle.masks.specs.Set.{bit_at}
 use Rattle.masks.proofs.Laws.Logic.{clash, or_right}
 use Rattle.masks.proofs.Laws.Set.{bit_at_zero, bit_at_or}
-use Rattle.closing.proofs.lists.Statement.{statement}
-use Rattle.closing.proofs.lists.Tie as tie
+use Rattle.closing.proofs.lists.Lts
+use Rattle.closing.proofs.lists.Reads
+use Rattle.closing.proofs.lists.Goals as goal
+
+-- places that several goals come past
+abbrev Start : Type 0
+Start = Lts.Start Reads.Pre Reads.Post
 
 -- a word that has bit 0 has fewer than 64 zeros before its highest
-low : (c : tie.Start) → count_leading_zeros 64 (bit_or c.args.set 1) < 64
+low : (c : Start) → count_leading_zeros 64 (bit_or c.args.set 1) < 64
 unfolding bit_at
 low c =
     let w = bit_or c.args.set 1 in
@@ -20,17 +25,11 @@ low c =
     let t = leading_top 64 w (omega arith) (or_lt 64 c.args.set 1 (search rules) (omega arith)) in
     omega arith
 
-cast-at : tie.Need-overflow-cast-at
-cast-at c = let l = low c in omega arith
+pub overflow_cast-at : goal.overflow_cast-at
+overflow_cast-at c = let l = low c.before in omega arith
 
-sub_at : tie.Need-overflow-sub-at
-sub_at c = let l = low c in omega arith
+pub overflow_sub-at : goal.overflow_sub-at
+overflow_sub-at c = let l = low c.before in omega arith
 
-mul_at : tie.Need-overflow-mul-at
-mul_at c = omega arith
-
-shared-slice-read-result : tie.Need-shared-slice-read-result
-shared-slice-read-result c = search rules
-
-pub lists-spec : {M : Type 1} → statement M
-lists-spec = tie.close (tie.spec cast-at sub_at mul_at shared-slice-read-result (λ c. search rules) (λ c. search rules))
+pub overflow_mul-at : goal.overflow_mul-at
+overflow_mul-at c = omega arith

@@ -1,0 +1,34 @@
+-- `closing::lacking` meets its contract. A book that lacks a chosen predicate has its lowest in the word that begins behind its predicates. Assumes
+-- nothing.
+use Prim.Native.Nat.{ℕ, ◌+◌, ◌^◌, ◌<◌}
+use native.Mathlib.Omega.{arith}
+use lib.Count.{count_trailing_zeros, trailing_le}
+use borrow.Author.Rules.{rules}
+use Rattle.closing.proofs.Laws.Lacked.{lacked_lowest, lacked_none}
+use Rattle.closing.proofs.Laws.Refused.{refused_faulty, refused_lacks, refused_has}
+use Rattle.closing.proofs.lacking.Goals as goal
+
+pub returns-then-b-ne0 : goal.returns-then-b-ne0
+returns-then-b-ne0 c = refused_faulty c.if-b-ne0.true
+
+-- the count of a word's zeros, and a byte with it
+count_small : (w : ℕ) → count_trailing_zeros 64 w < 2 ^ 64
+count_small w = let l = trailing_le 64 w in omega arith
+
+sum-small : (n w : ℕ) → n < 2 ^ 8 → n + count_trailing_zeros 64 w < 2 ^ 64
+sum-small n w h = let l = trailing_le 64 w in omega arith
+
+pub overflow_cast-beyond : goal.overflow_cast-beyond
+overflow_cast-beyond c = record { fits = count_small _ }
+
+pub overflow_add-b : goal.overflow_add-b
+overflow_add-b c = record { fits = sum-small _ _ (search rules) }
+
+pub returns-then-beyond-ne0 : goal.returns-then-beyond-ne0
+returns-then-beyond-ne0 c =
+    refused_lacks c.if-b-ne0.false
+    (lacked_lowest _ _ c.chosen_from-beyond.result (search rules) c.chosen_from-beyond.ensures (search rules) c.if-beyond-ne0.true) c.refused.ensures
+
+pub returns : goal.returns
+returns c =
+    refused_has c.if-b-ne0.false (lacked_none _ _ c.chosen_from-beyond.result (search rules) c.chosen_from-beyond.ensures c.if-beyond-ne0.false)
