@@ -1,4 +1,5 @@
 // The plan of a book: the orders of what its query leads to, and the public operation `plan`.
+#![tactic(auto)]
 pub mod image;
 
 ghost use Rattle.masks.specs.Outcome.{Answers};

@@ -50,11 +50,11 @@ module _ (k : Else-r-ne0) where
   abbrev modes : List ℕ
   modes = read.read_book-b.new.modes
 
-  abbrev rules : List ℕ
-  rules = read.read_book-b.new.rules
+  abbrev words : List ℕ
+  words = read.read_book-b.new.rules
 
   abbrev B : Book
-  B = book_in read.read_book-b.result.preds read.read_book-b.new.arities modes read.read_book-b.result.clauses rules
+  B = book_in read.read_book-b.result.preds read.read_book-b.new.arities modes read.read_book-b.result.clauses words
 
   passed : (read.read_book-b.result.reply.number ≡ 0) × (lacked set read.read_book-b.result.preds ≡ none)
   passed = lacking_none k.lacking-r.ensures k.if-r-ne0.false
@@ -62,7 +62,7 @@ module _ (k : Else-r-ne0) where
   made : closed set B ≡ closing set read.before.before.before.before.before.before.args.book.now
   made = read_made read.read_book-b.ensures passed.0 (closed set)
 
-  held : Held B read.read_book-b.result.preds modes read.read_book-b.result.clauses rules
+  held : Held B read.read_book-b.result.preds modes read.read_book-b.result.clauses words
   held = let r = read.read_book-b.ensures in read_held _ _ _ _ _ r.listed.each r.few (read_well r passed.0)
 
 pub settle-requires : goal.settle-requires

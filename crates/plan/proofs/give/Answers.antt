@@ -14,13 +14,22 @@ use Rattle.masks.proofs.Laws.Outcome.{answers_refused, room_enough}
 use Rattle.book.proofs.Laws.Sets.{cleared_zeros}
 use Rattle.ordering.proofs.Laws.Bound.{bound_of_zero}
 use Rattle.plan.proofs.Laws.Planned.{few_preds, lent_known, lent_full, lent_query, lent_callable, given_none, given_room, given_short, given_done}
-use Rattle.plan.proofs.give.Statement.{statement}
-use Rattle.plan.proofs.give.Tie as tie
+use Rattle.plan.proofs.give.Lts
+use Rattle.plan.proofs.give.Reads
+use Rattle.plan.proofs.give.Tie
+use Rattle.plan.proofs.give.Goals as goal
 
-first-order-requires : tie.Need-first-order-requires
-first-order-requires c κs =
-    let s = c.before.args in
-    let h = c.before.requires in
+-- places that several goals come past
+abbrev After-first_order-query : Type 0
+After-first_order-query = Lts.After-first_order Tie.the-claims Reads.Pre Reads.Post Tie.handed_clauses
+
+abbrev After-reach : Type 0
+After-reach = Lts.After-reach Tie.the-claims Reads.Pre Reads.Post Tie.handed_clauses
+
+pub first_order-query-requires : goal.first_order-query-requires
+first_order-query-requires c =
+    let s = c.args in
+    let h = c.requires in
     let l = h.1 in (
       omega arith,
       lent_query h.0 s.preds s.clauses s.rules.now s.own.now s.admits.now l,
@@ -28,17 +37,14 @@ first-order-requires c κs =
     )
 
 -- the query's order is its first good one
-found : (c : tie.After-first-order)
-    → let s = c.before.before.args in
-    Found (table_in s.admits.now max_predicates) (clause_at s.rules.now max_clauses).body nothing c.first-order.result
-found c = rw (← bound_of_zero) (record { first = c.first-order.ensures.0; beside = c.first-order.ensures.1 })
+found : (c : After-first_order-query)
+    → let s = c.args in
+    Found (table_in s.admits.now max_predicates) (clause_at s.rules.now max_clauses).body nothing c.first_order-query.result
+found c = rw (← bound_of_zero) (record { first = c.first_order-query.ensures.result_value; beside = c.first_order-query.ensures.result_value_2 })
 
 -- the words that `reach` marks
-abbrev reached : tie.After-reach → List ℕ
+abbrev reached : After-reach → List ℕ
 reached c = c.reach.new.1.1.1.1.1.0
-
-refused-requires : tie.Need-refused-requires
-refused-requires c κs = search rules
 
 returns : tie.Need-returns
 returns c B l =
@@ -49,42 +55,34 @@ returns c B l =
     (not-true d.first-order.result.found c.before.if1.true))
     (answers_refused 7 0 s.out.now c.refused.ensures)
 
-reach-requires : tie.Need-reach-requires
-reach-requires c κs =
-    let d = c.before.before.before in
-    let s = d.before.before.args in
-    let h = d.before.before.requires in
+pub reach-requires : goal.reach-requires
+reach-requires c = 
+    let d = c.before.before.before.before in
+    let s = d.args in
+    let h = d.requires in
     let known = lent_known h.0 s.preds s.clauses s.rules.now s.own.now s.admits.now h.1 in
     let query = lent_query h.0 s.preds s.clauses s.rules.now s.own.now s.admits.now h.1 in
-    let full = lent_full h.0 s.preds s.clauses s.rules.now s.own.now s.admits.now h.1 in
-    ((h.1.few, known, query, h.1.owns), (full, found d, cleared_zeros))
+    let full = lent_full h.0 s.preds s.clauses s.rules.now s.own.now s.admits.now h.1 in record { clauses_le_max_clauses = (h.1.few, known, query, h.1.owns); full = (full, found d, cleared_zeros) }
 
-plan-length-requires : tie.Need-plan-length-requires
-plan-length-requires c κs =
-    let d = c.before.before.before.before.before.before.before in
-    let s = d.args in
-    few_preds d.requires.0 s.preds s.clauses s.rules.now s.own.now s.admits.now d.requires.1
+pub plan_length-n-requires : goal.plan_length-n-requires
+plan_length-n-requires c =
+    let s = c.args in
+    few_preds c.requires.0 s.preds s.clauses s.rules.now s.own.now s.admits.now c.requires.1
 
-in-room-requires : tie.Need-in-room-requires
-in-room-requires c κs = search rules
-
-put-plan-requires : tie.Need-put-plan-requires
-put-plan-requires c κs =
+pub put_plan-requires : goal.put_plan-requires
+put_plan-requires c =
     let k = c.before.before.before.before.before in
     let d = k.before.before.before.before.before.before in
-    let s = d.before.before.args in
-    let h = d.before.before.requires in
-    let z = room_enough _ _ _ c.before.before.before.before.in-room.ensures (λ z. omega arith) in (
+    let s = d.args in
+    let h = d.requires in
+    let z = room_enough _ _ _ c.in_room-r.ensures (λ z. omega arith) in (
       few_preds h.0 s.preds s.clauses s.rules.now s.own.now s.admits.now h.1,
       lent_callable h.0 s.preds s.clauses s.rules.now s.own.now s.admits.now h.1,
       lent_full h.0 s.preds s.clauses s.rules.now s.own.now s.admits.now h.1,
-      given_room h.0 s.preds s.clauses s.rules.now s.own.now s.admits.now h.1 d.first-order.result (found d).first
-          (not-false d.first-order.result.found k.before.before.before.before.if1.false) (reached k.before.before) k.before.before.reach.ensures
-          k.plan-length.result k.plan-length.ensures s.out.now (omega arith),
+      given_room h.0 s.preds s.clauses s.rules.now s.own.now s.admits.now h.1 d.first_order-query.result (found d).first
+          (not-false d.first_order-query.result.found k.if-not-query.false) (reached k.before.before) k.reach.ensures
+          k.plan_length-n.result k.plan_length-n.ensures s.out.now (omega arith),
     )
-
-same_length : tie.Need-same-length
-same_length c = search rules
 
 returns-2 : tie.Need-returns-2
 returns-2 c B l =
@@ -104,18 +102,3 @@ returns-3 c B l =
     given_short B s.preds s.clauses s.rules.now s.own.now s.admits.now l d.first-order.result (found d).first
     (not-false d.first-order.result.found k.before.before.before.before.if1.false) (reached k.before.before) k.before.before.reach.ensures
     k.plan-length.result k.plan-length.ensures _ c.before.before.in-room.ensures (omega arith) (λ z. c.if2.false (omega arith))
-
-pub give_spec : {M : Type 1} → statement M
-give_spec =
-    tie.close
-    (tie.spec
-    first-order-requires
-    refused-requires
-    returns
-    reach-requires
-    plan-length-requires
-    in-room-requires
-    put-plan-requires
-    same_length
-    returns-2
-    returns-3)
