@@ -574,7 +574,7 @@ class Function:
                 k = renamed[g[1]]
                 new = needs[k][1]
                 rest = b[g.end() :]
-                e = re.match(rf"(unfolding [^\n]*\n)?{re.escape(g[1])} ({NAME})( κs)? ?=", rest)
+                e = re.match(rf"(unfolding [^\n]*\n)?{re.escape(g[1])} ({NAME})((?: {NAME})*?) ?=", rest)
                 if not e:
                     self.problems.append(f"{g[1]}: its equation was not read")
                     answers.append((c, b))
@@ -591,7 +591,7 @@ class Function:
                 clauses = asked.get(new) or asked.get(needs[k][0])
                 if clauses:
                     body = " " + to_record(body, clauses)
-                answers.append((c, f"pub {new} : goal.{new}\n{e[1] or ''}{new} {e[2]} ={body}"))
+                answers.append((c, f"pub {new} : goal.{new}\n{e[1] or ''}{new} {e[2]}{(e[3] or '').replace(' κs', '')} ={body}"))
                 continue
             t, env = self.types(b)
             self.at_view = set()

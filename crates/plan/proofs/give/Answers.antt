@@ -44,15 +44,15 @@ found c = rw (← bound_of_zero) (record { first = c.first_order-query.ensures.r
 
 -- the words that `reach` marks
 abbrev reached : After-reach → List ℕ
-reached c = c.reach.new.1.1.1.1.1.0
+reached c = c.reach.new.reached
 
-returns : tie.Need-returns
-returns c B l =
-    let d = c.before.before.before in
-    let s = d.before.before.args in
+pub returns-then-not-query : goal.returns-then-not-query
+returns-then-not-query c B l =
+    let d = c.before.before.before.before in
+    let s = d.args in
     rw
-    (given_none B s.preds s.clauses s.rules.now s.own.now s.admits.now l d.first-order.result (found d).first
-    (not-true d.first-order.result.found c.before.if1.true))
+    (given_none B s.preds s.clauses s.rules.now s.own.now s.admits.now l d.first_order-query.result (found d).first
+    (not-true d.first_order-query.result.found c.if-not-query.true))
     (answers_refused 7 0 s.out.now c.refused.ensures)
 
 pub reach-requires : goal.reach-requires
@@ -84,21 +84,21 @@ put_plan-requires c =
           k.plan_length-n.result k.plan_length-n.ensures s.out.now (omega arith),
     )
 
-returns-2 : tie.Need-returns-2
-returns-2 c B l =
-    let k = c.before.before.before.before.before.before.before.before in
+pub returns-then-r-eq0 : goal.returns-then-r-eq0
+returns-then-r-eq0 c B l =
+    let k = c.before.before.before.before.before.before.before.before.before in
     let d = k.before.before.before.before.before.before in
-    let s = d.before.before.args in
-    given_done B s.preds s.clauses s.rules.now s.own.now s.admits.now l d.first-order.result (found d).first
-    (not-false d.first-order.result.found k.before.before.before.before.if1.false) (reached k.before.before) k.before.before.reach.ensures
-    k.plan-length.result k.plan-length.ensures _ c.before.before.before.before.before.before.before.in-room.ensures (omega arith)
-    (λ z. omega (arith, c.before.before.before.before.before.if2.true)) c.before.before.put-plan.ensures
+    let s = d.args in
+    given_done B s.preds s.clauses s.rules.now s.own.now s.admits.now l d.first_order-query.result (found d).first
+    (not-false d.first_order-query.result.found k.if-not-query.false) (reached k.before.before) k.reach.ensures
+    k.plan_length-n.result k.plan_length-n.ensures _ c.in_room-r.ensures (omega arith)
+    (λ z. omega (arith, c.if-r-eq0.true)) c.put_plan.ensures
 
-returns-3 : tie.Need-returns-3
-returns-3 c B l =
-    let k = c.before.before.before in
+pub returns-else-r-eq0 : goal.returns-else-r-eq0
+returns-else-r-eq0 c B l =
+    let k = c.before.before.before.before in
     let d = k.before.before.before.before.before.before in
-    let s = d.before.before.args in
-    given_short B s.preds s.clauses s.rules.now s.own.now s.admits.now l d.first-order.result (found d).first
-    (not-false d.first-order.result.found k.before.before.before.before.if1.false) (reached k.before.before) k.before.before.reach.ensures
-    k.plan-length.result k.plan-length.ensures _ c.before.before.in-room.ensures (omega arith) (λ z. c.if2.false (omega arith))
+    let s = d.args in
+    given_short B s.preds s.clauses s.rules.now s.own.now s.admits.now l d.first_order-query.result (found d).first
+    (not-false d.first_order-query.result.found k.if-not-query.false) (reached k.before.before) k.reach.ensures
+    k.plan_length-n.result k.plan_length-n.ensures _ c.in_room-r.ensures (omega arith) (λ z. c.if-r-eq0.false (omega arith))

@@ -7,6 +7,7 @@ use native.Mathlib.Omega.{arith}
 use borrow.Author.Rules.{rules}
 use Rattle.book.proofs.Laws.Held.{clause_at_few}
 use Rattle.plan.proofs.Laws.Lengths.{Planning, planning_start, planning_most, planning_next, planning_skip, planning_end}
+use Rattle.plan.proofs.image.plan_length.Goals.{then-own-q-ne0, else-own-q-ne0}
 use Rattle.plan.proofs.image.plan_length.Goals as goal
 
 pub overflow_add-total : goal.overflow_add-total
@@ -37,10 +38,10 @@ pub bounds-own-q-then-own-q-ne0 : goal.bounds-own-q-then-own-q-ne0
 bounds-own-q-then-own-q-ne0 c = omega arith
 
 pub overflow_mul-total : goal.overflow_mul-total
-overflow_mul-total c = let m = planning_most c.loop-p.invariant (omega arith) c.rows_length.ensures.value c.count-patterns.ensures in omega arith
+overflow_mul-total c = let m = planning_most c.loop-p.invariant (omega arith) c.rows_length.ensures.value (c.count-patterns.ensures.value, c.count-patterns.ensures.upper_bound) in omega arith
 
 pub overflow_add-total-then-own-q-ne0 : goal.overflow_add-total-then-own-q-ne0
-overflow_add-total-then-own-q-ne0 c = let m = planning_most c.loop-p.invariant (omega arith) c.rows_length.ensures.value c.count-patterns.ensures in omega arith
+overflow_add-total-then-own-q-ne0 c = let m = planning_most c.loop-p.invariant (omega arith) c.rows_length.ensures.value (c.count-patterns.ensures.value, c.count-patterns.ensures.upper_bound) in omega arith
 
 pub overflow_add-p : goal.overflow_add-p
 overflow_add-p c = omega arith
@@ -51,10 +52,10 @@ loop-p-smaller c = omega arith
 pub loop-p-preserved : goal.loop-p-preserved
 loop-p-preserved c =
     let d = c.loop-p.invariant in
-    ⊎_elim
-    (λ u. rw u.5 (planning_next d (omega arith) u.4.ensures.0 u.2.ensures))
-    (λ u. rw u.1 (planning_skip d (omega arith) u.0.left))
-    c.if-own-q-ne0.branch
+    elim c.if-own-q-ne0.branch [
+      then-own-q-ne0 u ↦ rw u.total-is (planning_next d (omega arith) u.rows_length.ensures.value (u.count-patterns.ensures.value, u.count-patterns.ensures.upper_bound))
+    | else-own-q-ne0 u ↦ rw u.total-is (planning_skip d (omega arith) u.if-own-q-ne0.false)
+    ]
 
 pub returns : goal.returns
 returns c = planning_end c.loop-p.invariant (omega arith)

@@ -11,11 +11,8 @@ use Rattle.choices.specs.Plan.{enc_query}
 use Rattle.plan.specs.Lent.{pattern_rows, plan_bytes}
 use Rattle.writing.proofs.Laws.Chunks.{Writing, joined_chunks, writing_start, writing_length, writing_room, writing_next, writing_end}
 use Rattle.writing.proofs.Laws.Wrote.{wrote_append, wrote_length, room_first, room_second}
+use Rattle.plan.proofs.image.put_plan.Invariants.{rows}
 use Rattle.plan.proofs.image.put_plan.Goals as goal
-
--- the rows of predicate p
-abbrev rows : List ℕ → List ℕ → List ℕ → List ℕ → ℕ → List ℕ
-rows rules table own words p = pattern_rows rules table (get_or own p 0) (get_or words p 0)
 
 pub put_query-at-requires : goal.put_query-at-requires
 unfolding plan_bytes

@@ -13,6 +13,10 @@ use Rattle.writing.proofs.Laws.Chunks.{Writing, joined_chunks, writing_start, wr
 use Rattle.writing.proofs.Laws.Wrote.{wrote_append, wrote_length, room_first, room_second}
 use Rattle.plan.proofs.image.put_plan.Given as goal
 
+-- the rows of predicate p
+abbrev pub rows : List ℕ → List ℕ → List ℕ → List ℕ → ℕ → List ℕ
+rows rules table own words p = pattern_rows rules table (get_or own p 0) (get_or words p 0)
+
 abbrev pub invariant-loop-p : goal.invariant-loop-p
 invariant-loop-p l = Writing l.preds (joined (rows l.rules l.table l.own l.reached)) (rows l.rules l.table l.own l.reached) (joined (rows l.rules l.table l.own l.reached) l.preds) l.initial.out l.initial.at l.p l.out l.at
 
