@@ -369,7 +369,7 @@ class Function:
             else:
                 out.append(m[0])
         out.append(text[last:])
-        # a test of !x says of x what the other outcome says
+        # a test of !f(x) says of the call's answer what the other outcome says
         out = re.sub(rf"not-(?:true|false) _ ({NAME}(?:\.{NAME})*\.if-not-{NAME}\.(?:true|false))", r"\1", "".join(out))
         return re.sub(rf"\)\.({NAME})((?:\.{NAME})*)", self.of_call, out)
 
