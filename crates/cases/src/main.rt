@@ -32,7 +32,7 @@ mod same;
 mod show;
 mod words;
 
-use libc::{STDIN_FILENO, STDOUT_FILENO};
+use lines::{STDIN_FILENO, STDOUT_FILENO};
 
 // How much of the input is read.
 const INPUT: usize = 2097152;

@@ -1,7 +1,7 @@
 // The kinds `book`, `short` and `room`: the operations on a book.
 use crate::show::{BOOK, ROOM};
 use crate::{show, words};
-use libc::STDOUT_FILENO;
+use lines::STDOUT_FILENO;
 use masks::reply::Reply;
 
 #[derive(Clone, Copy)]

@@ -8,7 +8,7 @@
 //     accepted  the plan refuses both the result and BOOK with 7, or neither
 use crate::show;
 use crate::show::{BOOK, OLD};
-use libc::STDOUT_FILENO;
+use lines::STDOUT_FILENO;
 
 // The even numbers below 64.
 const EVEN: u64 = 0x5555_5555_5555_5555;

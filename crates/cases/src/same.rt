@@ -7,7 +7,7 @@ use crate::show;
 use crate::show::BOOK;
 use book::clause;
 use book::limits::{MAX_CLAUSES, MAX_PREDICATES, MODES_SIZE, NO_CALL, RULES_SIZE};
-use libc::STDOUT_FILENO;
+use lines::STDOUT_FILENO;
 
 // Stands for the new number of a clause that is dropped.
 const DROPPED: u8 = 255;

@@ -3,7 +3,7 @@ ghost use Rattle.std.specs.Prelude.{◌≡◌, suc, length};
 ghost use Rattle.book.specs.Limits.{longest_sheet};
 
 use book::limits::LONGEST_SHEET;
-use libc::STDOUT_FILENO;
+use lines::STDOUT_FILENO;
 use masks::reply::Reply;
 
 // The longest book that is taken from a line, the longest run of a page, and the longest list of masks.

@@ -1,5 +1,6 @@
 // The head patterns under which a clause is good, all 64 at once: lane a of a word is its bit a, and stands for head pattern a.
 #![tactic(auto)]
+
 ghost use Rattle.std.specs.Prelude.{◌≡◌, true, ◌<◌, ◌≤◌};
 ghost use Rattle.masks.specs.Lists.{all};
 ghost use Rattle.masks.specs.Set.{bit_at};

@@ -1,11 +1,15 @@
 // Lines and their fields, for the programs: fields are parted by single spaces, and lines end in a newline. Bytes stand in them as hexadecimal digits,
 // two a byte, or as `-` where there are none.
+#![tactic(auto)]
 ghost use Rattle.std.specs.Prelude.{◌≡◌, ◌+◌, ◌≤◌, min, length, take, drop};
 ghost use Rattle.io.specs.Counts.{IsPrefixLen};
 ghost use Rattle.lines.specs.Line.{before, field_of, starts_with, inputs_of};
 ghost use Rattle.lines.specs.Hex.{digit_of, number_from, bytes_of};
 
-use libc::STDOUT_FILENO;
+// The streams that a program of lines reads and writes.
+pub const STDIN_FILENO: i32 = 0;
+
+pub const STDOUT_FILENO: i32 = 1;
 
 // Field k of a line, counted from 0; past the last it is empty.
 pub fn field(line: &[u8], k: usize) -> &[u8]

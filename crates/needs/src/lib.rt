@@ -3,6 +3,7 @@
 // constraint, made again where it changed, and the patterns that it admits. Sets of predicates and of clauses are words too: a number is in the set
 // where its bit is set.
 #![tactic(auto)]
+
 pub mod calls;
 pub mod round;
 

@@ -4,6 +4,7 @@
 // bit 30 is never set and stands for wildcards. The five lowest bits of an argument's byte, 0 to 15, 254 or 255, are then the place of its bit, so that
 // an argument is looked up and bound by a shift, with no test of what it is.
 #![tactic(auto)]
+
 ghost use Rattle.std.specs.Prelude.{◌≡◌, true, ◌≤◌, ◌<◌, ◌^◌, ◌%◌, length};
 ghost use Rattle.std.proofs.Math.Option.{none};
 ghost use Rattle.masks.specs.Lists.{all, values};

@@ -2,6 +2,7 @@
 // and the runs of records; single records, their bytes and their marks are in the crate `records`. One pass from the left: each
 // byte is looked at once, and the bytes of a mark where a run ends again by what judges that end and by the run that follows.
 #![tactic(auto)]
+
 ghost use Rattle.std.specs.Prelude.{◌≡◌, [], ◌+◌, ◌≤◌, ◌<◌, length, take, drop};
 ghost use Rattle.book.specs.Limits.{max_predicates, max_clauses};
 ghost use Rattle.book.specs.Format as format;

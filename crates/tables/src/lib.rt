@@ -2,6 +2,7 @@
 // the rounds and what is known of them; a round itself is in the crate `needs`. A table is held in two arrays of 64 words: in one the masks of each
 // constraint, in the other the patterns that it admits.
 #![tactic(auto)]
+
 ghost use Rattle.std.specs.Prelude.{◌≡◌, ◌≤◌};
 ghost use Rattle.masks.specs.Set.{members};
 ghost use Rattle.book.specs.Limits.{max_predicates};

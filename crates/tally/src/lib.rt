@@ -1,5 +1,6 @@
 // A page's tally: how many of its queries are accepted, and how many turned away.
 #![tactic(auto)]
+
 ghost use Rattle.std.specs.Prelude.{◌≡◌};
 ghost use Rattle.tally.specs.Tallied.{Roomy, tallied};
 

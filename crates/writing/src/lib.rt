@@ -1,6 +1,7 @@
 // A book's bytes. Whatever writes a book goes through `write_book`. It measures first (`length`), so that a room that is too short is left as it
 // was; then it writes record by record. Bytes and marks are in `put`.
 #![tactic(auto)]
+
 pub mod length;
 pub mod put;
 

@@ -1,6 +1,5 @@
 -- `lanes::arg_lanes` meets its contract: a literal is bound in all lanes, a variable in those of its word, a wildcard in none. Assumes nothing.
 use native.Mathlib.Omega.{arith}
-use borrow.Author.Rules.{rules}
 use Rattle.lanes.proofs.Laws.Steps.{arg_literal, arg_var, arg_other}
 use Rattle.lanes.proofs.arg_lanes.Goals as goal
 

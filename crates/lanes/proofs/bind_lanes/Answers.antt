@@ -1,12 +1,8 @@
 -- `lanes::bind_lanes` meets its contract. A negated subgoal binds nothing. The loop's invariant: the contract for the first i arguments. Assumes nothing.
 use mathlib.Core.Path.{sym, ◌∙◌}
-use mathlib.Core.Logic.{⊎_elim}
-use Prim.Native.Nat.{◌-◌, ◌≤◌}
 use native.Mathlib.Omega.{arith}
-use borrow.Author.Rules.{rules}
 use Rattle.book.specs.Held.{call_in}
-use Rattle.lanes.specs.Lanes.{Binds}
-use Rattle.lanes.proofs.Laws.Steps.{one_var, one_other, up_to, binding_none, binding_start, binding_next, binding_end}
+use Rattle.lanes.proofs.Laws.Steps.{one_var, one_other, binding_none, binding_start, binding_next, binding_end}
 use Rattle.lanes.proofs.bind_lanes.Goals.{then-v-le-LAST_VARIABLE, else-v-le-LAST_VARIABLE}
 use Rattle.lanes.proofs.bind_lanes.Goals as goal
 
@@ -38,8 +34,8 @@ loop-i-preserved c =
     let next = binding_next (call_in args.s).pred (call_in args.s).args args.r args.vars.now l.i (omega arith) in (
       omega arith,
       elim c.if-v-le-LAST_VARIABLE.branch [
-        then-v-le-LAST_VARIABLE u ↦ next (rw (← v.ensures) (one_var v.result args.r l.vars (omega arith) u.vars-is)) l.invariant.1
-      | else-v-le-LAST_VARIABLE u ↦ next (rw (← v.ensures) (one_other v.result args.r l.vars (omega arith) u.vars-is)) l.invariant.1
+        | then-v-le-LAST_VARIABLE u ↦ next (rw (← v.ensures) (one_var v.result args.r l.vars (omega arith) u.vars-is)) l.invariant.1
+        | else-v-le-LAST_VARIABLE u ↦ next (rw (← v.ensures) (one_other v.result args.r l.vars (omega arith) u.vars-is)) l.invariant.1
       ],
     )
 

@@ -1,12 +1,8 @@
 -- `lanes::bind_lanes` meets its contract. A negated subgoal binds nothing. The loop's invariant: the contract for the first i arguments. Assumes nothing.
-use mathlib.Core.Path.{sym, ◌∙◌}
-use mathlib.Core.Logic.{⊎_elim}
 use Prim.Native.Nat.{◌-◌, ◌≤◌}
-use native.Mathlib.Omega.{arith}
-use borrow.Author.Rules.{rules}
 use Rattle.book.specs.Held.{call_in}
 use Rattle.lanes.specs.Lanes.{Binds}
-use Rattle.lanes.proofs.Laws.Steps.{one_var, one_other, up_to, binding_none, binding_start, binding_next, binding_end}
+use Rattle.lanes.proofs.Laws.Steps.{up_to}
 use Rattle.lanes.proofs.bind_lanes.Given as goal
 
 abbrev pub invariant-loop-i : goal.invariant-loop-i

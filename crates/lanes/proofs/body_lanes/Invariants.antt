@@ -1,16 +1,10 @@
 -- `lanes::body_lanes` meets its contract. The loop's invariant: in each lane, so many passes from the start on are done; by the theorem of the passes,
 -- the last says where there is a good order. Assumes nothing.
-use mathlib.Core.Logic.{⊎_elim}
-use Prim.Native.Nat.{◌-◌, ◌<◌}
-use native.Mathlib.Omega.{arith}
-use borrow.Author.Tests.{not-true, leb-true, leb-false}
-use Rattle.book.specs.Limits.{max_predicates, max_subgoals}
+use Prim.Native.Nat.{◌-◌}
+use Rattle.book.specs.Limits.{max_predicates}
 use Rattle.book.specs.Held.{clause_at}
 use Rattle.book.specs.Table.{table_in}
-use Rattle.lanes.proofs.Laws.Passing.{Passing, passing_start, passing_next, passing_good, passing_still, passing_end, passing_ran}
-use Rattle.lanes.proofs.body_lanes.Lts
-use Rattle.lanes.proofs.body_lanes.Reads
-use Rattle.lanes.proofs.body_lanes.Tie
+use Rattle.lanes.proofs.Laws.Passing.{Passing}
 use Rattle.lanes.proofs.body_lanes.Given as goal
 
 abbrev pub invariant-loop-placed : goal.invariant-loop-placed

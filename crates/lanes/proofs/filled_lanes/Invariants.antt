@@ -1,9 +1,7 @@
 -- `lanes::filled_lanes` meets its contract. The loop's invariant: the word has the lanes in which the first i arguments are bound. Assumes nothing.
 use Prim.Native.Nat.{◌-◌, ◌≤◌}
-use native.Mathlib.Omega.{arith}
-use borrow.Author.Rules.{rules}
 use Rattle.book.specs.Held.{head_in}
-use Rattle.lanes.proofs.Laws.Steps.{Filling, filling_start, filling_next, filling_end}
+use Rattle.lanes.proofs.Laws.Steps.{Filling}
 use Rattle.lanes.proofs.filled_lanes.Given as goal
 
 abbrev pub invariant-loop-i : goal.invariant-loop-i

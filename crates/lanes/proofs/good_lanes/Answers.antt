@@ -1,6 +1,5 @@
 -- `lanes::good_lanes` meets its contract: in each lane, the body has a good order from what the head binds, and the head is bound when it has run. Assumes
 -- nothing.
-use borrow.Author.Rules.{rules}
 use Rattle.book.specs.Limits.{max_predicates}
 use Rattle.book.specs.Held.{head_in, clause_at}
 use Rattle.book.specs.Table.{table_in}

@@ -1,13 +1,10 @@
 -- `lanes::head_lanes` meets its contract. The loop's invariant: in each lane, what the first i positions bind is bound. Assumes nothing.
 use mathlib.Core.Path.{ap, ◌∙◌}
-use mathlib.Core.Logic.{⊎_elim}
-use Prim.Native.Nat.{◌-◌, ◌≤◌}
 use native.Mathlib.Omega.{arith}
 use lib.ListN.{length, length-set}
-use borrow.Author.Rules.{rules}
 use Rattle.book.specs.Held.{head_in}
 use Rattle.masks.proofs.Laws.Patterns.{column}
-use Rattle.lanes.proofs.Laws.Steps.{one_var, one_other, Headed, headed_start, headed_next, headed_end}
+use Rattle.lanes.proofs.Laws.Steps.{one_var, one_other, headed_start, headed_next, headed_end}
 use Rattle.lanes.proofs.head_lanes.Goals.{then-v-le-LAST_VARIABLE, else-v-le-LAST_VARIABLE}
 use Rattle.lanes.proofs.head_lanes.Goals as goal
 
@@ -41,13 +38,13 @@ loop-i-preserved c =
       omega arith,
       headed_next args l.i (omega arith) (omega arith)
           (elim c.if-v-le-LAST_VARIABLE.branch [
-            then-v-le-LAST_VARIABLE u ↦ ap length u.vars-is ∙ length-set l.vars _ _
-          | else-v-le-LAST_VARIABLE u ↦ ap length u.vars-is
+            | then-v-le-LAST_VARIABLE u ↦ ap length u.vars-is ∙ length-set l.vars _ _
+            | else-v-le-LAST_VARIABLE u ↦ ap length u.vars-is
           ])
           (rw (← v.ensures)
           (elim c.if-v-le-LAST_VARIABLE.branch [
-            then-v-le-LAST_VARIABLE u ↦ one_var v.result (column l.i) l.vars (omega arith) u.vars-is
-          | else-v-le-LAST_VARIABLE u ↦ one_other v.result (column l.i) l.vars (omega arith) u.vars-is
+            | then-v-le-LAST_VARIABLE u ↦ one_var v.result (column l.i) l.vars (omega arith) u.vars-is
+            | else-v-le-LAST_VARIABLE u ↦ one_other v.result (column l.i) l.vars (omega arith) u.vars-is
           ]))
           l.invariant.1,
     )

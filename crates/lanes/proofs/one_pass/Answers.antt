@@ -1,15 +1,12 @@
 -- `lanes::one_pass` meets its contract. The loop's invariant: the first j subgoals are visited. Assumes nothing.
-use mathlib.Core.Path.{◌≡◌}
-use mathlib.Core.Logic.{⊎_elim}
-use Prim.Native.Nat.{◌-◌, ◌≤◌, ◌<◌}
+use Prim.Native.Nat.{◌<◌}
 use native.Mathlib.Omega.{arith}
 use lib.ListN.{length}
-use borrow.Author.Rules.{rules}
-use Rattle.book.specs.Limits.{max_predicates, max_subgoals}
-use Rattle.book.specs.Held.{call_in, clause_at}
+use Rattle.book.specs.Limits.{max_predicates}
+use Rattle.book.specs.Held.{clause_at}
 use Rattle.book.specs.Table.{table_in}
 use Rattle.book.proofs.Laws.Held.{clause_at_few}
-use Rattle.lanes.proofs.Laws.Passing.{Subgoal, subgoal, Visiting, visiting_start, visiting_over, visiting_same, visiting_new, visiting_end}
+use Rattle.lanes.proofs.Laws.Passing.{subgoal, visiting_start, visiting_over, visiting_same, visiting_new, visiting_end}
 use Rattle.lanes.proofs.one_pass.Goals.{then-before+then-now-before, then-before+else-now-before, else-before}
 use Rattle.lanes.proofs.one_pass.Goals as goal
 
@@ -77,19 +74,19 @@ loop-j-preserved c =
     let few = clause_at_few p.args.rules.now p.args.k in
     let here : l.j < length body = omega arith in
     elim c.if-before.branch [
-      then-before+then-now-before u ↦
-        rw (u.vars-is, u.words-is, u.good-is, u.moved-is)
-        (visiting_new T body p.args.vars.now l.invariant here few u.ready_lanes-r.result (subgoal p.requires.1 here u.subgoal_at-s.ensures)
-        u.ready_lanes-r.ensures u.bind_lanes.ensures)
-    | then-before+else-now-before u ↦
-        rw (u.vars-is, u.words-is, u.good-is, u.moved-is)
-        (visiting_same T body p.args.vars.now l.invariant here few u.ready_lanes-r.result (subgoal p.requires.1 here u.subgoal_at-s.ensures)
-        u.ready_lanes-r.ensures u.if-now-before.false)
-    | else-before u ↦ rw (u.vars-is, u.words-is, u.good-is, u.moved-is) (visiting_over T body p.args.vars.now l.invariant here few u.if-before.false)
+      | then-before+then-now-before u ↦
+          rw (u.vars-is, u.words-is, u.good-is, u.moved-is)
+          (visiting_new T body p.args.vars.now l.invariant here few u.ready_lanes-r.result (subgoal p.requires.1 here u.subgoal_at-s.ensures)
+          u.ready_lanes-r.ensures u.bind_lanes.ensures)
+      | then-before+else-now-before u ↦
+          rw (u.vars-is, u.words-is, u.good-is, u.moved-is)
+          (visiting_same T body p.args.vars.now l.invariant here few u.ready_lanes-r.result (subgoal p.requires.1 here u.subgoal_at-s.ensures)
+          u.ready_lanes-r.ensures u.if-now-before.false)
+      | else-before u ↦ rw (u.vars-is, u.words-is, u.good-is, u.moved-is) (visiting_over T body p.args.vars.now l.invariant here few u.if-before.false)
     ]
 
 pub returns : goal.returns
-returns c = 
+returns c =
     let l = c.loop-j in
     let args = c.args in
     let n = c.subgoals_at-n.ensures in record { passed = visiting_end (table_in args.table.now max_predicates) (clause_at args.rules.now args.k).body args.vars.now (omega arith) l.invariant; placed = l.invariant.taken }

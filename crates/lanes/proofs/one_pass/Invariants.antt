@@ -1,15 +1,9 @@
 -- `lanes::one_pass` meets its contract. The loop's invariant: the first j subgoals are visited. Assumes nothing.
-use mathlib.Core.Path.{◌≡◌}
-use mathlib.Core.Logic.{⊎_elim}
-use Prim.Native.Nat.{◌-◌, ◌≤◌, ◌<◌}
-use native.Mathlib.Omega.{arith}
-use lib.ListN.{length}
-use borrow.Author.Rules.{rules}
-use Rattle.book.specs.Limits.{max_predicates, max_subgoals}
-use Rattle.book.specs.Held.{call_in, clause_at}
+use Prim.Native.Nat.{◌-◌}
+use Rattle.book.specs.Limits.{max_predicates}
+use Rattle.book.specs.Held.{clause_at}
 use Rattle.book.specs.Table.{table_in}
-use Rattle.book.proofs.Laws.Held.{clause_at_few}
-use Rattle.lanes.proofs.Laws.Passing.{Subgoal, subgoal, Visiting, visiting_start, visiting_over, visiting_same, visiting_new, visiting_end}
+use Rattle.lanes.proofs.Laws.Passing.{Visiting}
 use Rattle.lanes.proofs.one_pass.Given as goal
 
 abbrev pub invariant-loop-j : goal.invariant-loop-j

@@ -1,10 +1,8 @@
 -- `lanes::pattern_lanes` meets its contract. The loop's invariant: the words of the first i arguments are made, and the others are 0. Assumes
 -- nothing.
-use Prim.Native.Nat.{◌-◌, ◌≤◌}
 use native.Mathlib.Omega.{arith}
-use borrow.Author.Rules.{rules}
 use Rattle.book.specs.Held.{call_in}
-use Rattle.lanes.proofs.Laws.Steps.{Words, words_start, words_next, words_end}
+use Rattle.lanes.proofs.Laws.Steps.{words_start, words_next, words_end}
 use Rattle.lanes.proofs.pattern_lanes.Goals as goal
 
 pub loop-i-init : goal.loop-i-init

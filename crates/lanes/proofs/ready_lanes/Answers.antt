@@ -3,7 +3,6 @@
 use mathlib.Core.Path.{◌≡◌, sym, ap, ◌∙◌}
 use Prim.Native.Nat.{ℕ}
 use native.Mathlib.Omega.{arith}
-use borrow.Author.Rules.{rules}
 use Rattle.masks.specs.Constraint.{admits}
 use Rattle.masks.specs.Set.{bit_at}
 use Rattle.masks.specs.Patterns.{EachLane}

@@ -4,10 +4,9 @@
 use mathlib.Core.Path.{◌≡◌, refl, sym, ap, ◌∙◌, subst}
 use mathlib.Core.Bool.{true, false}
 use mathlib.Core.List.{List, []}
-use Prim.Native.Nat.{ℕ, suc, ◌-◌, ◌^◌, ◌≤◌, ◌<◌}
+use Prim.Native.Nat.{ℕ, suc, ◌^◌, ◌≤◌, ◌<◌}
 use native.Mathlib.Nat.{pow-le-pow_right}
 use native.Mathlib.Omega.{arith}
-use lib.Bits.{bit_and, bit_or, bit_xor}
 use lib.Count.{count_trailing_zeros}
 use lib.Dec.{eqb}
 use lib.ListN.{length, get_or, set, length-set, get_or-eq_default}
@@ -17,9 +16,8 @@ use Rattle.masks.specs.Limits.{all_patterns}
 use Rattle.masks.specs.Set.{bit_at, Holds, members}
 use Rattle.masks.specs.Constraint.{admits, is_written, written}
 use Rattle.masks.proofs.Laws.Logic.{by_bool, clash, by_range}
-use Rattle.masks.proofs.Laws.Lists.{values_cong}
 use Rattle.masks.proofs.Laws.Set.{bit_at_zero}
-use Rattle.masks.proofs.Laws.Members.{lowest, Over, over_start, over_end, over_lowest, over_member, over_here, over_next}
+use Rattle.masks.proofs.Laws.Members.{lowest}
 use Rattle.masks.proofs.Laws.Constraint.{is_written_mono}
 use Rattle.masks.proofs.Laws.Sets.{written_full}
 use Rattle.book.proofs.Laws.Table.{table_in_at, table_in_length}

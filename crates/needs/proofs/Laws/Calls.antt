@@ -21,7 +21,7 @@ use Rattle.book.specs.Held.{clause_at, clauses_of}
 use Rattle.book.specs.Table.{Table}
 use Rattle.book.specs.Sets.{callable, Known, Cleared}
 use Rattle.book.specs.declared.range.Range.TheVariants.{Argument}
-use Rattle.ordering.specs.Good.{at, good_clause}
+use Rattle.ordering.specs.Good.{good_clause}
 use Rattle.tables.specs.Calls.{calls, touched}
 use Rattle.tables.specs.Table.{own, defined, good}
 use Rattle.needs.specs.Sets.{each_in, some_in, Calling, Added}
@@ -29,7 +29,7 @@ use Rattle.masks.proofs.Laws.Logic.{by_bool, and_left, and_right}
 use Rattle.masks.proofs.Laws.Lists.{any_suc}
 use Rattle.masks.proofs.Laws.Set.{bit_at_zero, bit_at_or, bit_at_more}
 use Rattle.masks.proofs.Laws.Members.{Over, over_start, over_end, over_lowest, over_member, over_here, over_next}
-use Rattle.book.proofs.Laws.Sets.{callable_low, stored_more}
+use Rattle.book.proofs.Laws.Sets.{stored_more}
 use Rattle.tables.proofs.Laws.Own.{defined_snoc, touched_snoc, good_snoc}
 
 -- ---- the predicates that have clauses: those of the first k heads

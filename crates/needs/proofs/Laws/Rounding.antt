@@ -21,11 +21,11 @@ use Rattle.masks.proofs.Laws.Words.{new_none}
 use Rattle.book.specs.Limits.{max_predicates, max_clauses}
 use Rattle.book.specs.Book.{Clause, Book}
 use Rattle.book.specs.Held.{clause_at}
-use Rattle.book.specs.Table.{Table, entry, entry_in, table_in, Admitted}
+use Rattle.book.specs.Table.{entry, table_in, Admitted}
 use Rattle.book.specs.Sets.{callable, Callable}
 use Rattle.book.proofs.Laws.Held.{clauses_of_at}
 use Rattle.book.proofs.Laws.Table.{table_in_at}
-use Rattle.tables.specs.Table.{good, defined, step}
+use Rattle.tables.specs.Table.{good, step}
 use Rattle.tables.proofs.Laws.Valid.{defined_known, bodies_known, clause_callable}
 use Rattle.tables.proofs.Laws.Round.{gets_good, good_gets, good_cut}
 use Rattle.tables.proofs.Laws.Full.{step_full}

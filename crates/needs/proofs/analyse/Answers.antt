@@ -1,7 +1,6 @@
 -- `needs::analyse` meets its contract. A fault is the book's; else the book is well formed, and what is written where there is room is the image of
 -- its final table, with its rounds. Assumes nothing.
 use native.Mathlib.Omega.{arith}
-use borrow.Author.Rules.{rules}
 use Rattle.book.specs.Held.{modes_size}
 use Rattle.tables.specs.Image.{analysed}
 use Rattle.masks.proofs.Laws.Outcome.{room_enough, answers_short, answers_done}

@@ -1,5 +1,4 @@
 -- `ordering::bind_three` meets its contract. The five lowest bits of a word moved down by a byte are those of its next byte. Assumes nothing.
-use borrow.Author.Rules.{rules}
 use Rattle.ordering.proofs.Laws.Bound.{with_three}
 use Rattle.ordering.proofs.bind_three.Goals as goal
 

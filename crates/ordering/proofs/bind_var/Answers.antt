@@ -4,7 +4,6 @@ use Prim.Native.Nat.{ℕ, ◌*◌, ◌%◌, ◌^◌}
 use native.Mathlib.Omega.{arith}
 use lib.Bits.{bit_or}
 use lib.Pow.{pow-lt}
-use borrow.Author.Rules.{rules}
 use Rattle.ordering.specs.Held.{bound_of}
 use Rattle.ordering.proofs.Laws.Steps.{var_skip}
 use Rattle.ordering.proofs.Laws.Bound.{bound_more}

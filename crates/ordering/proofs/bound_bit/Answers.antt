@@ -1,7 +1,6 @@
 -- `ordering::bound_bit` meets its contract. The lowest bit of a word moved down by n is its bit n. Assumes nothing.
 use Prim.Native.Nat.{◌%◌}
 use native.Mathlib.Omega.{arith}
-use borrow.Author.Rules.{rules}
 use Rattle.ordering.proofs.Laws.Bound.{shift_bit}
 use Rattle.ordering.proofs.bound_bit.Goals as goal
 

@@ -10,15 +10,14 @@ use lib.ListN.{length}
 use lib.Pow.{pow_pos}
 use borrow.Author.Rules.{rules}
 use Rattle.masks.specs.Set.{bit_at}
-use Rattle.book.specs.Limits.{max_predicates, max_subgoals}
+use Rattle.book.specs.Limits.{max_subgoals}
 use Rattle.book.specs.Book.{Call}
 use Rattle.book.specs.Held.{clause_at}
-use Rattle.book.specs.Table.{table_in}
 use Rattle.book.proofs.Laws.Held.{clause_at_few}
-use Rattle.ordering.specs.Held.{bound_of, Marked}
+use Rattle.ordering.specs.Held.{bound_of}
 use Rattle.ordering.proofs.Laws.Bound.{power_is, start_bound, start_marked}
 use Rattle.ordering.proofs.Laws.Run.{args_read, after_read}
-use Rattle.ordering.proofs.Laws.Patterns.{patterns_none, Going, going_start, going_next, going_stuck, going_end}
+use Rattle.ordering.proofs.Laws.Patterns.{patterns_none, going_start, going_next, going_stuck, going_end}
 use Rattle.ordering.proofs.first_order.Lts
 use Rattle.ordering.proofs.first_order.Reads
 use Rattle.ordering.proofs.first_order.Tie
@@ -74,7 +73,7 @@ first_ready-t-requires c =
     (k.0, k.1, k.2, g.0, g.1.run.remain.small)
 
 pub returns-then-n-p : goal.returns-then-n-p
-returns-then-n-p c = 
+returns-then-n-p c =
     let k = c.before.before.before.before.before.before in
     let n = count k in
     let r = c.first_ready-t in
@@ -136,4 +135,4 @@ pub overflow_cast-count : goal.overflow_cast-count
 overflow_cast-count c = let k = c.before.before.before in let n = count k in let l = few k in omega arith
 
 pub returns : goal.returns
-returns c =  let n = c.subgoals_at-n in let all = going_end c.loop-i.invariant.1 n.result n.ensures (omega arith) in record { result_value = all.0; result_value_2 = all.1 }
+returns c = let n = c.subgoals_at-n in let all = going_end c.loop-i.invariant.1 n.result n.ensures (omega arith) in record { result_value = all.0; result_value_2 = all.1 }

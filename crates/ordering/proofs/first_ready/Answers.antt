@@ -10,7 +10,7 @@ use lib.ListN.{length, get_or}
 use borrow.Author.Rules.{rules}
 use Rattle.masks.specs.Limits.{max_arity}
 use Rattle.masks.specs.Set.{bit_at}
-use Rattle.masks.proofs.Laws.Members.{others_less, Over, over_start, over_end, over_lowest, over_member, over_here, over_next}
+use Rattle.masks.proofs.Laws.Members.{others_less, over_start, over_end, over_lowest, over_member, over_here, over_next}
 use Rattle.masks.proofs.Laws.Patterns.{member_below}
 use Rattle.book.specs.Limits.{max_predicates}
 use Rattle.book.specs.Book.{Call}
@@ -129,7 +129,7 @@ pub can_run-requires : goal.can_run-requires
 can_run-requires c = pattern_low c.before.before.before
 
 pub returns-then-can_run : goal.returns-then-can_run
-returns-then-can_run c = 
+returns-then-can_run c =
     let d = c.before.before.before.before.before in
     let t = d.before.before.before in
     let k = t.before.before in
@@ -147,7 +147,7 @@ loop-rest-preserved c =
     (scan_waits (left t) (passes t.before.before) (p t) (passes-here d ∙ sym c.can_run.ensures ∙ c.if-can_run.false) (here t))
 
 pub returns : goal.returns
-returns c = 
+returns c =
     let k = c.before.before in
     let l = k.args.left in
     let n = clause_at_few k.args.rules.now k.args.k in record { place_value = scan_end l (passes k) 32 (omega arith) (over_end (Scan l (passes k)) 32 l c.loop-rest.rest (scan_skip l (passes k)) c.loop-rest.invariant c.loop-rest-test.false); pattern_at = λ h. absurd (omega arith) }

@@ -1,12 +1,8 @@
 -- `ordering::head_bound` meets its contract. The loop's invariant: what is left to bind, from argument i on by the bits that are left, comes to what
 -- all come to by the pattern. Assumes nothing.
-use mathlib.Core.Logic.{⊎_elim}
-use Prim.Native.Nat.{◌-◌}
 use native.Mathlib.Omega.{arith}
-use borrow.Author.Rules.{rules}
 use Rattle.book.specs.Held.{head_in}
-use Rattle.ordering.specs.Held.{bound_of}
-use Rattle.ordering.proofs.Laws.Steps.{Heading, heading_start, heading_bound, heading_free, heading_end}
+use Rattle.ordering.proofs.Laws.Steps.{heading_start, heading_bound, heading_free, heading_end}
 use Rattle.ordering.proofs.Laws.Bound.{bound_of_zero}
 use Rattle.ordering.proofs.head_bound.Goals.{then-rest-eq1, else-rest-eq1}
 use Rattle.ordering.proofs.head_bound.Goals as goal
@@ -28,8 +24,8 @@ loop-i-preserved c =
     let n = c.arguments-n.ensures.value in
     let l = c.loop-i.invariant in
     elim c.if-rest-eq1.branch [
-      then-rest-eq1 w ↦ rw (w.b-is, w.bind_var-b.ensures, w.argument.ensures) (heading_bound l (omega arith) (omega arith))
-    | else-rest-eq1 w ↦ rw w.b-is (heading_free l (omega arith) (λ e. omega arith))
+      | then-rest-eq1 w ↦ rw (w.b-is, w.bind_var-b.ensures, w.argument.ensures) (heading_bound l (omega arith) (omega arith))
+      | else-rest-eq1 w ↦ rw w.b-is (heading_free l (omega arith) (λ e. omega arith))
     ]
 
 pub returns : goal.returns

@@ -1,13 +1,9 @@
 -- `ordering::head_bound` meets its contract. The loop's invariant: what is left to bind, from argument i on by the bits that are left, comes to what
 -- all come to by the pattern. Assumes nothing.
-use mathlib.Core.Logic.{⊎_elim}
 use Prim.Native.Nat.{◌-◌}
-use native.Mathlib.Omega.{arith}
-use borrow.Author.Rules.{rules}
 use Rattle.book.specs.Held.{head_in}
 use Rattle.ordering.specs.Held.{bound_of}
-use Rattle.ordering.proofs.Laws.Steps.{Heading, heading_start, heading_bound, heading_free, heading_end}
-use Rattle.ordering.proofs.Laws.Bound.{bound_of_zero}
+use Rattle.ordering.proofs.Laws.Steps.{Heading}
 use Rattle.ordering.proofs.head_bound.Given as goal
 
 abbrev pub invariant-loop-i : goal.invariant-loop-i

@@ -1,12 +1,10 @@
 -- `ordering::pattern` meets its contract. The bits of three bytes, or of six, cut to as many as there are arguments, are those of the arguments; and each tells
 -- whether its argument is bound. Assumes nothing.
 use mathlib.Core.Path.{◌≡◌, ap, ap₂, ◌∙◌}
-use mathlib.Core.Logic.{⊎_elim}
 use Prim.Native.Nat.{ℕ, ◌+◌, ◌*◌, ◌%◌, ◌^◌}
 use native.Mathlib.Nat.{mod-lt}
 use native.Mathlib.Omega.{arith}
 use lib.Pow.{pow_pos, pow-lt}
-use borrow.Author.Rules.{rules}
 use Rattle.ordering.proofs.Laws.Bound.{power_is, counted, pattern_three, pattern_six}
 use Rattle.ordering.proofs.pattern.Lts
 use Rattle.ordering.proofs.pattern.Reads
@@ -40,8 +38,8 @@ returns c =
     let low = c.three_bits-low.ensures.value in
     ap (λ (d : ℕ). c.if-n-le3.all % d) (divisor c)
     ∙ (elim c.if-n-le3.branch [
-      then-n-le3 w ↦ ap (λ (x : ℕ). x % 2 ^ counted s.s) (w.all-is ∙ low) ∙ pattern_three s.bound s.s k.requires.0 k.requires.1 (omega arith)
-    | else-n-le3 w ↦
-        ap (λ (x : ℕ). x % 2 ^ counted s.s) (w.all-is ∙ ap₂ (λ (x y : ℕ). x + 8 * y) low w.three_bits.ensures.value)
-        ∙ pattern_six s.bound s.s k.requires.0 k.requires.1
+      | then-n-le3 w ↦ ap (λ (x : ℕ). x % 2 ^ counted s.s) (w.all-is ∙ low) ∙ pattern_three s.bound s.s k.requires.0 k.requires.1 (omega arith)
+      | else-n-le3 w ↦
+          ap (λ (x : ℕ). x % 2 ^ counted s.s) (w.all-is ∙ ap₂ (λ (x y : ℕ). x + 8 * y) low w.three_bits.ensures.value)
+          ∙ pattern_six s.bound s.s k.requires.0 k.requires.1
     ])

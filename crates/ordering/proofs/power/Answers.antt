@@ -2,7 +2,6 @@
 use native.Mathlib.Omega.{arith}
 use Prim.Native.Nat.{◌%◌}
 use lib.Pow.{pow-lt}
-use borrow.Author.Rules.{rules}
 use Rattle.ordering.proofs.power.Goals as goal
 
 pub returns : goal.returns

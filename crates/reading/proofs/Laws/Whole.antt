@@ -7,7 +7,7 @@ use lib.ListN.{length, take, drop, length-drop}
 use Rattle.masks.specs.Limits.{max_arity}
 use Rattle.book.specs.Limits.{max_predicates, max_clauses}
 use Rattle.book.specs.Book.{Call, Mode, Clause, Book}
-use Rattle.book.specs.Format.{allows, Got, many, predicate, clause, query, rules, read_book, fault, judged, judge}
+use Rattle.book.specs.Format.{allows, Got, many, predicate, clause, rules, read_book, fault, judged, judge}
 use Rattle.book.specs.Encode.{enc_predicate, enc_clause}
 use Rattle.book.specs.Held.{modes_of, clauses_of, clause_at, StoredClause, book_in}
 use Rattle.book.specs.declared.fault.Fault.{Fault}

@@ -1,6 +1,5 @@
 -- `reading::answer` meets its contract, case by case. Assumes nothing.
 use mathlib.Core.Path.{◌∙◌}
-use borrow.Author.Rules.{rules}
 use Rattle.reading.proofs.answer.Goals as goal
 
 pub returns-in-Bad : goal.returns-in-Bad

@@ -1,5 +1,4 @@
 -- `reading::check` meets its contract: the reply of reading a book is the check's. Assumes nothing.
-use borrow.Author.Rules.{rules}
 use Rattle.reading.proofs.check.Goals as goal
 
 pub returns : goal.returns

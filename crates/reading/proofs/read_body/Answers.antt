@@ -1,12 +1,9 @@
 -- `reading::read_body` meets its contract. Each turn adds a subgoal to those read; the room left falls. Assumes nothing.
 use mathlib.Core.Path.{sym, ap, ◌∙◌}
-use Prim.Native.Nat.{◌-◌, ◌*◌}
 use native.Mathlib.Omega.{arith}
 use lib.ListN.{length-set}
 use lib.ListN.{length}
-use borrow.Author.Rules.{rules}
-use Rattle.book.specs.Held.{clause_size}
-use Rattle.reading.proofs.Laws.Bodies.{Bodying, bodying_start, bodying_inside, bodying_size, bodying_there, bodying_full, bodying_bad, bodying_next, bodying_end}
+use Rattle.reading.proofs.Laws.Bodies.{bodying_start, bodying_inside, bodying_size, bodying_there, bodying_full, bodying_bad, bodying_next, bodying_end}
 use Rattle.reading.proofs.read_body.Goals as goal
 
 pub loop-from-init : goal.loop-from-init

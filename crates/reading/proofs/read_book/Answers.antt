@@ -1,5 +1,4 @@
 -- `reading::read_book` meets its contract: its arrays have room for all. Assumes nothing.
-use borrow.Author.Rules.{rules}
 use Rattle.reading.proofs.read_book.Goals as goal
 
 pub returns : goal.returns

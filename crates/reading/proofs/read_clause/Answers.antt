@@ -1,7 +1,6 @@
 -- `reading::read_clause` meets its contract. A fault of the head is the clause's; then one of the body; else what stands behind it decides. Assumes nothing.
 use mathlib.Core.Path.{refl}
 use native.Mathlib.Omega.{arith}
-use borrow.Author.Rules.{rules}
 use Rattle.book.specs.declared.mark.Phase.TheVariants.{Body}
 use Rattle.book.specs.declared.mark.Mark.TheVariants.{Cl}
 use Rattle.book.specs.Format.{mark_at}

@@ -1,6 +1,5 @@
 -- `reading::read_into` meets its contract. The predicates have a fault, which is the book's, or what follows them decides. Assumes nothing.
 use native.Mathlib.Omega.{arith}
-use borrow.Author.Rules.{rules}
 use Rattle.records.proofs.Laws.Reads.{bad_next, next_inside}
 use Rattle.reading.proofs.Laws.Whole.{none, whole_bad, whole_arities, whole_next}
 use Rattle.reading.proofs.Laws.Judged.{reads_book}

@@ -1,5 +1,4 @@
 -- `reading::read_only` meets its contract: what reading a book comes to does not depend on the room. Assumes nothing.
-use borrow.Author.Rules.{rules}
 use Rattle.book.proofs.Laws.Held.{mode_at_zeros}
 use Rattle.reading.proofs.read_only.Goals as goal
 

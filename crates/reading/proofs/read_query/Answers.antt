@@ -1,6 +1,5 @@
 -- `reading::read_query` meets its contract: the subgoals behind the two bytes of the mark, and then what ends them. Assumes nothing.
 use native.Mathlib.Omega.{arith}
-use borrow.Author.Rules.{rules}
 use Rattle.book.specs.declared.mark.Phase.TheVariants.{Query}
 use Rattle.book.proofs.Laws.Marks.{in_query}
 use Rattle.reading.proofs.Laws.Clauses.{query_bad, query_ended}

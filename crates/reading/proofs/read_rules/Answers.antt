@@ -2,7 +2,6 @@
 use mathlib.Core.Path.{sym}
 use native.Mathlib.Omega.{arith}
 use lib.Seq.{length-take-le}
-use borrow.Author.Rules.{rules}
 use Rattle.records.proofs.Laws.Reads.{next_inside}
 use Rattle.reading.proofs.Laws.Whole.{rules_unmoded, rules_unclaused, rules_asked, rules_read}
 use Rattle.reading.proofs.read_rules.Goals as goal

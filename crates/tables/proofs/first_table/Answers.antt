@@ -1,17 +1,15 @@
 -- `tables::first_table` meets its contract. The loop's invariant: the first p constraints are those of table 0, with the patterns that they admit. Assumes
 -- nothing.
 use mathlib.Core.Path.{◌≡◌, sym, ap, subst, ◌∙◌}
-use mathlib.Core.Logic.{⊎_elim}
-use Prim.Native.Nat.{ℕ, ◌-◌, ◌≤◌}
+use Prim.Native.Nat.{ℕ}
 use native.Mathlib.Omega.{arith}
-use borrow.Author.Rules.{rules}
 use Rattle.masks.specs.Limits.{all_patterns}
 use Rattle.masks.specs.Constraint.{in_range, minimise}
 use Rattle.masks.proofs.Laws.Patterns.{ones}
 use Rattle.book.specs.Held.{modes_of}
 use Rattle.book.specs.Table.{table_in}
 use Rattle.tables.specs.Table.{first_needs}
-use Rattle.tables.proofs.Laws.Held.{first_none, first_some, Filling, filling_start, filling_next, trivial_held, trivial_full}
+use Rattle.tables.proofs.Laws.Held.{first_none, first_some, filling_start, filling_next, trivial_held, trivial_full}
 use Rattle.tables.proofs.first_table.Goals.{then-has_mode, else-has_mode}
 use Rattle.tables.proofs.first_table.Goals as goal
 
@@ -68,20 +66,20 @@ loop-p-preserved c =
     let has = sym c.has_mode.ensures in (
       omega arith,
       elim c.if-has_mode.branch [
-        then-has_mode u ↦
-          rw (u.masks-is, u.patterns-is)
-          (filling_next s.modes.now l.p u.minimised-c.result u.admitted.result (omega arith)
-          (u.minimised-c.ensures ∙ ap minimise u.masks_at.ensures ∙ first_some s.modes.now l.p (omega arith) (has ∙ u.if-has_mode.true)) u.admitted.ensures
-          l.invariant.1)
-      | else-has_mode u ↦
-          rw (u.masks-is, u.patterns-is)
-          (filling_next s.modes.now l.p 1 ones (omega arith) (trivial_held ∙ first_none s.modes.now l.p (omega arith) (has ∙ u.if-has_mode.false)) trivial_full
-          l.invariant.1)
+        | then-has_mode u ↦
+            rw (u.masks-is, u.patterns-is)
+            (filling_next s.modes.now l.p u.minimised-c.result u.admitted.result (omega arith)
+            (u.minimised-c.ensures ∙ ap minimise u.masks_at.ensures ∙ first_some s.modes.now l.p (omega arith) (has ∙ u.if-has_mode.true)) u.admitted.ensures
+            l.invariant.1)
+        | else-has_mode u ↦
+            rw (u.masks-is, u.patterns-is)
+            (filling_next s.modes.now l.p 1 ones (omega arith) (trivial_held ∙ first_none s.modes.now l.p (omega arith) (has ∙ u.if-has_mode.false)) trivial_full
+            l.invariant.1)
       ],
     )
 
 pub returns : goal.returns
-returns c = 
+returns c =
     let l = c.loop-p in
     let s = c.args in
     let e : l.p ≡ s.preds = omega arith in record { preds_after = subst (λ (n : ℕ). table_in l.masks n ≡ first_needs (modes_of s.modes.now 64) n) e l.invariant.1.is; admitted = l.invariant.1.admitted }

@@ -2,7 +2,6 @@
 use mathlib.Core.List.{List, [], ◌∷◌, ◌++◌}
 use Prim.Native.Nat.{ℕ}
 use lib.ListN.{length}
-use borrow.Author.Rules.{rules}
 use Rattle.masks.specs.Set.{members}
 use Rattle.writing.proofs.Laws.Wrote.{wrote_append, room_first, room_second}
 use Rattle.tables.proofs.put_row.Goals as goal

@@ -1,6 +1,5 @@
 -- `tally::counted` meets its contract: each branch is a case of `tallied`. Assumes nothing.
 use native.Mathlib.Omega.{arith}
-use borrow.Author.Rules.{rules}
 use Rattle.tally.proofs.Laws.Tallied.{one_accepted, one_turned_away}
 use Rattle.tally.proofs.counted.Goals as goal
 

@@ -1,14 +1,12 @@
 -- `writing::put_body` meets its contract. The loop's invariant: the first j subgoals are written. Assumes nothing.
 use mathlib.Core.Path.{ap}
-use Prim.Native.Nat.{◌-◌}
 use native.Mathlib.Omega.{arith}
 use lib.ListN.{length}
 use Rattle.book.specs.Book.{Call}
-use Rattle.book.specs.Encode.{run, enc_subgoal}
-use Rattle.book.specs.Held.{clause_at}
+use Rattle.book.specs.Encode.{enc_subgoal}
 use Rattle.writing.proofs.Laws.Wrote.{wrote_as}
-use Rattle.writing.proofs.Laws.Chunks.{Writing, writing_start, writing_length, writing_room, writing_next, writing_end}
-use Rattle.writing.proofs.Laws.Runs.{subgoals_to, subgoal_at, subgoals_chunks}
+use Rattle.writing.proofs.Laws.Chunks.{writing_start, writing_length, writing_room, writing_next, writing_end}
+use Rattle.writing.proofs.Laws.Runs.{subgoals_chunks}
 use Rattle.writing.proofs.put_body.Goals as goal
 
 pub subgoals_at-n-requires : goal.subgoals_at-n-requires

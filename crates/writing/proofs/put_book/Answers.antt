@@ -1,6 +1,5 @@
 -- `writing::put_book` meets its contract. The parts are written one after another, each where the one before it ends, and together they are the book. Assumes nothing.
 use native.Mathlib.Omega.{arith}
-use borrow.Author.Rules.{rules}
 use Rattle.writing.proofs.Laws.Book.{room_predicates, room_modes, room_clauses, room_mark, room_query, wrote_book}
 use Rattle.writing.proofs.put_book.Goals as goal
 

@@ -1,13 +1,12 @@
 -- `writing::put_call` meets its contract. The loop's invariant: behind the predicate the first i arguments are written. Assumes nothing.
 use mathlib.Core.Path.{ap, ◌∙◌}
 use mathlib.Core.List.{[], ◌∷◌}
-use Prim.Native.Nat.{ℕ, ◌-◌}
+use Prim.Native.Nat.{ℕ}
 use native.Mathlib.Omega.{arith}
-use borrow.Author.Rules.{rules}
 use Rattle.book.specs.Held.{call_in}
 use Rattle.writing.proofs.Laws.Wrote.{wrote_append, wrote_as, wrote_length, room_second}
-use Rattle.writing.proofs.Laws.Chunks.{Writing, writing_start, writing_length, writing_room, writing_next, writing_end}
-use Rattle.writing.proofs.Laws.Runs.{bytes_to, byte_at, bytes_chunks}
+use Rattle.writing.proofs.Laws.Chunks.{writing_start, writing_length, writing_room, writing_next, writing_end}
+use Rattle.writing.proofs.Laws.Runs.{bytes_chunks}
 use Rattle.writing.proofs.put_call.Goals as goal
 
 pub put_byte-p-requires : goal.put_byte-p-requires

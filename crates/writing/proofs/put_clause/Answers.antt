@@ -3,7 +3,6 @@ use mathlib.Core.Path.{ap}
 use mathlib.Core.List.{◌++◌}
 use native.Mathlib.Omega.{arith}
 use lib.ListN.{length-append, length}
-use borrow.Author.Rules.{rules}
 use Rattle.book.specs.Book.{Head}
 use Rattle.book.specs.Encode.{run, enc_head, enc_subgoal}
 use Rattle.book.specs.Held.{clause_at}

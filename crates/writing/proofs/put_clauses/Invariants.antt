@@ -1,10 +1,8 @@
 -- `writing::put_clauses` meets its contract. The loop's invariant: the first k clauses are written. Assumes nothing.
 use Prim.Native.Nat.{min, ◌-◌}
-use native.Mathlib.Omega.{arith}
-use borrow.Author.Rules.{rules}
 use Rattle.book.specs.Limits.{max_clauses}
-use Rattle.writing.proofs.Laws.Chunks.{Writing, writing_start, writing_length, writing_room, writing_next, writing_end}
-use Rattle.writing.proofs.Laws.Runs.{clauses_to, clause_bytes_at, clauses_chunks}
+use Rattle.writing.proofs.Laws.Chunks.{Writing}
+use Rattle.writing.proofs.Laws.Runs.{clauses_to, clause_bytes_at}
 use Rattle.writing.proofs.put_clauses.Given as goal
 
 abbrev pub invariant-loop-k : goal.invariant-loop-k

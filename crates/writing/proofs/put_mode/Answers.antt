@@ -2,7 +2,6 @@
 use mathlib.Core.List.{◌∷◌}
 use native.Mathlib.Omega.{arith}
 use lib.ListN.{length}
-use borrow.Author.Rules.{rules}
 use Rattle.writing.proofs.Laws.Wrote.{wrote_append, room_second}
 use Rattle.writing.proofs.put_mode.Goals as goal
 

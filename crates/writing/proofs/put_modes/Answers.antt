@@ -9,8 +9,8 @@ use Rattle.masks.proofs.Laws.Members.{others_less}
 use Rattle.book.specs.Limits.{max_predicates}
 use Rattle.book.specs.Encode.{enc_mode}
 use Rattle.writing.proofs.Laws.Wrote.{wrote_as}
-use Rattle.writing.proofs.Laws.Members.{Members, members_start, members_length, members_low, members_room, members_next, members_end}
-use Rattle.writing.proofs.Laws.Runs.{mode_bytes_at, modes_members, mode_few}
+use Rattle.writing.proofs.Laws.Members.{members_start, members_length, members_low, members_room, members_next, members_end}
+use Rattle.writing.proofs.Laws.Runs.{modes_members, mode_few}
 use Rattle.writing.proofs.put_modes.Goals as goal
 
 pub loop-rest-init : goal.loop-rest-init

@@ -1,10 +1,7 @@
 -- `writing::put_predicates` meets its contract. The loop's invariant: the first i predicates are written. Assumes nothing.
 use Prim.Native.Nat.{◌-◌}
-use native.Mathlib.Omega.{arith}
-use borrow.Author.Rules.{rules}
-use Rattle.writing.proofs.Laws.Wrote.{wrote_append, room_second}
-use Rattle.writing.proofs.Laws.Chunks.{Writing, writing_start, writing_length, writing_room, writing_next, writing_end}
-use Rattle.writing.proofs.Laws.Runs.{byte_at, predicates_to, predicate_at, predicates_chunks}
+use Rattle.writing.proofs.Laws.Chunks.{Writing}
+use Rattle.writing.proofs.Laws.Runs.{predicates_to, predicate_at}
 use Rattle.writing.proofs.put_predicates.Given as goal
 
 abbrev pub invariant-loop-i : goal.invariant-loop-i

@@ -2,7 +2,6 @@
 use mathlib.Core.Path.{sym, ap, ◌∙◌}
 use native.Mathlib.Omega.{arith}
 use lib.ListN.{length}
-use borrow.Author.Rules.{rules}
 use Rattle.book.specs.Held.{call_in}
 use Rattle.book.proofs.Laws.Bound.{subgoal_size}
 use Rattle.writing.proofs.Laws.Wrote.{wrote_append, wrote_as, wrote_length}

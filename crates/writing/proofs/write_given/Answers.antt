@@ -1,6 +1,5 @@
 -- `writing::write_given` meets its contract. The book's length decides between the two answers of an outcome that is done. Assumes nothing.
 use native.Mathlib.Omega.{arith}
-use borrow.Author.Rules.{rules}
 use Rattle.masks.proofs.Laws.Outcome.{room_enough, answers_short, answers_done}
 use Rattle.writing.proofs.write_given.Goals as goal
 

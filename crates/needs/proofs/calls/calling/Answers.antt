@@ -5,7 +5,7 @@ use native.Mathlib.Omega.{arith}
 use lib.Count.{count_trailing_zeros}
 use borrow.Author.Rules.{rules}
 use Rattle.masks.proofs.Laws.Members.{others_less}
-use Rattle.needs.proofs.Laws.Calls.{Passing, passing_start, passing_low, passing_next, passing_end}
+use Rattle.needs.proofs.Laws.Calls.{passing_start, passing_low, passing_next, passing_end}
 use Rattle.needs.proofs.calls.calling.Lts
 use Rattle.needs.proofs.calls.calling.Reads
 use Rattle.needs.proofs.calls.calling.Goals as goal

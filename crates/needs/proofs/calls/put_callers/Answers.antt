@@ -1,8 +1,6 @@
 -- `needs::calls::put_callers` meets its contract. The loop's invariant: each predicate's set has those whose first k clauses call it. Assumes nothing.
-use Prim.Native.Nat.{◌-◌}
 use native.Mathlib.Omega.{arith}
-use borrow.Author.Rules.{rules}
-use Rattle.needs.proofs.Laws.Calls.{Gathering, gathering_start, gathering_next, gathering_end}
+use Rattle.needs.proofs.Laws.Calls.{gathering_start, gathering_next, gathering_end}
 use Rattle.needs.proofs.calls.put_callers.Goals as goal
 
 pub loop-k-init : goal.loop-k-init

@@ -1,8 +1,6 @@
 -- `needs::calls::put_callers` meets its contract. The loop's invariant: each predicate's set has those whose first k clauses call it. Assumes nothing.
 use Prim.Native.Nat.{◌-◌}
-use native.Mathlib.Omega.{arith}
-use borrow.Author.Rules.{rules}
-use Rattle.needs.proofs.Laws.Calls.{Gathering, gathering_start, gathering_next, gathering_end}
+use Rattle.needs.proofs.Laws.Calls.{Gathering}
 use Rattle.needs.proofs.calls.put_callers.Given as goal
 
 abbrev pub invariant-loop-k : goal.invariant-loop-k

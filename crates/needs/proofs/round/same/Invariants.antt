@@ -1,10 +1,6 @@
 -- `needs::round::same` meets its contract. The loop's invariant: nothing differs exactly where the first p words are the same. Assumes nothing.
-use mathlib.Core.Path.{◌≡◌}
 use Prim.Native.Nat.{◌-◌, ◌≤◌}
-use native.Mathlib.Omega.{arith}
-use borrow.Author.Rules.{rules}
-use borrow.Author.Tests.{eqb-true, eqb-false}
-use Rattle.needs.proofs.Laws.Rounding.{Comparing, comparing_start, comparing_next, comparing_end}
+use Rattle.needs.proofs.Laws.Rounding.{Comparing}
 use Rattle.needs.proofs.round.same.Given as goal
 
 abbrev pub invariant-loop-p : goal.invariant-loop-p

@@ -1,17 +1,12 @@
 -- `writing::length::body_length` meets its contract. The loop's invariant: the total is the length of the first j subgoals. Assumes nothing.
 use mathlib.Core.Path.{ap}
-use Prim.Native.Nat.{◌+◌, ◌-◌}
 use native.Mathlib.Omega.{arith}
 use lib.ListN.{length}
-use borrow.Author.Rules.{rules}
-use Rattle.masks.specs.Limits.{max_arity}
 use Rattle.book.specs.Book.{Call}
-use Rattle.book.specs.Encode.{run, enc_subgoal}
-use Rattle.book.specs.Held.{clause_at}
 use Rattle.book.proofs.Laws.Bound.{subgoal_size}
 use Rattle.book.proofs.Laws.Held.{clause_at_few}
-use Rattle.writing.proofs.Laws.Chunks.{Measuring, measuring_start, measuring_next, measuring_end}
-use Rattle.writing.proofs.Laws.Runs.{subgoals_to, call_at, subgoal_at, subgoals_chunks}
+use Rattle.writing.proofs.Laws.Chunks.{measuring_start, measuring_next, measuring_end}
+use Rattle.writing.proofs.Laws.Runs.{call_at, subgoals_chunks}
 use Rattle.writing.proofs.length.body_length.Goals as goal
 
 pub loop-j-init : goal.loop-j-init
@@ -45,7 +40,7 @@ loop-j-preserved c =
     measuring_next c.loop-j.invariant (omega arith) (omega arith) (omega arith)
 
 pub returns : goal.returns
-returns c = 
+returns c =
     let k = c.before.before in
     let e = k.subgoals_at-n.ensures in
     let f = clause_at_few k.args.rules.now k.args.k in record { value = measuring_end c.loop-j.invariant (omega arith); upper_bound = omega arith }

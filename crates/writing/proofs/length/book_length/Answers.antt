@@ -1,7 +1,6 @@
 -- `writing::length::book_length` meets its contract. A book is as long as its parts together, and each part is measured. Assumes nothing.
 use native.Mathlib.Omega.{arith}
 use lib.ListN.{length-take}
-use borrow.Author.Rules.{rules}
 use Rattle.writing.proofs.Laws.Book.{book_length_lem}
 use Rattle.writing.proofs.length.book_length.Goals as goal
 

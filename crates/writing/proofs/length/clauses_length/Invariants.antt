@@ -1,15 +1,9 @@
 -- `writing::length::clauses_length` meets its contract. The loop's invariant: the total is the length of the first k clauses. Assumes nothing.
-use mathlib.Core.Path.{ap}
 use Prim.Native.Nat.{min, ◌+◌, ◌-◌, ◌*◌}
-use native.Mathlib.Omega.{arith}
-use lib.ListN.{length}
-use borrow.Author.Rules.{rules}
 use Rattle.masks.specs.Limits.{max_arity}
 use Rattle.book.specs.Limits.{max_clauses, max_subgoals}
-use Rattle.book.specs.Book.{Head}
-use Rattle.book.specs.Held.{clause_at}
-use Rattle.writing.proofs.Laws.Chunks.{Measuring, measuring_start, measuring_next, measuring_end}
-use Rattle.writing.proofs.Laws.Runs.{clauses_to, clause_bytes_at, clauses_chunks, clause_length}
+use Rattle.writing.proofs.Laws.Chunks.{Measuring}
+use Rattle.writing.proofs.Laws.Runs.{clauses_to, clause_bytes_at}
 use Rattle.writing.proofs.length.clauses_length.Given as goal
 
 abbrev pub invariant-loop-k : goal.invariant-loop-k

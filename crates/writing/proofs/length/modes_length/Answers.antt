@@ -1,15 +1,13 @@
 -- `writing::length::modes_length` meets its contract. The loop's invariant: the total is the length of the `MO` of the predicates passed. Assumes nothing.
 use mathlib.Core.Path.{sym, ap, ◌∙◌}
-use Prim.Native.Nat.{◌+◌}
 use native.Mathlib.Omega.{arith}
 use lib.Count.{count_trailing_zeros}
 use lib.ListN.{length}
 use borrow.Author.Rules.{rules}
-use Rattle.masks.specs.Limits.{max_masks}
 use Rattle.masks.proofs.Laws.Members.{others_less}
 use Rattle.book.specs.Limits.{max_predicates}
-use Rattle.writing.proofs.Laws.Members.{Measured, measured_start, measured_end, measured_low, measured_small, measured_next}
-use Rattle.writing.proofs.Laws.Runs.{mode_bytes_at, modes_members, mode_few}
+use Rattle.writing.proofs.Laws.Members.{measured_start, measured_end, measured_low, measured_small, measured_next}
+use Rattle.writing.proofs.Laws.Runs.{modes_members, mode_few}
 use Rattle.writing.proofs.length.modes_length.Goals as goal
 
 pub loop-rest-init : goal.loop-rest-init
@@ -44,6 +42,6 @@ loop-rest-preserved c =
     measured_next c.loop-rest.invariant c.loop-rest-test.true (omega arith) (omega arith)
 
 pub returns : goal.returns
-returns c = 
+returns c =
     let e = modes_members c.args.modes.now c.args.given c.requires in
     let r = measured_end c.loop-rest.invariant c.loop-rest-test.false in record { value = r.0 ∙ ap length (sym e); upper_bound = r.1 }

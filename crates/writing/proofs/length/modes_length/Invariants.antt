@@ -1,15 +1,9 @@
 -- `writing::length::modes_length` meets its contract. The loop's invariant: the total is the length of the `MO` of the predicates passed. Assumes nothing.
-use mathlib.Core.Path.{sym, ap, ◌∙◌}
 use Prim.Native.Nat.{◌+◌}
-use native.Mathlib.Omega.{arith}
-use lib.Count.{count_trailing_zeros}
-use lib.ListN.{length}
-use borrow.Author.Rules.{rules}
 use Rattle.masks.specs.Limits.{max_masks}
-use Rattle.masks.proofs.Laws.Members.{others_less}
 use Rattle.book.specs.Limits.{max_predicates}
-use Rattle.writing.proofs.Laws.Members.{Measured, measured_start, measured_end, measured_low, measured_small, measured_next}
-use Rattle.writing.proofs.Laws.Runs.{mode_bytes_at, modes_members, mode_few}
+use Rattle.writing.proofs.Laws.Members.{Measured}
+use Rattle.writing.proofs.Laws.Runs.{mode_bytes_at}
 use Rattle.writing.proofs.length.modes_length.Given as goal
 
 abbrev pub invariant-loop-rest : goal.invariant-loop-rest

@@ -1,10 +1,8 @@
 -- `writing::put::put_bytes` meets its contract. The loop's invariant: the first i bytes are written. Assumes nothing.
 use mathlib.Core.Path.{refl}
-use Prim.Native.Nat.{◌-◌}
 use native.Mathlib.Omega.{arith}
-use lib.ListN.{length}
-use Rattle.writing.proofs.Laws.Chunks.{Writing, writing_start, writing_length, writing_room, writing_next, writing_end}
-use Rattle.writing.proofs.Laws.Runs.{bytes_to, byte_at, bytes_chunks}
+use Rattle.writing.proofs.Laws.Chunks.{writing_start, writing_length, writing_room, writing_next, writing_end}
+use Rattle.writing.proofs.Laws.Runs.{bytes_chunks}
 use Rattle.writing.proofs.put.put_bytes.Goals as goal
 
 pub loop-i-init : goal.loop-i-init

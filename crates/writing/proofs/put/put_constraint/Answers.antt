@@ -4,7 +4,6 @@ use mathlib.Core.List.{◌∷◌}
 use Prim.Native.Nat.{ℕ, ◌-◌}
 use native.Mathlib.Omega.{arith}
 use lib.ListN.{length}
-use borrow.Author.Rules.{rules}
 use Rattle.masks.specs.Set.{members}
 use Rattle.masks.proofs.Laws.Sets.{members_most}
 use Rattle.writing.proofs.Laws.Wrote.{wrote_append, wrote_before, wrote_as, wrote_length}

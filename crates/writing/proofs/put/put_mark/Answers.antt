@@ -1,6 +1,5 @@
 -- `writing::put::put_mark` meets its contract. One byte after another, and two bytes are the whole mark. Assumes nothing.
 use native.Mathlib.Omega.{arith}
-use borrow.Author.Rules.{rules}
 use Rattle.writing.proofs.Laws.Wrote.{wrote_append, wrote_as, two_bytes}
 use Rattle.writing.proofs.put.put_mark.Goals as goal
 
