@@ -22,6 +22,7 @@
 // N and V are the number and the value of a reply. A line of another kind, or another OP, prints `?`. A reply that altered a byte it had to leave adds
 // the word `spoiled`. Of the input the first 2,097,152 bytes are read, of a book 8,192, of a run 20,480, of a list of masks 32; a number of a tally counts as
 // 1,000,000,000 at most; a room has at most 164,585.
+#![tactic(auto)]
 mod again;
 mod fits;
 mod operations;

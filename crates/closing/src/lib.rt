@@ -1,6 +1,7 @@
 // Closed books: chosen predicates lose their clauses and are given what they need instead. A set of predicates is held in a word: predicate p is in
 // it where bit p is set.
 #![tactic(auto)]
+
 ghost use Rattle.std.specs.Prelude.{◌+◌, ◌≤◌};
 ghost use Rattle.masks.specs.Outcome.{Answers};
 ghost use Rattle.masks.specs.Set.{bit_at, Holds};

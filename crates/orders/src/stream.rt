@@ -1,57 +1,50 @@
 // Standard input read until it ends, and standard output written whole. A signal's interruption is no failure: the call is made again.
+ghost use Rattle.std.specs.Prelude.{IfOk};
 ghost use Rattle.io.specs.Counts.{IsPrefixLen};
 
-use libc::{EINTR, STDIN_FILENO, STDOUT_FILENO};
+use std::io::{Error, ErrorKind, Read, Result, Stdin, Stdout, Write};
 
 // The most calls that a reading or a writing takes, since a loop has to end; each moves a byte at least, unless it is interrupted.
 const CALLS: u64 = 1000000;
 
-// How many bytes were read, and whether a read failed.
-#[derive(Clone, Copy)]
-pub struct Input {
-    pub n: usize,
-    pub failed: bool,
-}
-
-// Reads until the input ends, the room is full or a read fails; the bytes stand at the room's start.
-pub fn read_input(room: &mut [u8]) -> Input
-    ensures { IsPrefixLen result.n room.new }
+// Reads until the input ends, the room is full or a read fails; how many bytes were read, which stand at the room's start.
+pub fn read_input(input: &mut Stdin, room: &mut [u8]) -> Result<usize>
+    ensures { IfOk result (λ n. IsPrefixLen n room.new) }
 {
     let mut n: usize = 0;
-    let mut left = CALLS;
-    while left != 0 {
-        left -= 1;
-        let got = libc::read(STDIN_FILENO, &mut room[n..]);
-        if got == 0 {
-            return Input { n, failed: false };
+    for _ in 0..CALLS {
+        match input.read(&mut room[n..]) {
+            Ok(got) => {
+                if got == 0 {
+                    return Ok(n);
+                }
+                n += got;
+            }
+            Err(e) => {
+                if e.kind() != ErrorKind::Interrupted {
+                    return Err(e);
+                }
+            }
         }
-        if failed(got) {
-            return Input { n, failed: true };
-        }
-        n += io::count(got, &room[n..]);
     }
-    Input { n, failed: true }
+    Err(Error::from(ErrorKind::Interrupted))
 }
 
-// Writes all of a text; false where a write fails.
-pub fn write_output(text: &[u8]) -> bool {
+// Writes all of a text, or gives the error of the write that fails.
+pub fn write_output(output: &mut Stdout, text: &[u8]) -> Result<()> {
     let mut n: usize = 0;
-    let mut left = CALLS;
-    while left != 0 {
-        left -= 1;
+    for _ in 0..CALLS {
         if n == text.len() {
-            return true;
+            return Ok(());
         }
-        let put = libc::write(STDOUT_FILENO, &text[n..]);
-        if failed(put) {
-            return false;
+        match output.write(&text[n..]) {
+            Ok(put) => n += put,
+            Err(e) => {
+                if e.kind() != ErrorKind::Interrupted {
+                    return Err(e);
+                }
+            }
         }
-        n += io::count(put, &text[n..]);
     }
-    false
-}
-
-// The call that just answered so failed, and not by a signal's interruption.
-fn failed(answer: isize) -> bool {
-    answer < 0 && os::errno() != EINTR
+    Err(Error::from(ErrorKind::Interrupted))
 }

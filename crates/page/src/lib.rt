@@ -2,6 +2,7 @@
 // final table as it is read, and its answer waits in an image of a page's full length; only a run without a fault, whose answers have room, is copied to the
 // output. The tally goes through by value, and is lent to one step for each query.
 #![tactic(auto)]
+
 ghost use Rattle.std.specs.Prelude.{◌≡◌, true, ◌+◌, ◌≤◌, length};
 ghost use Rattle.book.specs.Limits.{max_predicates, max_clauses};
 ghost use Rattle.book.specs.Held.{clause_at};

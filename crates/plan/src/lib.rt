@@ -1,5 +1,6 @@
 // The plan of a book: the orders of what its query leads to, and the public operation `plan`.
 #![tactic(auto)]
+
 pub mod image;
 
 ghost use Rattle.masks.specs.Outcome.{Answers};

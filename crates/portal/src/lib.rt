@@ -1,6 +1,7 @@
 // The operations as C functions: a slice is a pointer and a length, and the reply is given back as C lays it out. What each promises is said by the
 // definitions that the demands are stated over, `outcome` and `checked`; include/shodhvirup.h says it in words.
 #![tactic(auto)]
+
 ghost use Rattle.std.specs.Prelude.{◌≡◌};
 ghost use Rattle.masks.specs.Outcome.{Answers};
 ghost use Rattle.book.specs.Format.{judge};

@@ -1,6 +1,7 @@
 // The patterns reached, by a work list: the predicates that have patterns not gone over yet. Any order of work gives the same patterns; here the lowest
 // predicate comes first. Patterns are marked in words, one for each predicate; sets of predicates and of clauses are words too.
 #![tactic(auto)]
+
 ghost use Rattle.std.specs.Prelude.{◌≡◌, true, ◌<◌, ◌≤◌, length, get_or};
 ghost use Rattle.book.specs.Limits.{max_predicates, max_clauses};
 ghost use Rattle.book.specs.Held.{clause_at};

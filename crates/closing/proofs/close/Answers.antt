@@ -1,5 +1,4 @@
 -- `closing::close` meets its contract. A book that is refused once it is read, with no room for it, is refused with room as well. Assumes nothing.
-use borrow.Author.Rules.{rules}
 use Rattle.closing.proofs.Laws.Refused.{lacking_some}
 use Rattle.closing.proofs.close.Goals as goal
 

@@ -3,7 +3,7 @@
 use native.Mathlib.Omega.{arith}
 use borrow.Author.Rules.{rules}
 use Rattle.masks.proofs.Laws.Members.{others_less}
-use Rattle.closing.proofs.Laws.Moding.{Moding, moding_start, moding_low, moding_member, moding_next, moding_end}
+use Rattle.closing.proofs.Laws.Moding.{moding_start, moding_low, moding_member, moding_next, moding_end}
 use Rattle.closing.proofs.close_modes.Goals as goal
 
 pub loop-rest-init : goal.loop-rest-init

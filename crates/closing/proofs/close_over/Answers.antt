@@ -6,10 +6,9 @@ use mathlib.Core.Option.{none}
 use Prim.Native.Nat.{ℕ}
 use borrow.Author.Rules.{rules}
 use Rattle.book.specs.Book.{Book}
-use Rattle.book.specs.Format.{book}
 use Rattle.book.specs.Held.{book_in, modes_size}
 use Rattle.needs.specs.Round.{Held}
-use Rattle.closing.specs.Close.{lacked, close, closed, closing}
+use Rattle.closing.specs.Close.{lacked, closed, closing}
 use Rattle.book.proofs.Laws.Held.{mode_at_zeros}
 use Rattle.book.proofs.Laws.Sets.{cleared_zeros}
 use Rattle.reading.proofs.Laws.Judged.{read_well, read_made}

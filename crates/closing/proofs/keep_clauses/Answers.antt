@@ -1,15 +1,11 @@
 -- `closing::keep_clauses` meets its contract. The loop's invariant: of the first k clauses those that stay are the first n, and the clauses ahead are
 -- as they were. Assumes nothing.
 use mathlib.Core.Path.{◌≡◌, sym, ap, ◌∙◌}
-use mathlib.Core.Logic.{⊎_elim}
-use Prim.Native.Nat.{◌-◌}
 use native.Mathlib.Omega.{arith}
-use borrow.Author.Rules.{rules}
-use borrow.Author.Tests.{not-true, not-false}
 use Rattle.masks.specs.Set.{bit_at}
 use Rattle.book.specs.Book.{Head}
 use Rattle.book.specs.Held.{clause_at}
-use Rattle.closing.proofs.Laws.Keeping.{Keeping, keeping_start, keeping_low, keeping_drop, keeping_move, keeping_end}
+use Rattle.closing.proofs.Laws.Keeping.{keeping_start, keeping_low, keeping_drop, keeping_move, keeping_end}
 use Rattle.closing.proofs.keep_clauses.Lts
 use Rattle.closing.proofs.keep_clauses.Reads
 use Rattle.closing.proofs.keep_clauses.Tie
@@ -53,8 +49,8 @@ loop-k-preserved c =
     let q = is c.before.before in
     let has = sym c.has_member.ensures in
     elim c.if-not-has_member.branch [
-      then-not-has_member w ↦ rw (w.rules-is, w.n-is) (keeping_move l (omega arith) q (has ∙ w.if-not-has_member.true) w.move_clause.ensures)
-    | else-not-has_member w ↦ rw (w.rules-is, w.n-is) (keeping_drop l (omega arith) q (has ∙ w.if-not-has_member.false))
+      | then-not-has_member w ↦ rw (w.rules-is, w.n-is) (keeping_move l (omega arith) q (has ∙ w.if-not-has_member.true) w.move_clause.ensures)
+      | else-not-has_member w ↦ rw (w.rules-is, w.n-is) (keeping_drop l (omega arith) q (has ∙ w.if-not-has_member.false))
     ]
 
 pub returns : goal.returns

@@ -1,18 +1,8 @@
 -- `closing::keep_clauses` meets its contract. The loop's invariant: of the first k clauses those that stay are the first n, and the clauses ahead are
 -- as they were. Assumes nothing.
-use mathlib.Core.Path.{◌≡◌, sym, ap, ◌∙◌}
-use mathlib.Core.Logic.{⊎_elim}
 use Prim.Native.Nat.{◌-◌}
-use native.Mathlib.Omega.{arith}
-use borrow.Author.Rules.{rules}
-use borrow.Author.Tests.{not-true, not-false}
 use Rattle.masks.specs.Set.{bit_at}
-use Rattle.book.specs.Book.{Head}
-use Rattle.book.specs.Held.{clause_at}
-use Rattle.closing.proofs.Laws.Keeping.{Keeping, keeping_start, keeping_low, keeping_drop, keeping_move, keeping_end}
-use Rattle.closing.proofs.keep_clauses.Lts
-use Rattle.closing.proofs.keep_clauses.Reads
-use Rattle.closing.proofs.keep_clauses.Tie
+use Rattle.closing.proofs.Laws.Keeping.{Keeping}
 use Rattle.closing.proofs.keep_clauses.Given as goal
 
 abbrev pub invariant-loop-k : goal.invariant-loop-k

@@ -1,7 +1,6 @@
 -- `page::answer_query` meets its contract: the order found is the query's first good one, and the answer is made of it. Assumes nothing.
 use mathlib.Core.Path.{◌≡◌}
 use native.Mathlib.Omega.{arith}
-use borrow.Author.Rules.{rules}
 use Rattle.book.specs.Limits.{max_predicates, max_clauses}
 use Rattle.book.specs.Held.{clause_at}
 use Rattle.book.specs.Table.{table_in}
@@ -42,7 +41,7 @@ put_answer-next-requires c =
     omega arith
 
 pub returns : goal.returns
-returns c = 
+returns c =
     let k = c.before.before.before.before.before in
     let s = k.args in
     let few = clause_at_few s.rules.now max_clauses in

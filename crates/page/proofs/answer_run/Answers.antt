@@ -2,15 +2,11 @@
 -- falls. Assumes nothing.
 use mathlib.Core.Path.{◌≡◌, sym, ◌∙◌}
 use mathlib.Core.Bool.{true}
-use Prim.Native.Nat.{◌-◌}
 use native.Mathlib.Omega.{arith}
 use lib.ListN.{drop}
-use borrow.Author.Rules.{rules}
-use Rattle.book.specs.Limits.{max_predicates}
 use Rattle.book.specs.Format.{spelling, leads}
-use Rattle.book.specs.Table.{table_in}
 use Rattle.book.specs.declared.mark.Mark.TheVariants.{Qu}
-use Rattle.page.proofs.Laws.Asking.{Asking, asking_start, asking_long, asking_there, asking_full, asking_bad, asking_callable, asking_next, asking_end}
+use Rattle.page.proofs.Laws.Asking.{asking_start, asking_long, asking_there, asking_full, asking_bad, asking_callable, asking_next, asking_end}
 use Rattle.page.proofs.answer_run.Lts
 use Rattle.page.proofs.answer_run.Reads
 use Rattle.page.proofs.answer_run.Tie

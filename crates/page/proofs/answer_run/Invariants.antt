@@ -1,19 +1,9 @@
 -- `page::answer_run` meets its contract. Each turn reads a query behind those read, writes its answer behind theirs and counts it; the room left for queries
 -- falls. Assumes nothing.
-use mathlib.Core.Path.{◌≡◌, sym, ◌∙◌}
-use mathlib.Core.Bool.{true}
 use Prim.Native.Nat.{◌-◌}
-use native.Mathlib.Omega.{arith}
-use lib.ListN.{drop}
-use borrow.Author.Rules.{rules}
 use Rattle.book.specs.Limits.{max_predicates}
-use Rattle.book.specs.Format.{spelling, leads}
 use Rattle.book.specs.Table.{table_in}
-use Rattle.book.specs.declared.mark.Mark.TheVariants.{Qu}
-use Rattle.page.proofs.Laws.Asking.{Asking, asking_start, asking_long, asking_there, asking_full, asking_bad, asking_callable, asking_next, asking_end}
-use Rattle.page.proofs.answer_run.Lts
-use Rattle.page.proofs.answer_run.Reads
-use Rattle.page.proofs.answer_run.Tie
+use Rattle.page.proofs.Laws.Asking.{Asking}
 use Rattle.page.proofs.answer_run.Given as goal
 
 abbrev pub invariant-loop-bytes : goal.invariant-loop-bytes

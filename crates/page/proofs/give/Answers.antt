@@ -3,7 +3,6 @@
 use mathlib.Core.Path.{sym, ap, ◌∙◌}
 use Prim.Native.Nat.{ℕ}
 use native.Mathlib.Omega.{arith}
-use borrow.Author.Rules.{rules}
 use Rattle.masks.proofs.Laws.Outcome.{room_enough}
 use Rattle.writing.proofs.Laws.Wrote.{Front}
 use Rattle.page.proofs.Laws.Given.{lent_arities, lent_size, lent_full, give_bad, give_front, give_short, give_done}

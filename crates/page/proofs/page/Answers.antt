@@ -1,6 +1,5 @@
 -- `page::page` meets its contract. A fault is the book's; else the book is well formed and its final table is settled, and what is given is its page. Assumes
 -- nothing.
-use borrow.Author.Rules.{rules}
 use Rattle.book.specs.Held.{modes_size}
 use Rattle.book.proofs.Laws.Held.{mode_at_zeros}
 use Rattle.book.proofs.Laws.Sets.{cleared_zeros}

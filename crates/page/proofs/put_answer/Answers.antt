@@ -2,7 +2,6 @@
 use mathlib.Core.Path.{sym, ap}
 use native.Mathlib.Omega.{arith}
 use lib.ListN.{length}
-use borrow.Author.Rules.{rules}
 use borrow.Author.Tests.{not-true, not-false}
 use Rattle.writing.proofs.Laws.Wrote.{wrote_append, wrote_as}
 use Rattle.page.proofs.Laws.Answer.{answered_none, answered_some}

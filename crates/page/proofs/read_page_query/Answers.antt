@@ -2,7 +2,6 @@
 -- nothing.
 use mathlib.Core.Path.{refl}
 use native.Mathlib.Omega.{arith}
-use borrow.Author.Rules.{rules}
 use Rattle.book.specs.Format.{mark_at}
 use Rattle.book.specs.declared.mark.Mark.TheVariants.{Qu}
 use Rattle.book.specs.declared.mark.Phase.TheVariants.{PageQuery}

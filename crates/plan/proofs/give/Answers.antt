@@ -3,7 +3,6 @@
 use mathlib.Core.List.{List}
 use Prim.Native.Nat.{ℕ}
 use native.Mathlib.Omega.{arith}
-use borrow.Author.Rules.{rules}
 use borrow.Author.Tests.{not-true, not-false}
 use Rattle.book.specs.Limits.{max_predicates, max_clauses}
 use Rattle.book.specs.Held.{clause_at}
@@ -56,7 +55,7 @@ returns-then-not-query c B l =
     (answers_refused 7 0 s.out.now c.refused.ensures)
 
 pub reach-requires : goal.reach-requires
-reach-requires c = 
+reach-requires c =
     let d = c.before.before.before.before in
     let s = d.args in
     let h = d.requires in

@@ -1,5 +1,4 @@
 -- `plan::plan` meets its contract. A fault is the book's; else the book is well formed and its final table is settled, and what is given is its plan. Assumes nothing.
-use borrow.Author.Rules.{rules}
 use Rattle.book.specs.Held.{modes_size}
 use Rattle.choices.specs.Plan.{planned}
 use Rattle.book.proofs.Laws.Held.{mode_at_zeros}

@@ -1,12 +1,11 @@
 -- `reach::mark_calls` meets its contract. The loop's invariant: the calls at the first i places of the order are marked. Assumes nothing.
-use Prim.Native.Nat.{◌-◌, ◌<◌}
+use Prim.Native.Nat.{◌<◌}
 use native.Mathlib.Omega.{arith}
 use lib.ListN.{length, get_or}
-use borrow.Author.Rules.{rules}
 use Rattle.book.specs.Held.{clause_at}
 use Rattle.ordering.proofs.Laws.Run.{pred_read}
 use Rattle.ordering.proofs.Laws.Patterns.{order_below, pattern_low}
-use Rattle.reach.proofs.Laws.Marking.{Marking, marking_start, marking_next, marking_end}
+use Rattle.reach.proofs.Laws.Marking.{marking_start, marking_next, marking_end}
 use Rattle.reach.proofs.mark_calls.Lts
 use Rattle.reach.proofs.mark_calls.Reads
 use Rattle.reach.proofs.mark_calls.Tie
@@ -72,6 +71,6 @@ loop-i-preserved c =
     marking_next d.subgoal_at-s.result d.loop-i.invariant (omega arith) d.subgoal_at-s.ensures d.predicate-p.ensures (low d) c.with_member.ensures c.with_member-names.ensures
 
 pub returns : goal.returns
-returns c = 
+returns c =
     let s = c.args in
     let n = c.order_length-n.ensures.value in record { marks = λ T b found. marking_end T (clause_at s.rules.now s.k).body b s.o found c.loop-i.invariant n (omega arith); reached_len = c.words-1.given.0.1 }

@@ -1,15 +1,7 @@
 -- `reach::mark_calls` meets its contract. The loop's invariant: the calls at the first i places of the order are marked. Assumes nothing.
-use Prim.Native.Nat.{◌-◌, ◌<◌}
-use native.Mathlib.Omega.{arith}
-use lib.ListN.{length, get_or}
-use borrow.Author.Rules.{rules}
+use Prim.Native.Nat.{◌-◌}
 use Rattle.book.specs.Held.{clause_at}
-use Rattle.ordering.proofs.Laws.Run.{pred_read}
-use Rattle.ordering.proofs.Laws.Patterns.{order_below, pattern_low}
-use Rattle.reach.proofs.Laws.Marking.{Marking, marking_start, marking_next, marking_end}
-use Rattle.reach.proofs.mark_calls.Lts
-use Rattle.reach.proofs.mark_calls.Reads
-use Rattle.reach.proofs.mark_calls.Tie
+use Rattle.reach.proofs.Laws.Marking.{Marking}
 use Rattle.reach.proofs.mark_calls.Given as goal
 
 abbrev pub invariant-loop-i : goal.invariant-loop-i

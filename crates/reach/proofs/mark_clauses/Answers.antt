@@ -16,7 +16,7 @@ use Rattle.ordering.specs.Asks.{Asked}
 use Rattle.reach.specs.Marked.{Found, clause_by, clauses_by}
 use Rattle.masks.proofs.Laws.Members.{others_less}
 use Rattle.reach.proofs.Laws.Marked.{found_clause}
-use Rattle.reach.proofs.Laws.Passing.{Passing, passing_start, passing_low, passing_member, passing_next, passing_end}
+use Rattle.reach.proofs.Laws.Passing.{passing_start, passing_low, passing_member, passing_next, passing_end}
 use Rattle.reach.proofs.mark_clauses.Lts
 use Rattle.reach.proofs.mark_clauses.Reads
 use Rattle.reach.proofs.mark_clauses.Tie

@@ -6,7 +6,7 @@ use lib.Count.{count_trailing_zeros}
 use borrow.Author.Rules.{rules}
 use Rattle.reach.specs.Marked.{clauses_by, patterns_by}
 use Rattle.masks.proofs.Laws.Members.{others_less}
-use Rattle.reach.proofs.Laws.Passing.{Passing, passing_start, passing_low, passing_next, passing_end}
+use Rattle.reach.proofs.Laws.Passing.{passing_start, passing_low, passing_next, passing_end}
 use Rattle.reach.proofs.mark_patterns.Lts
 use Rattle.reach.proofs.mark_patterns.Reads
 use Rattle.reach.proofs.mark_patterns.Tie

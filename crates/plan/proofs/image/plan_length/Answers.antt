@@ -1,12 +1,10 @@
 -- `plan::image::plan_length` meets its contract. The loop's invariant: the total is the length of the query's part and of the rows of the first p
 -- predicates. Assumes nothing.
 use mathlib.Core.Path.{ap}
-use mathlib.Core.Logic.{⊎_elim}
-use Prim.Native.Nat.{ℕ, ◌+◌, ◌-◌}
+use Prim.Native.Nat.{ℕ, ◌+◌}
 use native.Mathlib.Omega.{arith}
-use borrow.Author.Rules.{rules}
 use Rattle.book.proofs.Laws.Held.{clause_at_few}
-use Rattle.plan.proofs.Laws.Lengths.{Planning, planning_start, planning_most, planning_next, planning_skip, planning_end}
+use Rattle.plan.proofs.Laws.Lengths.{planning_start, planning_most, planning_next, planning_skip, planning_end}
 use Rattle.plan.proofs.image.plan_length.Goals.{then-own-q-ne0, else-own-q-ne0}
 use Rattle.plan.proofs.image.plan_length.Goals as goal
 
@@ -53,8 +51,8 @@ pub loop-p-preserved : goal.loop-p-preserved
 loop-p-preserved c =
     let d = c.loop-p.invariant in
     elim c.if-own-q-ne0.branch [
-      then-own-q-ne0 u ↦ rw u.total-is (planning_next d (omega arith) u.rows_length.ensures.value (u.count-patterns.ensures.value, u.count-patterns.ensures.upper_bound))
-    | else-own-q-ne0 u ↦ rw u.total-is (planning_skip d (omega arith) u.if-own-q-ne0.false)
+      | then-own-q-ne0 u ↦ rw u.total-is (planning_next d (omega arith) u.rows_length.ensures.value (u.count-patterns.ensures.value, u.count-patterns.ensures.upper_bound))
+      | else-own-q-ne0 u ↦ rw u.total-is (planning_skip d (omega arith) u.if-own-q-ne0.false)
     ]
 
 pub returns : goal.returns

@@ -2,10 +2,9 @@
 -- Assumes nothing.
 use native.Mathlib.Omega.{arith}
 use borrow.Author.Rules.{rules}
-use Rattle.choices.specs.Plan.{enc_row}
-use Rattle.plan.specs.Lent.{row_by, clause_rows}
+use Rattle.plan.specs.Lent.{clause_rows}
 use Rattle.masks.proofs.Laws.Members.{others_less}
-use Rattle.writing.proofs.Laws.Members.{Members, members_start, members_length, members_low, members_member, members_room, members_next, members_end}
+use Rattle.writing.proofs.Laws.Members.{members_start, members_length, members_low, members_member, members_room, members_next, members_end}
 use Rattle.plan.proofs.image.put_clauses.Goals as goal
 
 pub loop-rest-init : goal.loop-rest-init

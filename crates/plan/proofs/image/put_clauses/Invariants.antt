@@ -1,11 +1,8 @@
 -- `plan::image::put_clauses` meets its contract. The loop goes over the clauses of the set; its invariant: the rows of those passed are written.
 -- Assumes nothing.
-use native.Mathlib.Omega.{arith}
-use borrow.Author.Rules.{rules}
 use Rattle.choices.specs.Plan.{enc_row}
-use Rattle.plan.specs.Lent.{row_by, clause_rows}
-use Rattle.masks.proofs.Laws.Members.{others_less}
-use Rattle.writing.proofs.Laws.Members.{Members, members_start, members_length, members_low, members_member, members_room, members_next, members_end}
+use Rattle.plan.specs.Lent.{row_by}
+use Rattle.writing.proofs.Laws.Members.{Members}
 use Rattle.plan.proofs.image.put_clauses.Given as goal
 
 abbrev pub invariant-loop-rest : goal.invariant-loop-rest

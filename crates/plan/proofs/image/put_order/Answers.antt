@@ -5,7 +5,6 @@ use mathlib.Core.List.{[], ◌∷◌}
 use Prim.Native.Nat.{ℕ}
 use native.Mathlib.Omega.{arith}
 use lib.ListN.{length}
-use borrow.Author.Rules.{rules}
 use Rattle.ordering.specs.Held.{places_of}
 use Rattle.ordering.specs.declared.Order.{Order}
 use Rattle.writing.proofs.Laws.Wrote.{Front, front, wrote_append, wrote_as, room_second}

@@ -2,9 +2,9 @@
 -- written. Assumes nothing.
 use native.Mathlib.Omega.{arith}
 use borrow.Author.Rules.{rules}
-use Rattle.plan.specs.Lent.{clause_rows, pattern_rows}
+use Rattle.plan.specs.Lent.{pattern_rows}
 use Rattle.masks.proofs.Laws.Members.{others_less}
-use Rattle.writing.proofs.Laws.Members.{Members, members_start, members_length, members_low, members_room, members_next, members_end}
+use Rattle.writing.proofs.Laws.Members.{members_start, members_length, members_low, members_room, members_next, members_end}
 use Rattle.plan.proofs.image.put_patterns.Goals as goal
 
 pub loop-rest-init : goal.loop-rest-init

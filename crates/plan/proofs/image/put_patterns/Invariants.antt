@@ -1,10 +1,7 @@
 -- `plan::image::put_patterns` meets its contract. The loop goes over the patterns of the set; its invariant: the rows under those passed are
 -- written. Assumes nothing.
-use native.Mathlib.Omega.{arith}
-use borrow.Author.Rules.{rules}
-use Rattle.plan.specs.Lent.{clause_rows, pattern_rows}
-use Rattle.masks.proofs.Laws.Members.{others_less}
-use Rattle.writing.proofs.Laws.Members.{Members, members_start, members_length, members_low, members_room, members_next, members_end}
+use Rattle.plan.specs.Lent.{clause_rows}
+use Rattle.writing.proofs.Laws.Members.{Members}
 use Rattle.plan.proofs.image.put_patterns.Given as goal
 
 abbrev pub invariant-loop-rest : goal.invariant-loop-rest

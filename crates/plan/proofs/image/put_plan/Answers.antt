@@ -1,15 +1,12 @@
 -- `plan::image::put_plan` meets its contract. The query's part is written; the loop's invariant: behind it are the rows of the first p predicates.
 -- Assumes nothing.
 use mathlib.Core.Path.{◌∙◌}
-use mathlib.Core.List.{List}
-use Prim.Native.Nat.{ℕ, ◌-◌}
 use native.Mathlib.Omega.{arith}
-use lib.ListN.{get_or}
 use Rattle.masks.specs.Lists.{joined}
 use Rattle.ordering.specs.Held.{places_of}
 use Rattle.choices.specs.Plan.{enc_query}
-use Rattle.plan.specs.Lent.{pattern_rows, plan_bytes}
-use Rattle.writing.proofs.Laws.Chunks.{Writing, joined_chunks, writing_start, writing_length, writing_room, writing_next, writing_end}
+use Rattle.plan.specs.Lent.{plan_bytes}
+use Rattle.writing.proofs.Laws.Chunks.{joined_chunks, writing_start, writing_length, writing_room, writing_next, writing_end}
 use Rattle.writing.proofs.Laws.Wrote.{wrote_append, wrote_length, room_first, room_second}
 use Rattle.plan.proofs.image.put_plan.Invariants.{rows}
 use Rattle.plan.proofs.image.put_plan.Goals as goal

@@ -1,5 +1,4 @@
 -- `plan::image::put_query` meets its contract. The mark is written, and then the order. Assumes nothing.
-use borrow.Author.Rules.{rules}
 use Rattle.writing.proofs.Laws.Wrote.{wrote_append}
 use Rattle.plan.proofs.image.put_query.Goals as goal
 

@@ -4,7 +4,6 @@ use mathlib.Core.Path.{◌≡◌, ap}
 use mathlib.Core.List.{◌∷◌}
 use native.Mathlib.Omega.{arith}
 use lib.ListN.{length}
-use borrow.Author.Rules.{rules}
 use Rattle.ordering.specs.Held.{places_of}
 use Rattle.choices.specs.Plan.{enc_row}
 use Rattle.plan.specs.Lent.{row_by}

@@ -3,7 +3,7 @@
 use native.Mathlib.Omega.{arith}
 use borrow.Author.Rules.{rules}
 use Rattle.masks.proofs.Laws.Members.{others_less}
-use Rattle.plan.proofs.Laws.Lengths.{Adding, adding_start, adding_low, adding_most, adding_next, adding_end, rows_most}
+use Rattle.plan.proofs.Laws.Lengths.{adding_start, adding_low, adding_most, adding_next, adding_end, rows_most}
 use Rattle.plan.proofs.image.rows_length.Goals as goal
 
 pub loop-rest-init : goal.loop-rest-init
@@ -28,6 +28,6 @@ pub loop-rest-preserved : goal.loop-rest-preserved
 loop-rest-preserved c = adding_next c.loop-rest.invariant c.loop-rest-test.true c.subgoals_at.ensures
 
 pub returns : goal.returns
-returns c = 
+returns c =
     let e = adding_end c.loop-rest.invariant c.loop-rest-test.false in
     let m = rows_most c.args.rules.now c.args.own in record { value = e; upper_bound = omega arith }
