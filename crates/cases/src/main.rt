@@ -23,6 +23,7 @@
 // the word `spoiled`. Of the input the first 2,097,152 bytes are read, of a book 8,192, of a run 20,480, of a list of masks 32; a number of a tally counts as
 // 1,000,000,000 at most; a room has at most 164,585.
 #![tactic(auto)]
+
 mod again;
 mod fits;
 mod operations;

@@ -1,6 +1,7 @@
 // Lines and their fields, for the programs: fields are parted by single spaces, and lines end in a newline. Bytes stand in them as hexadecimal digits,
 // two a byte, or as `-` where there are none.
 #![tactic(auto)]
+
 ghost use Rattle.std.specs.Prelude.{◌≡◌, ◌+◌, ◌≤◌, min, length, take, drop};
 ghost use Rattle.io.specs.Counts.{IsPrefixLen};
 ghost use Rattle.lines.specs.Line.{before, field_of, starts_with, inputs_of};

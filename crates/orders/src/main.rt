@@ -1,6 +1,7 @@
 // Reads a book on standard input and prints its sheet. Where a read fails it prints no sheet, since a book cut short is another book; there, and where a
 // write fails, it ends with an error, which says on standard error why. It prints nothing else there.
 #![tactic(auto)]
+
 mod stream;
 
 use crate::stream::{read_input, write_output};

@@ -1,5 +1,6 @@
 // The printed sheet of a book: what each predicate needs, the rounds, and the orders, as lines of text.
 #![tactic(auto)]
+
 pub mod line;
 
 ghost use Rattle.std.specs.Prelude.{◌≡◌, ◌+◌, ◌≤◌, length};

@@ -1,7 +1,6 @@
 -- `cases::answer_all` meets its contract. Each turn goes on past a line's end; the bytes left fall. Assumes nothing.
 use Prim.Native.Nat.{◌-◌}
 use lib.ListN.{length}
-use borrow.Author.Rules.{rules}
 use Rattle.cases.proofs.answer_all.Given as goal
 
 abbrev pub invariant-loop-at : goal.invariant-loop-at

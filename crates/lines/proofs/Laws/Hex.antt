@@ -6,7 +6,7 @@ use native.Mathlib.Numerals.{add-one}
 use native.Mathlib.Omega.{arith}
 use native.Mathlib.Nat.{pow-suc, pow-le-pow_right}
 use lib.ListN.{length, get_or, take, drop, set, length-drop}
-use lib.Seq.{take-suc, take-length, take_all, take_at, drop-cons, take-suc-set, append_snoc, length-take-le}
+use lib.Seq.{take-suc, take_all, take_at, drop-cons, take-suc-set, append_snoc, length-take-le}
 use Rattle.lines.specs.Hex.{digit_of, number_from, bytes_of}
 
 number_snoc : (base n : ℕ) (xs : List ℕ) (x : ℕ) → number_from base n (xs ++ (x ∷ [])) ≡ number_from base n xs * base + digit_of x

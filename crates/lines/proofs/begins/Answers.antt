@@ -1,5 +1,4 @@
 -- `lines::begins` meets its contract. The front of the line is compared with the word. Assumes nothing.
-use borrow.Author.Rules.{rules}
 use Rattle.lines.proofs.Laws.Line.{starts_is}
 use Rattle.lines.proofs.begins.Goals as goal
 

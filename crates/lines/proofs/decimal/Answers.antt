@@ -1,10 +1,5 @@
 -- `lines::decimal` meets its contract. The loop's invariant: the number is that of the digits passed, or the most where that is less. Assumes nothing.
-use mathlib.Core.Path.{◌≡◌}
-use Prim.Native.Nat.{◌-◌, ◌≤◌, min}
 use native.Mathlib.Omega.{arith}
-use lib.ListN.{length, take}
-use borrow.Author.Rules.{rules}
-use Rattle.lines.specs.Hex.{number_from}
 use Rattle.lines.proofs.Laws.Hex.{decimal_next, decimal_end}
 use Rattle.lines.proofs.decimal.Goals as goal
 

@@ -1,11 +1,6 @@
 -- `lines::field` meets its contract. The loop's invariant: the place is within the line, and the field is so many fields further on as are left to pass.
 -- Assumes nothing.
-use mathlib.Core.Path.{◌≡◌}
-use Prim.Native.Nat.{◌-◌, ◌≤◌}
 use native.Mathlib.Omega.{arith}
-use lib.ListN.{length, drop}
-use borrow.Author.Rules.{rules}
-use Rattle.lines.specs.Line.{field_of}
 use Rattle.lines.proofs.Laws.Line.{field_start, field_next, field_end}
 use Rattle.lines.proofs.field.Goals as goal
 

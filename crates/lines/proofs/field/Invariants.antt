@@ -2,11 +2,8 @@
 -- Assumes nothing.
 use mathlib.Core.Path.{◌≡◌}
 use Prim.Native.Nat.{◌-◌, ◌≤◌}
-use native.Mathlib.Omega.{arith}
 use lib.ListN.{length, drop}
-use borrow.Author.Rules.{rules}
 use Rattle.lines.specs.Line.{field_of}
-use Rattle.lines.proofs.Laws.Line.{field_start, field_next, field_end}
 use Rattle.lines.proofs.field.Given as goal
 
 abbrev pub invariant-loop-i : goal.invariant-loop-i

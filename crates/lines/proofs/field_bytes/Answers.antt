@@ -8,5 +8,5 @@ use Rattle.lines.specs.Hex.{bytes_of}
 use Rattle.lines.proofs.field_bytes.Goals as goal
 
 pub returns : goal.returns
-returns c = 
+returns c =
     let size = length c.args.to.now in record { prefix_len = search rules; to_after = c.unhex.ensures.to_after ∙ ap (λ (w : List ℕ). take size (bytes_of w)) c.field.ensures }

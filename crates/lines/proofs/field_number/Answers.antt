@@ -1,5 +1,4 @@
 -- `lines::field_number` meets its contract. The word is the field. Assumes nothing.
-use borrow.Author.Rules.{rules}
 use mathlib.Core.Path.{ap, ◌∙◌}
 use mathlib.Core.List.{List}
 use Prim.Native.Nat.{ℕ, min}

@@ -1,8 +1,6 @@
 -- `lines::hex_number` meets its contract. The loop reads the first 16 digits, one at a turn, and 16 of them fit 64 bits. Assumes nothing.
 use Prim.Native.Nat.{◌-◌}
-use native.Mathlib.Omega.{arith}
-use borrow.Author.Rules.{rules}
-use Rattle.lines.proofs.Laws.Hex.{Reading, reading_start, reading_room, reading_next, reading_end}
+use Rattle.lines.proofs.Laws.Hex.{Reading}
 use Rattle.lines.proofs.hex_number.Given as goal
 
 abbrev pub invariant-loop-i : goal.invariant-loop-i

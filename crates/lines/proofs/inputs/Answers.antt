@@ -1,7 +1,4 @@
 -- `lines::inputs` meets its contract. What stands before the results is the front of the line. Assumes nothing.
-use mathlib.Core.Path.{ap, ◌∙◌}
-use lib.ListN.{take}
-use borrow.Author.Rules.{rules}
 use Rattle.lines.proofs.Laws.Line.{take_inputs}
 use Rattle.lines.proofs.inputs.Goals as goal
 

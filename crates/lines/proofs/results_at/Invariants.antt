@@ -1,14 +1,9 @@
 -- `lines::results_at` meets its contract. The loop's invariant: i is within the line, and what stands before the results from i on ends where it does from
 -- the start on. Assumes nothing.
-use mathlib.Core.Path.{◌≡◌, refl, sym}
+use mathlib.Core.Path.{◌≡◌}
 use Prim.Native.Nat.{◌+◌, ◌-◌, ◌≤◌}
-use native.Mathlib.Numerals.{add-one}
-use native.Mathlib.Omega.{arith}
 use lib.ListN.{length, drop}
-use lib.Seq.{length-take-le}
-use borrow.Author.Rules.{rules}
 use Rattle.lines.specs.Line.{inputs_of}
-use Rattle.lines.proofs.Laws.Line.{inputs_here, inputs_next, inputs_end}
 use Rattle.lines.proofs.results_at.Given as goal
 
 abbrev pub invariant-loop-i : goal.invariant-loop-i

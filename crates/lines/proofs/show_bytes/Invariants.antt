@@ -1,7 +1,6 @@
 -- `lines::show_bytes` meets its contract. The loop goes through the bytes; those left fall. Assumes nothing.
 use Prim.Native.Nat.{◌-◌}
 use lib.ListN.{length}
-use borrow.Author.Rules.{rules}
 use Rattle.lines.proofs.show_bytes.Given as goal
 
 abbrev pub invariant-loop-i : goal.invariant-loop-i

@@ -1,13 +1,9 @@
 -- `lines::unhex` meets its contract. The loop's invariant: the place and the count are within their slices, and what is written, and the bytes of the rest
 -- after it, are the word's bytes; the room left falls. Assumes nothing.
-use mathlib.Core.Path.{◌≡◌, refl, sym}
-use mathlib.Core.List.{◌++◌}
-use Prim.Native.Nat.{◌-◌, ◌≤◌}
+use mathlib.Core.Path.{refl, sym}
 use native.Mathlib.Omega.{arith}
-use lib.ListN.{length-set, length, take, drop}
+use lib.ListN.{length-set, length}
 use lib.Seq.{length-take-le}
-use borrow.Author.Rules.{rules}
-use Rattle.lines.specs.Hex.{bytes_of}
 use Rattle.lines.proofs.Laws.Hex.{bytes_next, bytes_full, bytes_end}
 use Rattle.lines.proofs.unhex.Goals as goal
 
@@ -18,7 +14,7 @@ pub shape_of-to-then-word-at-lt2 : goal.shape_of-to-then-word-at-lt2
 shape_of-to-then-word-at-lt2 c = c.loop-n.invariant.1
 
 pub returns-then-word-at-lt2 : goal.returns-then-word-at-lt2
-returns-then-word-at-lt2 c = 
+returns-then-word-at-lt2 c =
     let loop = c.loop-n in
     let a = c.args in
     let e = bytes_end a.word.now loop.to loop.n loop.at loop.invariant.3 loop.invariant.0 {size = length a.to.now} (omega arith) (omega arith) in record { prefix_len = (omega arith, sym (length-take-le _ _ (omega arith))); to_after = e }
@@ -40,7 +36,7 @@ pub shape_of-to : goal.shape_of-to
 shape_of-to c = c.loop-n.invariant.1
 
 pub returns : goal.returns
-returns c = 
+returns c =
     let loop = c.loop-n in
     let a = c.args in
     let e = bytes_full a.word.now loop.to loop.n loop.at loop.invariant.3 loop.invariant.0 {size = length a.to.now} (omega arith) in record { prefix_len = (omega arith, sym (length-take-le _ _ (omega arith))); to_after = e }

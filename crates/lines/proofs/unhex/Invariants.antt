@@ -1,14 +1,10 @@
 -- `lines::unhex` meets its contract. The loop's invariant: the place and the count are within their slices, and what is written, and the bytes of the rest
 -- after it, are the word's bytes; the room left falls. Assumes nothing.
-use mathlib.Core.Path.{◌≡◌, refl, sym}
+use mathlib.Core.Path.{◌≡◌}
 use mathlib.Core.List.{◌++◌}
 use Prim.Native.Nat.{◌-◌, ◌≤◌}
-use native.Mathlib.Omega.{arith}
-use lib.ListN.{length-set, length, take, drop}
-use lib.Seq.{length-take-le}
-use borrow.Author.Rules.{rules}
+use lib.ListN.{length, take, drop}
 use Rattle.lines.specs.Hex.{bytes_of}
-use Rattle.lines.proofs.Laws.Hex.{bytes_next, bytes_full, bytes_end}
 use Rattle.lines.proofs.unhex.Given as goal
 
 abbrev pub invariant-loop-n : goal.invariant-loop-n

@@ -1,14 +1,9 @@
 -- `lines::until` meets its contract. The loop's invariant: i is between the start and the end, and what stands before the byte from i on ends where it does
 -- from the start on. Assumes nothing.
-use mathlib.Core.Path.{◌≡◌, refl, sym}
+use mathlib.Core.Path.{◌≡◌}
 use Prim.Native.Nat.{◌+◌, ◌-◌, ◌≤◌}
-use native.Mathlib.Numerals.{add-one}
-use native.Mathlib.Omega.{arith}
 use lib.ListN.{length, drop}
-use lib.Seq.{length-take-le}
-use borrow.Author.Rules.{rules}
 use Rattle.lines.specs.Line.{before}
-use Rattle.lines.proofs.Laws.Line.{before_here, before_next, before_end}
 use Rattle.lines.proofs.until.Given as goal
 
 abbrev pub invariant-loop-i : goal.invariant-loop-i

@@ -1,7 +1,6 @@
 -- `sheet::listed` meets its contract. A record lists as many fields as it says, or as there can be. Assumes nothing.
 use Prim.Native.Nat.{◌+◌}
 use native.Mathlib.Omega.{arith}
-use borrow.Author.Rules.{rules}
 use Rattle.sheet.proofs.listed.Goals as goal
 
 pub overflow_cast-image : goal.overflow_cast-image

@@ -3,7 +3,6 @@
 use Prim.Native.Nat.{◌+◌, ◌≤◌}
 use native.Mathlib.Omega.{arith}
 use lib.ListN.{length}
-use borrow.Author.Rules.{rules}
 use Rattle.writing.specs.Wrote.{Wrote}
 use Rattle.sheet.proofs.Laws.Lines.{room_newline, wrote_line, listed_most, fields_in, room_lead, room_listed, room_trail, wrote_fields}
 use Rattle.sheet.proofs.put_line.Lts

@@ -2,7 +2,6 @@
 use mathlib.Core.List.{◌++◌}
 use native.Mathlib.Omega.{arith}
 use lib.ListN.{length-append}
-use borrow.Author.Rules.{rules}
 use Rattle.printing.specs.Sheet.{field, refusal_line}
 use Rattle.writing.proofs.Laws.Wrote.{wrote_append, room_second}
 use Rattle.sheet.proofs.Laws.Lines.{room_fields, room_newline, wrote_line}

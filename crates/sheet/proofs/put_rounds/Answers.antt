@@ -1,5 +1,4 @@
 -- `sheet::put_rounds` meets its contract. The letter is written, then the field, then the newline. Assumes nothing.
-use borrow.Author.Rules.{rules}
 use Rattle.printing.specs.Sheet.{field}
 use Rattle.sheet.proofs.Laws.Lines.{room_fields, room_newline, wrote_line}
 use Rattle.sheet.proofs.put_rounds.Goals as goal

@@ -7,7 +7,6 @@ use mathlib.Core.List.{List, ◌++◌}
 use Prim.Native.Nat.{ℕ, ◌^◌, ◌<◌}
 use native.Mathlib.Omega.{arith}
 use lib.ListN.{length, take, length-replicate}
-use borrow.Author.Rules.{rules}
 use Rattle.masks.specs.Outcome.{Outcome}
 use Rattle.book.specs.Format.{judge}
 use Rattle.writing.specs.Wrote.{Room}

@@ -6,7 +6,6 @@ use Prim.Native.Nat.{ℕ, suc, ◌≤◌}
 use native.Mathlib.Omega.{arith}
 use lib.ListN.{length, take, length-replicate, length-take}
 use lib.Seq.{length-take-le, sets}
-use borrow.Author.Rules.{rules}
 use Rattle.book.specs.Format.{judge}
 use Rattle.printing.specs.Sheet.{judged_sheet, sheet}
 use Rattle.masks.proofs.Laws.Outcome.{room_enough, answers_short, answers_done}

@@ -1,5 +1,4 @@
 -- `cases::again::write` meets its contract. Modes that are all zeros are none. Assumes nothing.
-use borrow.Author.Rules.{rules}
 use Rattle.book.specs.Held.{modes_size}
 use Rattle.book.proofs.Laws.Held.{mode_at_zeros}
 use Rattle.cases.proofs.again.write.Goals as goal

@@ -1,5 +1,4 @@
 -- `cases::same::is_left` meets its contract. What is compared of the one is no longer than what was passed of the other; the bytes left fall. Assumes nothing.
-use borrow.Author.Rules.{rules}
 use Prim.Native.Nat.{◌-◌, ◌≤◌}
 use lib.ListN.{length}
 use Rattle.cases.proofs.same.is_left.Given as goal

@@ -1,5 +1,4 @@
 -- `cases::same::moved_down` meets its contract. The next number is at most the clause's own; the clauses left fall. Assumes nothing.
-use borrow.Author.Rules.{rules}
 use Prim.Native.Nat.{◌-◌, ◌≤◌}
 use mathlib.Core.Path.{◌≡◌}
 use lib.ListN.{length}

@@ -1,6 +1,5 @@
 -- `cases::show::changed` meets its contract. The places left fall. Assumes nothing.
 use Prim.Native.Nat.{suc, ◌-◌}
-use borrow.Author.Rules.{rules}
 use Rattle.book.specs.Limits.{longest_sheet}
 use Rattle.cases.proofs.show.changed.Given as goal
 

@@ -1,7 +1,6 @@
 -- `cases::words::place` meets its contract. The loop's invariant: a word takes a byte at least; the bytes left fall. Assumes nothing.
 use Prim.Native.Nat.{◌-◌, ◌≤◌}
 use lib.ListN.{length}
-use borrow.Author.Rules.{rules}
 use Rattle.cases.proofs.words.place.Given as goal
 
 abbrev pub invariant-loop-at : goal.invariant-loop-at

@@ -1,7 +1,6 @@
 -- `sheet::line::put_field` meets its contract. What stands before the number is written, then the digits, which are the fewest that hold it. Assumes nothing.
 use native.Mathlib.Omega.{arith}
 use lib.ListN.{length-append}
-use borrow.Author.Rules.{rules}
 use Rattle.printing.specs.Sheet.{decimal, after}
 use Rattle.writing.proofs.Laws.Wrote.{wrote_append, wrote_as}
 use Rattle.sheet.proofs.Laws.Decimal.{spelled, spelled_room}

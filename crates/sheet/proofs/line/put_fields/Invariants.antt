@@ -1,11 +1,10 @@
 -- `sheet::line::put_fields` meets its contract. The loop's invariant: the first i numbers are written. Assumes nothing.
 use Prim.Native.Nat.{◌-◌}
-use native.Mathlib.Omega.{arith}
 use lib.ListN.{length}
 use Rattle.book.specs.Encode.{run}
 use Rattle.printing.specs.Sheet.{after}
-use Rattle.writing.proofs.Laws.Chunks.{Writing, writing_start, writing_length, writing_room, writing_next, writing_end}
-use Rattle.sheet.proofs.Laws.Lines.{fields_to, field_at, fields_chunks}
+use Rattle.writing.proofs.Laws.Chunks.{Writing}
+use Rattle.sheet.proofs.Laws.Lines.{fields_to, field_at}
 use Rattle.sheet.proofs.line.put_fields.Given as goal
 
 abbrev pub invariant-loop-i : goal.invariant-loop-i

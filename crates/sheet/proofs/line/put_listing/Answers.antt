@@ -2,7 +2,6 @@
 use mathlib.Core.Path.{sym, ap}
 use native.Mathlib.Omega.{arith}
 use lib.ListN.{length}
-use borrow.Author.Rules.{rules}
 use Rattle.writing.proofs.Laws.Wrote.{wrote_as}
 use Rattle.sheet.proofs.Laws.Lines.{listing_some, listing_none}
 use Rattle.sheet.proofs.line.put_listing.Goals as goal
