@@ -3,7 +3,7 @@ PREFIX ?= /usr/local
 VERSION := $(shell sed -n 's/.*SHODH_VERSION "\(.*\)"/\1/p' include/shodhvirup.h)
 
 built = target/lib
-sources = $(shell find crates crates.txt -type f \( -name '*.rt' -o -name '*.antt' -o -name crates.txt \))
+sources = $(shell find crates crates.txt -name out -prune -o -type f \( -name '*.rt' -o -name '*.antt' -o -name crates.txt \) -print)
 
 .PHONY: lib install
 
@@ -11,8 +11,8 @@ lib: $(built)/libshodhvirup.a $(built)/pkgconfig/shodhvirup.pc
 
 $(built)/libshodhvirup.a: $(sources)
 	@mkdir -p $(@D)
-	rt staticlib portal >target/staticlib.log 2>&1 || { cat target/staticlib.log; exit 1; }
-	cp target/staticlib/libportal.a $@
+	(cd crates/portal && rt lib) >target/staticlib.log 2>&1 || { cat target/staticlib.log; exit 1; }
+	cp crates/portal/out/libportal.a $@
 
 $(built)/pkgconfig/shodhvirup.pc: shodhvirup.pc.in Makefile FORCE
 	@mkdir -p $(@D)
