@@ -21,7 +21,7 @@ pub fn read_input(input: &mut Stdin, room: &mut [u8]) -> Result<usize>
                 n += got;
             }
             Err(e) => {
-                if e.kind() != ErrorKind::Interrupted {
+                if failed(&e) {
                     return Err(e);
                 }
             }
@@ -40,11 +40,16 @@ pub fn write_output(output: &mut Stdout, text: &[u8]) -> Result<()> {
         match output.write(&text[n..]) {
             Ok(put) => n += put,
             Err(e) => {
-                if e.kind() != ErrorKind::Interrupted {
+                if failed(&e) {
                     return Err(e);
                 }
             }
         }
     }
     Err(Error::from(ErrorKind::Interrupted))
+}
+
+// The call that gave this error failed, and not by a signal's interruption.
+fn failed(e: &Error) -> bool {
+    e.kind() != ErrorKind::Interrupted
 }
