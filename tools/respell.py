@@ -29,6 +29,8 @@ BY_HAND = {
     "roundsIn": "rounds_in",
     "queryStays": "query_stays",
     "query-stays": "query_stays_lem",
+    # what port.py made of a word of the library inside a name
+    "get_d_window": "get_or_window",
 }
 
 

@@ -20,7 +20,7 @@ use Rattle.masks.proofs.Laws.Lists.{take_front, length_values, values_cong, get_
 use Rattle.book.specs.Limits.{max_predicates, max_clauses, max_subgoals}
 use Rattle.book.specs.Book.{Head, Call, Mode, Clause}
 use Rattle.book.specs.Held.{window, count_in, byte_of, head_in, call_in, clause_size, rules_size, clause_at, clauses_of, StoredClause, mode_size, has_in, masks_in, mode_bytes, has_mode, HaveMode, mode_at, modes_of, StoredMode}
-use Rattle.book.proofs.Laws.Windows.{drop_window, get_d_window, get_or_window_first, window_others, drop_longer, Stored, stored_sets}
+use Rattle.book.proofs.Laws.Windows.{drop_window, get_or_window, get_or_window_first, window_others, drop_longer, Stored, stored_sets}
 
 -- ---- a clause
 
@@ -137,7 +137,7 @@ module _ {rules after : List ℕ} {k : ℕ} {c : Clause} (s : StoredClause rules
 
 -- a number of bytes and the bytes, behind the first of a window
 pub masks_in_window : (l : List ℕ) (at n : ℕ) (s : List ℕ) → s ≡ window (at + 2) n l → take (get_or l (at + 1) 0) s ≡ masks_in (window at (2 + n) l)
-masks_in_window l at n s e = ap₂ (λ (k : ℕ) (r : List ℕ). take k r) (sym (get_d_window at (2 + n) 1 l (omega arith))) (e ∙ sym (drop_window at 2 n l))
+masks_in_window l at n s e = ap₂ (λ (k : ℕ) (r : List ℕ). take k r) (sym (get_or_window at (2 + n) 1 l (omega arith))) (e ∙ sym (drop_window at 2 n l))
 
 -- the same bytes lent where they stand, at most n of them
 pub masks_in_part : (l : List ℕ) (at n k : ℕ) → at + 2 + n ≤ length l → k ≡ min (get_or l (at + 1) 0) n
@@ -176,7 +176,7 @@ stored_masks modes p masks few room =
     first = get_or_window_first at mode_size after (omega arith) ∙ sym (get_or_window_first at (2 + n) after (omega arith)) ∙ ap (λ (b : List ℕ). get_or b 0 0) s.is
 
     count : get_or after (at + 1) 0 ≡ n
-    count = sym (get_d_window at (2 + n) 1 after (omega arith)) ∙ ap (λ (b : List ℕ). get_or b 1 0) s.is
+    count = sym (get_or_window at (2 + n) 1 after (omega arith)) ∙ ap (λ (b : List ℕ). get_or b 1 0) s.is
 
     all : masks_in (mode_bytes after p) ≡ masks
     all =

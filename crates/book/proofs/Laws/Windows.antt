@@ -29,11 +29,11 @@ drop_window at i k l =
     let e : i + k - i ≡ k = omega arith in
     drop_take i (i + k) (drop at l) ∙ ap (λ (m : ℕ). take m (drop i (drop at l))) e ∙ ap (take k) (drop-drop i at l)
 
-pub get_d_window : (at k i : ℕ) (l : List ℕ) → i < k → get_or (window at k l) i 0 ≡ get_or l (at + i) 0
-get_d_window at k i l h = get_or-take k (drop at l) i 0 h ∙ get_or-drop at l i 0
+pub get_or_window : (at k i : ℕ) (l : List ℕ) → i < k → get_or (window at k l) i 0 ≡ get_or l (at + i) 0
+get_or_window at k i l h = get_or-take k (drop at l) i 0 h ∙ get_or-drop at l i 0
 
 pub get_or_window_first : (at k : ℕ) (l : List ℕ) → 0 < k → get_or (window at k l) 0 0 ≡ get_or l at 0
-get_or_window_first at k l h = let e : at + 0 ≡ at = omega arith in get_d_window at k 0 l h ∙ ap (λ (i : ℕ). get_or l i 0) e
+get_or_window_first at k l h = let e : at + 0 ≡ at = omega arith in get_or_window at k 0 l h ∙ ap (λ (i : ℕ). get_or l i 0) e
 
 -- ---- lists with the same windows
 

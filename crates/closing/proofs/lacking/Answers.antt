@@ -15,14 +15,14 @@ returns-then-b-ne0 c = refused_faulty c.if-b-ne0.true
 count_small : (w : ℕ) → count_trailing_zeros 64 w < 2 ^ 64
 count_small w = let l = trailing_le 64 w in omega arith
 
-sum-small : (n w : ℕ) → n < 2 ^ 8 → n + count_trailing_zeros 64 w < 2 ^ 64
-sum-small n w h = let l = trailing_le 64 w in omega arith
+sum_small : (n w : ℕ) → n < 2 ^ 8 → n + count_trailing_zeros 64 w < 2 ^ 64
+sum_small n w h = let l = trailing_le 64 w in omega arith
 
 pub overflow_cast-beyond : goal.overflow_cast-beyond
 overflow_cast-beyond c = record { fits = count_small _ }
 
 pub overflow_add-b : goal.overflow_add-b
-overflow_add-b c = record { fits = sum-small _ _ (search rules) }
+overflow_add-b c = record { fits = sum_small _ _ (search rules) }
 
 pub returns-then-beyond-ne0 : goal.returns-then-beyond-ne0
 returns-then-beyond-ne0 c =

@@ -92,8 +92,8 @@ pattern-a-requires c =
 
 -- the subgoal's predicate and its pattern
 module _ (c : After-predicate) where
-  pred-low : c.predicate.result < max_predicates
-  pred-low =
+  pred_low : c.predicate.result < max_predicates
+  pred_low =
       let k = c.before.before.before.before.before in
       let e = c.predicate.ensures in
       let l = pred_read (body k) (p c.before.before.before) c.subgoal_at-s.ensures k.requires.1 (inside c.before.before.before) in
@@ -109,21 +109,21 @@ module _ (c : After-predicate) where
       let l = pattern_small (bound_of k.args.bound) max_arity (call_in c.subgoal_at-s.result).args few in
       omega arith
 
-  passes-here : passes c.before.before.before.before.before (p c.before.before.before)
+  passes_here : passes c.before.before.before.before.before (p c.before.before.before)
       ≡ can_run (get_or c.args.table.now c.predicate.result 0) (call_in c.subgoal_at-s.result) c.pattern-a.result
-  passes-here =
+  passes_here =
       let k = c.before.before.before.before.before in
       ready_read (body k) (p c.before.before.before) c.subgoal_at-s.ensures k.args.table.now (bound_of k.args.bound) k.requires.1 k.requires.2 few
       (inside c.before.before.before) c.predicate.ensures c.pattern-a.ensures
 
 pub overflow_cast-predicate : goal.overflow_cast-predicate
-overflow_cast-predicate c = let l = pred-low c in omega arith
+overflow_cast-predicate c = let l = pred_low c in omega arith
 
 pub offset_bounds-table-predicate : goal.offset_bounds-table-predicate
-offset_bounds-table-predicate c = let l = pred-low c in omega arith
+offset_bounds-table-predicate c = let l = pred_low c in omega arith
 
 pub bounds-table-predicate : goal.bounds-table-predicate
-bounds-table-predicate c = let l = pred-low c.before.before in search rules
+bounds-table-predicate c = let l = pred_low c.before.before in search rules
 
 pub can_run-requires : goal.can_run-requires
 can_run-requires c = pattern_low c.before.before.before
@@ -134,7 +134,7 @@ returns-then-can_run c =
     let t = d.before.before.before in
     let k = t.before.before in
     let i = inside t in
-    let n = clause_at_few k.args.rules.now k.args.k in record { place_value = scan_here (left t) (passes k) (p t) (omega arith) (member t) (passes-here d ∙ sym c.can_run.ensures ∙ c.if-can_run.true) (here t); pattern_at = pattern_read (body k) (p t) d.subgoal_at-s.ensures (bound_of k.args.bound) d.pattern-a.ensures }
+    let n = clause_at_few k.args.rules.now k.args.k in record { place_value = scan_here (left t) (passes k) (p t) (omega arith) (member t) (passes_here d ∙ sym c.can_run.ensures ∙ c.if-can_run.true) (here t); pattern_at = pattern_read (body k) (p t) d.subgoal_at-s.ensures (bound_of k.args.bound) d.pattern-a.ensures }
 
 pub loop-rest-smaller : goal.loop-rest-smaller
 loop-rest-smaller c = let t = c.before.before.before.before.before.before.before.before in others_less (rest t) t.loop-rest-test.true
@@ -144,7 +144,7 @@ loop-rest-preserved c =
     let d = c.before.before.before.before.before in
     let t = d.before.before.before in
     over_next (Here t) 32 (left t) (rest t) (skip t) t.loop-rest.invariant t.loop-rest-test.true (Here t)
-    (scan_waits (left t) (passes t.before.before) (p t) (passes-here d ∙ sym c.can_run.ensures ∙ c.if-can_run.false) (here t))
+    (scan_waits (left t) (passes t.before.before) (p t) (passes_here d ∙ sym c.can_run.ensures ∙ c.if-can_run.false) (here t))
 
 pub returns : goal.returns
 returns c =

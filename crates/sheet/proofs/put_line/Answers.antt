@@ -1,5 +1,4 @@
 -- `sheet::put_line` meets its contract. The letter is written, then the fields that lead, those listed, those that trail, and the newline. Assumes nothing.
--- ---- what was known where a part had been written, from where the next one has
 use Prim.Native.Nat.{◌+◌, ◌≤◌}
 use native.Mathlib.Omega.{arith}
 use lib.ListN.{length}
@@ -29,6 +28,8 @@ Start = Lts.Start Tie.the-claims Reads.Pre Reads.Post
 abbrev After-listed : Type 0
 After-listed = Lts.After-listed Tie.the-claims Reads.Pre Reads.Post
 
+-- ---- what was known where a part had been written, from where the next one has
+
 abbrev letter_before : After-put_fields-q → After-put_byte-p
 letter_before c = c.before.before.before.before.before.before.before
 
@@ -42,14 +43,14 @@ abbrev start_of : After-put_byte-p → Start
 start_of c = c.before.before.before.before.before.before
 
 -- the record ends where the image does, or before
-record-ends : (c : After-listed) → let s = c.args in 3 + s.lead + s.trail + c.listed.result ≤ length s.image.now
-record-ends c =
+record_ends : (c : After-listed) → let s = c.args in 3 + s.lead + s.trail + c.listed.result ≤ length s.image.now
+record_ends c =
     let m = listed_most c.args.lead c.args.trail c.args.image.now c.requires.1 in
     let e = c.listed.ensures in
     omega arith
 
 pub overflow_add-end : goal.overflow_add-end
-overflow_add-end c = let m = record-ends c.before in omega arith
+overflow_add-end c = let m = record_ends c.before in omega arith
 
 pub put_fields-q-requires : goal.put_fields-q-requires
 put_fields-q-requires c =
@@ -74,9 +75,9 @@ put_fields-s-requires c =
     (lead_before l).put_fields-q.ensures l.put_listing-r.ensures
 
 -- all fields are written behind the letter
-fields-put : (c : After-put_fields-s) → let b = letter_before (lead_before (list_before c)) in let s = (start_of b).args in
+fields_put : (c : After-put_fields-s) → let b = letter_before (lead_before (list_before c)) in let s = (start_of b).args in
     Wrote b.put_byte-p.new.out c.put_fields-s.new.out b.put_byte-p.result c.put_fields-s.result (fields_in s.lead s.trail s.image.now s.none.now)
-fields-put c =
+fields_put c =
     let l = list_before c in
     let f = lead_before l in
     let b = letter_before f in
@@ -89,9 +90,9 @@ put_byte-requires c =
     let t = c.before.before.before.before in
     let b = letter_before (lead_before (list_before t)) in
     let k = start_of b in
-    room_newline (fields_in k.args.lead k.args.trail k.args.image.now k.args.none.now) b.put_byte-p.ensures k.requires.2 (fields-put t)
+    room_newline (fields_in k.args.lead k.args.trail k.args.image.now k.args.none.now) b.put_byte-p.ensures k.requires.2 (fields_put t)
 
 pub returns : goal.returns
 returns c =
     let t = c.before.before.before.before.before.before.before in
-    wrote_line (letter_before (lead_before (list_before t))).put_byte-p.ensures (fields-put t) c.put_byte.ensures
+    wrote_line (letter_before (lead_before (list_before t))).put_byte-p.ensures (fields_put t) c.put_byte.ensures

@@ -26,19 +26,19 @@ listed-requires c =
     (asks.0, asks.1)
 
 -- the record ends where the image does, or before
-record-ends : (c : After-listed) → let k = c.before.before.before.before.before.before.before.before in
+record_ends : (c : After-listed) → let k = c.before.before.before.before.before.before.before.before in
     let s = k.args in k.loop-i.i + (3 + s.lead + s.trail + c.listed.result) ≤ length s.image.now
-record-ends c =
+record_ends c =
     lining_most c.loop-i.invariant (omega arith) (from c.loop-i.i c.args.image.now) c.listed.ensures
 
 pub overflow_add-i-in-loop-i-2 : goal.overflow_add-i-in-loop-i-2
-overflow_add-i-in-loop-i-2 c = let m = record-ends c.before in omega arith
+overflow_add-i-in-loop-i-2 c = let m = record_ends c.before in omega arith
 
 pub overflow_add-i-in-loop-i-3 : goal.overflow_add-i-in-loop-i-3
-overflow_add-i-in-loop-i-3 c = let m = record-ends c.before in omega arith
+overflow_add-i-in-loop-i-3 c = let m = record_ends c.before in omega arith
 
 pub loop-i-smaller : goal.loop-i-smaller
-loop-i-smaller c = let m = record-ends c.before in omega arith
+loop-i-smaller c = let m = record_ends c.before in omega arith
 
 pub loop-i-preserved : goal.loop-i-preserved
 loop-i-preserved c =

@@ -1,7 +1,5 @@
 -- `sheet::put_orders` meets its contract. A refusal of the planning is the one line; else the first record of the plan's image is the query's, and those
 -- behind it are the orders'. Assumes nothing.
--- ---- the planning was refused
--- ---- or it has a result, whose image has the lines
 use mathlib.Core.Path.{◌≡◌, sym, ap, ◌∙◌, subst}
 use mathlib.Core.List.{List, [], ◌++◌}
 use Prim.Native.Nat.{ℕ, ◌+◌, ◌-◌, ◌≤◌}
@@ -33,11 +31,15 @@ Else-r-ne0 = Lts.Else1 Tie.the-claims Reads.Pre Reads.Post
 abbrev After-listed-rows : Type 0
 After-listed-rows = Lts.After-listed Tie.the-claims Reads.Pre Reads.Post
 
+-- ---- the planning was refused
+
 refused : (c : Then-r-ne0) → let p = c.plan-r.result in refusal_line p.number p.value ≡ judged_orders (judge c.args.book.now)
 refused c =
     let s = c.args.book.now in
     ap plan_lines (sym (refusal_told 3 longest_plan (planning s) (planning_sized s) c.plan-r.ensures (length-replicate {A = ℕ} longest_plan 0) c.if-r-ne0.true))
     ∙ planning_lines s
+
+-- ---- or it has a result, whose image has the lines
 
 found : (c : Else-r-ne0) → Told 3 longest_plan (planning c.args.book.now) c.plan-r.result c.plan-r.new.out
 found c =

@@ -1,7 +1,5 @@
 -- `sheet::put_sheet` meets its contract. A refusal of the analysis is the one line; else the lines of its image, its rounds and the orders follow one
 -- another, and there is room for all of them, since no sheet is longer than the text. Assumes nothing.
--- ---- the analysis was refused
--- ---- or it has a result, whose image has the lines
 use mathlib.Core.Path.{◌≡◌, sym, ap, ◌∙◌, subst}
 use mathlib.Core.List.{List, ◌++◌}
 use Prim.Native.Nat.{ℕ, ◌^◌, ◌<◌}
@@ -33,12 +31,16 @@ Else-r-ne0 = Lts.Else1 Tie.the-claims Reads.Pre Reads.Post
 abbrev After-put_lines-arg-1 : Type 0
 After-put_lines-arg-1 = Lts.After-put_lines-arg Tie.the-claims Reads.Pre Reads.Post
 
+-- ---- the analysis was refused
+
 refused : (c : Then-r-ne0) → let p = c.analyse-r.result in refusal_line p.number p.value ≡ judged_sheet (judge c.args.book.now)
 refused c =
     let s = c.args.book.now in
     ap (λ (o : Outcome). table_lines o (judged_orders (judge s)))
     (sym (refusal_told 0 longest_table (analysis s) (analysis_sized s) c.analyse-r.ensures (length-replicate {A = ℕ} longest_table 0) c.if-r-ne0.true))
     ∙ analysis_lines s
+
+-- ---- or it has a result, whose image has the lines
 
 found : (c : Else-r-ne0) → Told 0 longest_table (analysis c.args.book.now) c.analyse-r.result c.analyse-r.new.out
 found c =

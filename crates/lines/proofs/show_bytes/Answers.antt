@@ -1,1 +1,0 @@
--- `lines::show_bytes` meets its contract. The loop goes through the bytes; those left fall. Assumes nothing.
