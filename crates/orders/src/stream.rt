@@ -1,5 +1,5 @@
 // Standard input read until it ends, and standard output written whole. A signal's interruption is no failure: the call is made again.
-ghost use Rattle.std.specs.Prelude.{IfOk};
+ghost use Rattle.std.specs.Prelude.{◌≡◌, length, IfOk, OnErr};
 ghost use Rattle.io.specs.Counts.{IsPrefixLen};
 
 use std::io::{Error, ErrorKind, Read, Result, Stdin, Stdout, Write};
@@ -7,9 +7,11 @@ use std::io::{Error, ErrorKind, Read, Result, Stdin, Stdout, Write};
 // The most calls that a reading or a writing takes, since a loop has to end; each moves a byte at least, unless it is interrupted.
 const CALLS: u64 = 1000000;
 
-// Reads until the input ends, the room is full or a read fails; how many bytes were read, which stand at the room's start.
+// Reads until the input ends, the room is full or a read fails; how many bytes were read, which stand at the room's start. The error is that of the read that
+// failed; the room then has whatever was read before it.
 pub fn read_input(input: &mut Stdin, room: &mut [u8]) -> Result<usize>
-    ensures { IfOk result (λ n. IsPrefixLen n room.new) }
+    ensures ok { IfOk result (λ n. IsPrefixLen n room.new) }
+    ensures err { OnErr result (length room.new ≡ length room.old) }
 {
     let mut n: usize = 0;
     for _ in 0..CALLS {
