@@ -10,6 +10,7 @@ import re
 import shutil
 import subprocess
 import sys
+import tempfile
 
 NAME = r"[^\s(){}.;,@\"«»\[\]]+"
 
@@ -344,8 +345,6 @@ class Function:
                     if all(w == "before" for w in rest):
                         self.at_view.discard(x)
                         env[x] = place
-                        if not rest and self.is_new(env[h]):
-                            env[x] = place
                     elif rest[-1] == "requires" or rest[-1] == "ensures":
                         kind[x] = (rest[-1], self.callee_of([h, *rest], env))
                     elif x in env:
@@ -527,7 +526,6 @@ class Function:
                     t = re.sub(rf"(?<![^\s(){{}};,\[\]]){re.escape(n)}(?![^\s(){{}};,.\[\]])", w, t)
             return t
 
-        helpers = []
         for n_block, (c, b) in enumerate(bs):
             if b.startswith("use "):
                 if ".Statement." in b or b.endswith(" as tie"):
@@ -637,8 +635,7 @@ class Function:
 def main(crates):
     CLAUSES.update(clauses_of_sources())
     for crate in crates:
-        to = "/tmp/old-names-" + crate
-        shutil.rmtree(to, ignore_errors=True)
+        to = tempfile.mkdtemp(prefix="old-names-")
         r = subprocess.run(["rt", "check", "--generated", to, "--old-names"], cwd=f"crates/{crate}", capture_output=True, text=True)
         if not os.path.exists(to + "/names.json"):
             print(r.stdout[-3000:] + r.stderr[-3000:])

@@ -123,10 +123,7 @@ def main():
             n += 1
             with open(p, "w", encoding="utf-8") as f:
                 f.write(new)
-    print(f"respell: {len(table)} names in {n} files")
-    with open("/tmp/respelled.tsv", "w") as f:
-        for o, w in sorted(table.items()):
-            f.write(f"{o}\t{w}\n")
+    print(f"respell: {len(table) + len(behind)} names in {n} files")
 
 
 if __name__ == "__main__":
