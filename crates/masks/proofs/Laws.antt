@@ -11,6 +11,7 @@ pub mod Outcome
 pub mod Joining
 pub mod Examples
 pub mod Members
+pub mod Loops
 pub mod Words
 pub mod Patterns
 pub mod Sets

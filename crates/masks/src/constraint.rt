@@ -9,6 +9,7 @@ ghost use Rattle.masks.specs.Lists.{has, how_many};
 ghost use Rattle.masks.specs.Constraint.{admits, in_range, written, minimise};
 ghost use Rattle.masks.specs.Set.{bit_at, Holds, members};
 
+use crate::members::Members;
 use crate::patterns::{ALL, COLUMNS, mask_lanes};
 
 // "A pattern .. fits a constraint when it fits at least one alternative." Its masks are lent where they stand.
@@ -84,10 +85,8 @@ pub fn put_masks(out: &mut [u8], at: usize, set: u64) -> usize
     ensures value { result ≡ at + length (members set) }
 {
     let mut p = at;
-    let mut rest = set;
-    while rest != 0 {
-        out[p] = u64::trailing_zeros(rest) as u8;
-        rest = rest & (rest - 1);
+    for m in Members::of(set) {
+        out[p] = m;
         p += 1;
     }
     p
@@ -99,10 +98,8 @@ pub fn with_unions(set: u64, m: u8, masks: &[u8]) -> u64
     ensures { Holds result (λ k. bit_at set k || has (map (bit_or m) masks.now) k) }
 {
     let mut all = set;
-    let mut i: usize = 0;
-    while i < masks.len() {
-        all = with_member(all, m | masks[i]);
-        i += 1;
+    for mask in masks {
+        all = with_member(all, m | mask);
     }
     all
 }

@@ -5,6 +5,7 @@
 
 pub mod constraint;
 pub mod limits;
+pub mod members;
 pub mod patterns;
 pub mod reply;
 

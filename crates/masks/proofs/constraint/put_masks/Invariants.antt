@@ -1,11 +1,14 @@
 -- `masks::constraint::put_masks` meets its contract. The loop goes over the members of the set; its invariant: those passed stand in the output. Assumes
 -- nothing.
-use Rattle.masks.proofs.Laws.Members.{Over}
-use Rattle.masks.proofs.Laws.Sets.{Put}
+use Rattle.std.proofs.Common.{◌≡◌, ◌+◌, length}
+use Rattle.std.proofs.lemmas.List.Edits.{sets}
+use Rattle.masks.specs.Set.{members}
+use Rattle.masks.proofs.Laws.Loops.{Passed}
 use Rattle.masks.proofs.constraint.put_masks.Given as goal
 
-abbrev pub invariant-loop-rest : goal.invariant-loop-rest
-invariant-loop-rest l = Over (Put l.set l.initial.out l.at l.p l.out) 64 l.set l.rest
-
-abbrev pub decreases-loop-rest : goal.decreases-loop-rest
-decreases-loop-rest l = l.rest
+abbrev pub invariant-loop-m : goal.invariant-loop-m
+invariant-loop-m l = record {
+  going : Passed l.set l.yielded (members l.m-iterator.left);
+  place : l.p ≡ l.at + length l.yielded;
+  put : l.out ≡ sets l.initial.out l.at l.yielded;
+}
