@@ -8,3 +8,4 @@ pub mod Set
 pub mod Patterns
 pub mod Outcome
 pub mod Joining
+pub mod Unjoined

@@ -16,13 +16,7 @@ use crate::patterns::{ALL, COLUMNS, mask_lanes};
 pub fn fits(masks: &[u8], pattern: u8) -> bool
     ensures { result ≡ admits masks.now pattern }
 {
-    for i in 0..masks.len() {
-        let m = masks[i];
-        if m & pattern == m {
-            return true;
-        }
-    }
-    false
+    masks.iter().any(|&m| m & pattern == m)
 }
 
 // The masks of a list in any order, with repeats, in written form.
@@ -39,14 +33,8 @@ pub fn written(set: u64) -> u64
     ensures { members result ≡ written (bit_at set) all_patterns }
 {
     let mut kept: u64 = 0;
-    let mut rest = set;
-    'outer: while rest != 0 {
-        let m = u64::trailing_zeros(rest) as u8;
-        rest = rest & (rest - 1);
-        let mut others = kept;
-        'inner: while others != 0 {
-            let k = u64::trailing_zeros(others) as u8;
-            others = others & (others - 1);
+    'outer: for m in Members::of(set) {
+        for k in Members::of(kept) {
             if k & m == k {
                 continue 'outer;
             }

@@ -15,15 +15,50 @@ ghost use Rattle.masks.specs.Constraint.{in_range, choice, joint};
 ghost use Rattle.masks.specs.Set.{members};
 ghost use Rattle.masks.specs.Outcome.{Answers};
 ghost use Rattle.masks.specs.Joining.{list_fault, fault, combined, joining};
+ghost use Rattle.masks.specs.Unjoined.{Finds, reply_of};
 
 use crate::limits::{MAX_ARITY, MAX_MASKS};
-use crate::reply::Reply;
+use crate::reply::{Reply, TooShort};
 
 // "Two constraints of one arity are combined in two ways."
 #[derive(Clone, Copy)]
 pub enum Way {
     Choice,
     Joint,
+}
+
+// Why two lists of masks are not joined: "arity over 6 or a mask out of range is 4, a list over 20 is 5, .. then 9".
+#[derive(Clone, Copy)]
+pub enum Unjoined {
+    OutOfRange,
+    TooMany,
+    TooShort(TooShort),
+}
+
+impl From<TooShort> for Unjoined {
+    ghost use Rattle.std.specs.Prelude.{◌≡◌};
+    ghost use Rattle.masks.specs.declared.Unjoined.TheVariants.{TooShort};
+
+    ghost from_gives = { λ e r. r ≡ TooShort e };
+
+    fn from(e: TooShort) -> Unjoined {
+        Unjoined::TooShort(e)
+    }
+}
+
+impl From<Unjoined> for Reply {
+    ghost use Rattle.std.specs.Prelude.{◌≡◌};
+    ghost use Rattle.masks.specs.Unjoined.{reply};
+
+    ghost from_gives = { λ e r. r ≡ reply e };
+
+    fn from(e: Unjoined) -> Reply {
+        match e {
+            Unjoined::OutOfRange => Reply::refused(4, 0),
+            Unjoined::TooMany => Reply::refused(5, 0),
+            Unjoined::TooShort(short) => Reply::from(short),
+        }
+    }
 }
 
 // The choice of two lists of masks, written into the output: "fitted by a pattern that fits either".
@@ -40,52 +75,57 @@ pub fn joint(arity: u8, first: &[u8], second: &[u8], out: &mut [u8]) -> Reply
     join(Way::Joint, arity, first, second, out)
 }
 
-// Either of the two: the first fault of what is given, or the masks of the result.
+// Either of the two: the refusal of what is given, or the masks of the result.
 fn join(way: Way, arity: u8, first: &[u8], second: &[u8], out: &mut [u8]) -> Reply
     ensures { Answers (joining way arity first.now second.now) out.old result out.new }
 {
-    let number = first_fault(arity, first, second);
-    if number != 0 {
-        return Reply::refused(number, 0);
+    match joined(way, arity, first, second, out) {
+        Ok(r) => r,
+        Err(e) => Reply::from(e),
     }
-    let c = combine(way, first, second);
-    let r = Reply::in_room(constraint::count(c), 0, out.len());
-    if r.number == 0 {
-        constraint::put_masks(out, 0, c);
-    }
-    r
 }
 
-// "tried as arity, first list's length, its masks, the second's": the number of the first fault, or 0.
-fn first_fault(arity: u8, first: &[u8], second: &[u8]) -> u32
-    ensures { result ≡ fault arity first.now second.now }
+fn joined(
+    way: Way,
+    arity: u8,
+    first: &[u8],
+    second: &[u8],
+    out: &mut [u8],
+) -> Result<Reply, Unjoined>
+    ensures { Answers (joining way arity first.now second.now) out.old (reply_of result) out.new }
+{
+    first_fault(arity, first, second)?;
+    let c = combine(way, first, second);
+    let r = Reply::in_room(constraint::count(c), 0, out.len())?;
+    constraint::put_masks(out, 0, c);
+    Ok(r)
+}
+
+// "tried as arity, first list's length, its masks, the second's": the first fault.
+fn first_fault(arity: u8, first: &[u8], second: &[u8]) -> Result<(), Unjoined>
+    ensures { Finds result (fault arity first.now second.now) }
 {
     if MAX_ARITY < arity {
-        return 4;
+        return Err(Unjoined::OutOfRange);
     }
     let limit = constraint::patterns(arity);
-    let number = list_fault(first, limit);
-    if number != 0 {
-        return number;
-    }
+    list_fault(first, limit)?;
     list_fault(second, limit)
 }
 
-// The fault of one list: too long (5), or a mask that is no pattern (4), else 0.
-fn list_fault(masks: &[u8], limit: u8) -> u32
-    ensures { result ≡ list_fault limit masks.now }
+// The fault of one list: too long, or a mask that is no pattern.
+fn list_fault(masks: &[u8], limit: u8) -> Result<(), Unjoined>
+    ensures { Finds result (list_fault limit masks.now) }
 {
     if MAX_MASKS < masks.len() {
-        return 5;
+        return Err(Unjoined::TooMany);
     }
-    let mut i: usize = 0;
-    while i < masks.len() {
-        if limit <= masks[i] {
-            return 4;
+    for &m in masks {
+        if limit <= m {
+            return Err(Unjoined::OutOfRange);
         }
-        i += 1;
     }
-    0
+    Ok(())
 }
 
 // Two lists of masks, in any order, combined one way or the other.
@@ -114,10 +154,8 @@ fn joint_of(first: &[u8], second: &[u8]) -> u64
     ensures { members result ≡ joint first.now second.now }
 {
     let mut set: u64 = 0;
-    let mut i: usize = 0;
-    while i < first.len() {
-        set = constraint::with_unions(set, first[i], second);
-        i += 1;
+    for &m in first {
+        set = constraint::with_unions(set, m, second);
     }
     constraint::written(set)
 }

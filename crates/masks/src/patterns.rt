@@ -8,6 +8,7 @@ ghost use Rattle.masks.specs.Set.{bit_at, members};
 ghost use Rattle.masks.specs.Patterns.{EachLane, Agrees};
 
 use crate::limits::MAX_ARGUMENTS;
+use crate::members::Members;
 
 // All lanes.
 pub const ALL: u64 = 0xFFFF_FFFF_FFFF_FFFF;
@@ -34,11 +35,8 @@ pub fn fit_lanes(masks: u64, words: &[u64; MAX_ARGUMENTS]) -> u64
     ensures { EachLane (λ a. (p : ℕ) → Agrees words.now a p → bit_at result a ≡ admits (members masks) p) }
 {
     let mut r: u64 = 0;
-    let mut rest = masks;
-    while rest != 0 {
-        let m = u64::trailing_zeros(rest) as u8;
-        rest = rest & (rest - 1);
-        r = r | mask_lanes(m, words);
+    for m in Members::of(masks) {
+        r |= mask_lanes(m, words);
     }
     r
 }
@@ -49,11 +47,8 @@ pub fn mask_lanes(mask: u8, words: &[u64; MAX_ARGUMENTS]) -> u64
     ensures { EachLane (λ a. (p : ℕ) → Agrees words.now a p → bit_at result a ≡ within mask p) }
 {
     let mut w = ALL;
-    let mut m = mask;
-    while m != 0 {
-        let i = u8::trailing_zeros(m) as usize;
-        w = w & words[i];
-        m = m & (m - 1);
+    for i in Members::of(mask as u64) {
+        w &= words[i as usize];
     }
     w
 }

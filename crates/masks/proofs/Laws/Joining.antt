@@ -18,6 +18,9 @@ use Rattle.masks.specs.Set.{bit_at, Holds}
 use Rattle.masks.specs.Outcome.{Outcome, refused, done, Answers}
 use Rattle.masks.specs.declared.reply.Reply.{Reply}
 use Rattle.masks.specs.Joining.{list_fault, or_else, fault, combined, unless, joining}
+use Rattle.masks.specs.Unjoined.{reply, told}
+use Rattle.masks.specs.declared.Unjoined.{Unjoined}
+use Rattle.masks.specs.declared.Unjoined.TheVariants.{OutOfRange, TooMany, TooShort}
 use Rattle.masks.specs.declared.Way.{Way}
 use Rattle.masks.specs.declared.Way.TheVariants.{Choice, Joint}
 use Rattle.masks.proofs.Laws.Logic.{by_bool}
@@ -61,6 +64,14 @@ joint_held word x y i e f =
 
 pub power_le : (arity : ℕ) → arity ≤ max_arity → 2 ^ arity ≤ all_patterns
 power_le arity h = pow-le-pow_right (omega arith) h
+
+pub some_number : (e : Unjoined) (f : ℕ) → reply e ≡ told f → f ≡ 0 → ⊥
+some_number e f h z = go e (ap (λ (r : Reply). r.number) h ∙ z)
+  where
+    go : (e : Unjoined) → (reply e).number ≡ 0 → ⊥
+    go OutOfRange q = omega arith
+    go TooMany q = omega arith
+    go (TooShort e) q = omega arith
 
 module _ (limit : ℕ) (l : List ℕ) where
   pub fault_long : max_masks < length l → 5 ≡ list_fault limit l

@@ -80,8 +80,8 @@ members_first w s z = go (below (bit_at w) 64) refl
         let none = first_none (bit_at w) 64 x xs e in
         let member = first_member (bit_at w) 64 x xs e in
         let x-is : x ≡ m =
-            by_bool (ltb x m) (λ t. clash member (low.none x (ltb-true x m t)))
-            (λ t. by_bool (ltb m x) (λ u. clash low.member (none m (ltb-true m x u))) (λ u. let a = ltb-false x m t in let b = ltb-false m x u in omega arith)) in
+        by_bool (ltb x m) (λ t. clash member (low.none x (ltb-true x m t)))
+        (λ t. by_bool (ltb m x) (λ u. clash low.member (none m (ltb-true m x u))) (λ u. let a = ltb-false x m t in let b = ltb-false m x u in omega arith)) in
         e
         ∙ ap₂ ◌∷◌ x-is
         (first_others (bit_at w) 64 x xs e

@@ -9,7 +9,7 @@ use native.Mathlib.Omega.{arith}
 use lib.Dec.{ltb}
 use lib.ListN.{length, take, drop, length-append, length-drop}
 use lib.Seq.{take_at, drop_at, length-take-le, sets, sets-eq}
-use borrow.Author.Tests.{lt-ltb, le-ltb, ltb-true, ltb-false}
+use borrow.Author.Tests.{lt-ltb, le-ltb, ltb-false}
 use Rattle.masks.specs.Outcome.{Outcome, refused, done, in_room, reply, left, Answers}
 use Rattle.masks.specs.declared.reply.Reply.{Reply}
 use Rattle.masks.proofs.Laws.Logic.{by_bool, clash}
@@ -31,44 +31,23 @@ pub answers_refused : (number value : ℕ) (out : List ℕ) {r : Reply} → r �
 unfolding reply in_room left
 answers_refused number value out e = record { replies = e; leaves = refl }
 
--- the reply of a result of n bytes, in a room of so many
-module _ (n rounds room : ℕ) {r : Reply} (e : r ≡ in_room n rounds room) where
-  -- 9: it has more
-  short : (r.number ≡ 0 → ⊥) → (room < n) × (r ≡ record { number = 9; value = n; rounds = 0 })
-  unfolding in_room
-  short f =
-      by_bool (ltb room n) (λ t. (ltb-true room n t, e ∙ rw t)) (λ t. absurd (f (ap (λ (x : Reply). x.number) e ∙ rw t)))
+module _ {n rounds : ℕ} {bytes out : List ℕ} (size : n ≡ length bytes) where
+  pub answers_short : length out < n → Answers (done rounds bytes) out (record { number = 9; value = n; rounds = 0 }) out
+  unfolding reply in_room left
+  answers_short h =
+      let t = lt-ltb (length out) (length bytes) (omega arith) in
+      record { replies = rw (t, size); leaves = rw t }
 
-  -- else it is 0
-  enough : (r.number ≡ 9 → ⊥) → (n ≤ room) × (r ≡ record { number = 0; value = n; rounds = rounds })
-  unfolding in_room
-  enough f = by_bool (ltb room n) (λ t. absurd (f (ap (λ (x : Reply). x.number) e ∙ rw t))) (λ t. (ltb-false room n t, e ∙ rw t))
-
-  pub room_short : (r.number ≡ 0 → ⊥) → room < n
-  room_short f = (short f).0
-
-  pub room_enough : (r.number ≡ 9 → ⊥) → n ≤ room
-  room_enough f = (enough f).0
-
-  -- where that room is the one lent, nothing is stored, or the bytes are
-  module _ (bytes : List ℕ) (size : n ≡ length bytes) {out : List ℕ} where
-    pub answers_short : length out ≤ room → (r.number ≡ 0 → ⊥) → Answers (done rounds bytes) out r out
-    unfolding reply in_room left
-    answers_short l f =
-        let h = short f in
-        let t = lt-ltb (length out) (length bytes) (omega arith) in
-        record { replies = h.1 ∙ rw (t, size); leaves = rw t }
-
-    pub answers_done : {after : List ℕ} → room ≤ length out → (r.number ≡ 9 → ⊥) → after ≡ sets out 0 bytes → Answers (done rounds bytes) out r after
-    unfolding reply in_room left
-    answers_done l f w =
-        let h = enough f in
-        let t = le-ltb (length out) (length bytes) (omega arith) in
-        let k : 0 + length bytes ≡ length bytes = omega arith in
-        record {
-          replies = h.1 ∙ rw (t, size);
-          leaves = rw t (w ∙ sets-eq bytes out 0 (omega arith) ∙ ap (λ (i : ℕ). bytes ++ drop i out) k);
-        }
+  pub answers_done : {r : Reply} {after : List ℕ} → n ≤ length out → r ≡ record { number = 0; value = n; rounds = rounds } → after ≡ sets out 0 bytes
+      → Answers (done rounds bytes) out r after
+  unfolding reply in_room left
+  answers_done h e w =
+      let t = le-ltb (length out) (length bytes) (omega arith) in
+      let k : 0 + length bytes ≡ length bytes = omega arith in
+      record {
+        replies = e ∙ rw (t, size);
+        leaves = rw t (w ∙ sets-eq bytes out 0 (omega arith) ∙ ap (λ (i : ℕ). bytes ++ drop i out) k);
+      }
 
 -- ---- what holds of every answer
 

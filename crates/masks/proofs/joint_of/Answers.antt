@@ -5,24 +5,24 @@ use Rattle.masks.proofs.Laws.Joining.{joint_start, joint_next, joint_held}
 use Rattle.masks.proofs.Laws.Constraint.{in_range_at}
 use Rattle.masks.proofs.joint_of.Goals as goal
 
-pub loop-i-init : goal.loop-i-init
-loop-i-init c = (omega arith, joint_start c.args.first.now c.args.second.now)
+pub loop-m-init : goal.loop-m-init
+loop-m-init c = (omega arith, joint_start c.args.first.now c.args.second.now)
 
 pub with_unions-set-requires : goal.with_unions-set-requires
 with_unions-set-requires c =
-    let l = c.loop-i in
+    let l = c.loop-m in
     let p = c.requires in
     let s = c.args in
-    (in_range_at 64 s.first.now l.i p.0 (omega arith), p.1)
+    (in_range_at 64 s.first.now l.m-index p.0 (omega arith), p.1)
 
-pub loop-i-preserved : goal.loop-i-preserved
-loop-i-preserved c =
+pub loop-m-preserved : goal.loop-m-preserved
+loop-m-preserved c =
     let s = c.args in
-    let l = c.loop-i in
-    (omega arith, joint_next l.set c.with_unions-set.result s.first.now s.second.now l.i (omega arith) l.invariant.1 c.with_unions-set.ensures)
+    let l = c.loop-m in
+    (omega arith, joint_next l.set c.with_unions-set.result s.first.now s.second.now l.m-index (omega arith) l.invariant.1 c.with_unions-set.ensures)
 
 pub returns : goal.returns
 returns c =
     let s = c.args in
-    let l = c.loop-i in
-    c.written.ensures ∙ joint_held l.set s.first.now s.second.now l.i (omega arith) l.invariant.1
+    let l = c.loop-m in
+    c.written.ensures ∙ joint_held l.set s.first.now s.second.now l.m-index (omega arith) l.invariant.1
