@@ -68,8 +68,7 @@ pub fn argument(call: u64, i: usize) -> u8
 pub fn held(n: u64, room: usize) -> usize
     ensures { result ≡ min n room }
 {
-    let k = n as usize;
-    if k < room { k } else { room }
+    room.min(n as usize)
 }
 
 // Copies clause `from` of an array over clause `to`.
@@ -77,12 +76,6 @@ pub fn move_clause(rules: &mut [u64; RULES_SIZE], from: usize, to: usize)
     requires { (from ≤ max_clauses) × (to ≤ max_clauses) }
     ensures { StoredClause rules.old rules.new to (clause_at rules.old from) }
 {
-    if from != to {
-        let words: &mut [u64] = rules;
-        let mut i: usize = 0;
-        while i < CLAUSE_SIZE {
-            words[to * CLAUSE_SIZE + i] = words[from * CLAUSE_SIZE + i];
-            i += 1;
-        }
-    }
+    let start = from * CLAUSE_SIZE;
+    rules.copy_within(start..start + CLAUSE_SIZE, to * CLAUSE_SIZE);
 }

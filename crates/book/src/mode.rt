@@ -25,12 +25,10 @@ pub fn with_mode(modes: &[u8; MODES_SIZE]) -> u64
     ensures { HaveMode modes.now result }
 {
     let mut set: u64 = 0;
-    let mut p: u8 = 0;
-    while p < PREDICATES {
+    for p in 0..PREDICATES {
         if has_mode(modes, p) {
             set = with_member(set, p);
         }
-        p += 1;
     }
     set
 }

@@ -7,19 +7,20 @@ use Prim.Native.Nat.{ℕ, zero, suc, ◌+◌, ◌-◌, ◌*◌, ◌^◌, min, �
 use native.Mathlib.Numerals.{add-one}
 use native.Mathlib.Omega.{arith}
 use lib.Bits.{bit_or}
-use lib.Dec.{eqb}
-use lib.ListN.{length, get_or, take, drop, set, replicate, length-take, length-drop, length-set}
-use lib.Seq.{take-take, get_or-take, get_or-set_same, get_or-set_other, sets, length-sets}
-use borrow.Author.Tests.{eqb-true, eqb-false, eq-eqb, ne_eqb}
+use lib.Dec.{eqb, ltb}
+use lib.ListN.{length, get_or, take, drop, replicate, length-take, length-drop}
+use lib.Seq.{take-take, get_or-take, sets, length-sets}
+use borrow.Author.Tests.{eqb-true, eqb-false, eq-eqb, ne_eqb, ltb-true, ltb-false}
+use Rattle.std.specs.List.{CopiedTo, SameBelow, SameFrom}
 use Rattle.masks.specs.Limits.{max_arity, max_masks}
 use Rattle.masks.specs.Lists.{any, values, joined}
 use Rattle.masks.specs.Set.{bit_at}
 use Rattle.masks.proofs.Laws.Set.{bit_at_zero, bit_at_more}
 use Rattle.masks.proofs.Laws.Logic.{by_bool, same, and_intro, and_left, and_right, or_right}
 use Rattle.masks.proofs.Laws.Lists.{take_front, length_values, values_cong, get_or_values, joined_cong, joined_cut, any_joined, joined_any}
-use Rattle.book.specs.Limits.{max_predicates, max_clauses, max_subgoals}
+use Rattle.book.specs.Limits.{max_predicates, max_subgoals}
 use Rattle.book.specs.Book.{Head, Call, Mode, Clause}
-use Rattle.book.specs.Held.{window, count_in, byte_of, head_in, call_in, clause_size, rules_size, clause_at, clauses_of, StoredClause, mode_size, has_in, masks_in, mode_bytes, has_mode, HaveMode, mode_at, modes_of, StoredMode}
+use Rattle.book.specs.Held.{window, count_in, byte_of, head_in, call_in, clause_size, clause_at, clauses_of, StoredClause, mode_size, has_in, masks_in, mode_bytes, has_mode, HaveMode, mode_at, modes_of, StoredMode}
 use Rattle.book.proofs.Laws.Windows.{drop_window, get_or_window, get_or_window_first, window_others, drop_longer, Stored, stored_sets}
 
 -- ---- a clause
@@ -74,42 +75,21 @@ clause_at_same rules after k i same =
         ap (λ (p : ℕ). get_or after p 0) (sym e) ∙ same 0 (omega arith) ∙ ap (λ (p : ℕ). get_or rules p 0) f
 
 -- the loop that copies a clause over another: the first i words are copied, and all but the other's are as they were
-pub record Moving (rules : List ℕ) (from to i : ℕ) (now : List ℕ) : Type 0 where
-  pub most : i ≤ clause_size
-  pub size : length now ≡ rules_size
-  pub copied : (j : ℕ) → j < i → get_or now (to * clause_size + j) 0 ≡ get_or rules (from * clause_size + j) 0
-  pub others : (p : ℕ) → (to * clause_size ≤ p → to * clause_size + clause_size ≤ p) → get_or now p 0 ≡ get_or rules p 0
-
-pub moving_start : (rules : List ℕ) (from to : ℕ) → length rules ≡ rules_size → Moving rules from to 0 rules
-moving_start rules from to e = record { most = omega arith; size = e; copied = λ j h. absurd (omega arith); others = λ p h. refl }
-
-module _ {rules : List ℕ} {from to i : ℕ} {now : List ℕ} (ne : from ≡ to → ⊥) (g : Moving rules from to i now) where
-  pub moving_next : to ≤ max_clauses → i < clause_size → Moving rules from to (i + 1) (set now (to * clause_size + i) (get_or now (from * clause_size + i) 0))
-  moving_next low h =
-      let n = g.size in
-      let at = to * clause_size + i in
-      let x = get_or now (from * clause_size + i) 0 in
-      record {
-        most = omega arith;
-        size = simp length-set n;
-        copied = λ j l.
-            by_bool (eqb j i)
-            (λ t.
-            let e = eqb-true j i t in
-            rw e (get_or-set_same now at x 0 (omega arith) ∙ g.others (from * clause_size + i) (λ q. omega (arith, ne))))
-            (λ t.
-            let d = eqb-false j i t in
-            get_or-set_other now at (to * clause_size + j) x 0 (λ q. d (omega arith)) ∙ g.copied j (omega (arith, d)));
-        others = λ p f. get_or-set_other now at p x 0 (λ q. let l = f (omega arith) in omega arith) ∙ g.others p f;
-      }
-
-  pub moving_end : clause_size ≤ i → StoredClause rules now to (clause_at rules from)
-  moving_end h =
-      let m = g.most in
-      record {
-        is = clause_at_same rules now from to (λ j l. g.copied j (omega arith));
-        others = λ k other. clause_at_same rules now k k (λ j l. g.others (k * clause_size + j) (λ q. omega (arith, other)));
-      }
+-- the words of a clause are copied, and the others are as they were
+pub moved_clause : (rules now : List ℕ) (from to n : ℕ) → n ≡ clause_size → CopiedTo rules now (from * clause_size) (to * clause_size) n
+    → SameBelow rules now (to * clause_size) → SameFrom rules now (to * clause_size + n) → StoredClause rules now to (clause_at rules from)
+moved_clause rules now from to n e copied below behind =
+    record {
+      is = clause_at_same rules now from to
+          (λ j l.
+          let q : from * clause_size + (to * clause_size + j - to * clause_size) ≡ from * clause_size + j = omega arith in
+          copied (to * clause_size + j) 0 (omega arith) (omega arith) ∙ ap (λ (i : ℕ). get_or rules i 0) q);
+      others = λ k other.
+          clause_at_same rules now k k
+          (λ j l.
+          by_bool (ltb k to) (λ t. let h = ltb-true k to t in below (k * clause_size + j) 0 (omega arith))
+          (λ t. let h = ltb-false k to t in behind (k * clause_size + j) 0 (omega (arith, other))));
+    }
 
 -- ---- the first n clauses
 
