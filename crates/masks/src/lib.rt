@@ -79,10 +79,7 @@ pub fn joint(arity: u8, first: &[u8], second: &[u8], out: &mut [u8]) -> Reply
 fn join(way: Way, arity: u8, first: &[u8], second: &[u8], out: &mut [u8]) -> Reply
     ensures { Answers (joining way arity first.now second.now) out.old result out.new }
 {
-    match joined(way, arity, first, second, out) {
-        Ok(r) => r,
-        Err(e) => Reply::from(e),
-    }
+    joined(way, arity, first, second, out).unwrap_or_else(Reply::from)
 }
 
 fn joined(
