@@ -2,6 +2,8 @@
 ghost use Rattle.std.specs.Prelude.{◌≡◌};
 ghost use Rattle.book.specs.Format as format;
 
+use masks::reply::Reply;
+
 #[derive(Clone, Copy)]
 pub enum Fault {
     PastEnd,
@@ -12,30 +14,55 @@ pub enum Fault {
     Clash,
 }
 
-// The number of the reply.
-pub fn number(f: Fault) -> u32
-    ensures { result ≡ format.number f }
-{
-    match f {
-        Fault::PastEnd => 1,
-        Fault::NoMark => 2,
-        Fault::OutOfTurn => 3,
-        Fault::OutOfRange => 4,
-        Fault::TooMany => 5,
-        Fault::Clash => 6,
+impl Fault {
+    // The fault, with its place.
+    pub fn at(self, at: usize) -> FaultAt
+        ensures { result ≡ record { fault = self; at = at } }
+    {
+        FaultAt { fault: self, at }
+    }
+
+    // The number of the reply.
+    pub fn number(self) -> u32
+        ensures { result ≡ format.number self }
+    {
+        match self {
+            Fault::PastEnd => 1,
+            Fault::NoMark => 2,
+            Fault::OutOfTurn => 3,
+            Fault::OutOfRange => 4,
+            Fault::TooMany => 5,
+            Fault::Clash => 6,
+        }
+    }
+
+    // The place of a fault, of two: the end of the book, and where the fault is found.
+    pub fn place(self, end: usize, found: usize) -> usize
+        ensures { result ≡ format.place self end found }
+    {
+        match self {
+            Fault::PastEnd => end,
+            Fault::NoMark
+            | Fault::OutOfTurn
+            | Fault::OutOfRange
+            | Fault::TooMany
+            | Fault::Clash => found,
+        }
     }
 }
 
-// The place of a fault, of two: the end of the book, and where the fault is found.
-pub fn place(f: Fault, end: usize, found: usize) -> usize
-    ensures { result ≡ format.place f end found }
-{
-    match f {
-        Fault::PastEnd => end,
-        Fault::NoMark => found,
-        Fault::OutOfTurn => found,
-        Fault::OutOfRange => found,
-        Fault::TooMany => found,
-        Fault::Clash => found,
+// A fault and its place: what reading answers in place of what it read.
+#[derive(Clone, Copy)]
+pub struct FaultAt {
+    pub fault: Fault,
+    pub at: usize,
+}
+
+// A refusal with the fault's number and its place.
+impl From<FaultAt> for Reply {
+    ghost from_gives = { λ e r. r ≡ record { number = format.number e.fault; value = e.at; rounds = 0 } };
+
+    fn from(e: FaultAt) -> Reply {
+        Reply::refused(e.fault.number(), e.at as u64)
     }
 }

@@ -17,16 +17,14 @@ use Rattle.masks.proofs.Laws.Lists.{length_values, get_or_values, take_values}
 use Rattle.book.specs.Book.{Head}
 use Rattle.book.specs.Format.{allows, byte, fields}
 use Rattle.book.specs.Held.{count_in, negated_in, byte_of, head_in}
-use Rattle.book.specs.declared.fault.Fault.{Fault}
+use Rattle.std.specs.Prelude.{Result, Ok, Err}
+use Rattle.book.specs.declared.fault.FaultAt.{FaultAt}
 use Rattle.book.specs.declared.range.Range.{Range}
 use Rattle.book.specs.declared.range.Range.TheVariants.{Below}
 use Rattle.book.proofs.Laws.Words.{word_of, byte_of_word_of}
-use Rattle.records.specs.declared.field.Found.{Found}
-use Rattle.records.specs.declared.field.Found.TheVariants.{Next, Bad}
-use Rattle.records.specs.declared.field.FoundCall.{FoundCall}
-use Rattle.records.specs.Found.{Reads}
+use Rattle.records.specs.Read.{next, value, Reads}
 use Rattle.records.specs.Stored.{argument_from, arguments, ReadsCall}
-use Rattle.records.proofs.Laws.Reads.{argument_is, no_wildcard_is, bad_next, then_bad, then_next, reads_map, Left, left_start, left_bad, left_next, left_end}
+use Rattle.records.proofs.Laws.Reads.{argument_is, no_wildcard_is, err_ok, then_bad, then_next, reads_map, reads_same, Left, left_start, left_bad, left_next, left_end}
 
 -- ---- arguments
 
@@ -123,40 +121,49 @@ module _ (r : Range) (s : List ℕ) (p k n from : ℕ) where
     pub calling_less : w < 2 ^ shift
     calling_less = let l = word_of_less (p ∷ k ∷ c.args) c.bytes in rw c.word (subst (λ (j : ℕ). word_of (p ∷ k ∷ c.args) < 2 ^ j) size l)
 
-    module _ (h : i < n) {g : Found} (w· : Reads s g (λ x. x) (byte r (drop at s))) where
-      pub calling_bad : {negated : Bool} {v : Fault} {q : ℕ} → g ≡ Bad v q → ReadsCall s (record { found = g; call = w }) negated (arguments r p n (drop from s))
+    module _ (h : i < n) {g : Result (ℕ × ℕ) FaultAt} (w· : Reads next s g value (byte r (drop at s))) where
+      pub calling_bad : {negated : Bool} {e : FaultAt} → g ≡ Err e → ReadsCall s (Err e) negated (arguments r p n (drop from s))
       unfolding arguments
-      calling_bad e = record { reads = then_bad _ (left_bad r s n from c.left h w· {f = λ j. []} e) e; sign = λ at m d. bad_next e d }
+      calling_bad e = record { reads = then_bad (left_bad r s n from c.left h w· {then = next} {f = λ j. []} e) _ refl; sign = λ v d. err_ok refl d }
 
-      pub calling_next : {next x more : ℕ} → g ≡ Next next x → x < 256 → more ≡ w + x * 2 ^ shift → Calling r s p k n from next (i + 1) (shift + 8) more
-      calling_next {next} {x} e b d =
+      pub calling_next : {v : ℕ × ℕ} {more : ℕ} → g ≡ Ok v → value v < 256 → more ≡ w + value v * 2 ^ shift → Calling r s p k n from (next v) (i + 1) (shift + 8) more
+      calling_next {v} e b d =
           record {
-            args = c.args ++ (x ∷ []);
+            args = c.args ++ (value v ∷ []);
             left = left_next r s n from c.left h w· e;
-            bytes = are_bytes_last (p ∷ k ∷ c.args) x c.bytes b;
-            word = d ∙ ap₂ (λ (a j : ℕ). a + x * 2 ^ j) c.word (sym size) ∙ sym (word_of_last (p ∷ k ∷ c.args) x);
+            bytes = are_bytes_last (p ∷ k ∷ c.args) (value v) c.bytes b;
+            word = d ∙ ap₂ (λ (a j : ℕ). a + value v * 2 ^ j) c.word (sym size) ∙ sym (word_of_last (p ∷ k ∷ c.args) (value v));
             place = let f = c.place in omega arith;
           }
 
     pub calling_end : {negated : Bool} → (count_in k ≡ n) × (negated_in k ≡ negated) → n ≤ max_arity → n ≤ i
-        → ReadsCall s (record { found = Next at 0; call = w }) negated (arguments r p n (drop from s))
+        → ReadsCall s (Ok (at, w)) negated (arguments r p n (drop from s))
     unfolding arguments
     calling_end counts few h =
         let e : length c.args ≡ n = (let t = c.left.turns in let z = c.left.size in omega arith) in
         let is : head_in w ≡ record { pred = p; args = c.args } = ap head_in c.word ∙ head_in_word p k n c.args counts.0 few e c.bytes in
         record {
-          reads = rw is (reads_map (λ (l : List ℕ). record { pred = p; args = l }) (left_end r s n from c.left 0 h));
-          sign = λ a m d. ap (λ (x : ℕ). negated_in (byte_of x 1)) c.word ∙ ap negated_in (byte_of_word_of (p ∷ k ∷ c.args) c.bytes 1) ∙ counts.1;
+          reads =
+              reads_same (reads_map (left_end r s n from c.left {after = next} {v = (at, w)} refl h) (λ (l : List ℕ). record { pred = p; args = l }))
+              (λ v d. ap head_in (same v d) ∙ is);
+          sign =
+              λ v d.
+              ap (λ (x : ℕ). negated_in (byte_of x 1)) (same v d ∙ c.word)
+              ∙ ap negated_in (byte_of_word_of (p ∷ k ∷ c.args) c.bytes 1)
+              ∙ counts.1;
         }
+      where
+        same : (v : ℕ × ℕ) → ◌≡◌ {A = Result (ℕ × ℕ) FaultAt} (Ok (at, w)) (Ok v) → value v ≡ w
+        same v d = cc
 
 -- ---- a call
 
-module _ (range : Range) (ar s : List ℕ) (at : ℕ) {g : Found} (w : Reads s g (λ x. x) (byte (Below (length ar)) (drop at s))) where
-  pub call_none : {negated : Bool} {word : ℕ} {v : Fault} {p : ℕ} → g ≡ Bad v p → ReadsCall s (record { found = g; call = word }) negated (fields range ar (drop at s))
+module _ (range : Range) (ar s : List ℕ) (at : ℕ) {g : Result (ℕ × ℕ) FaultAt} (w : Reads next s g value (byte (Below (length ar)) (drop at s))) where
+  pub call_none : {negated : Bool} {e : FaultAt} → g ≡ Err e → ReadsCall s (Err e) negated (fields range ar (drop at s))
   unfolding fields
-  call_none e = record { reads = then_bad _ w e; sign = λ a m d. bad_next e d }
+  call_none e = record { reads = then_bad w _ e; sign = λ v d. err_ok refl d }
 
-  pub call_read : {next p : ℕ} {c : FoundCall} {negated : Bool} → g ≡ Next next p → ReadsCall s c negated (arguments range p (get_or ar p 0) (drop next s))
-      → ReadsCall s c negated (fields range ar (drop at s))
+  pub call_read : {v : ℕ × ℕ} {c : Result (ℕ × ℕ) FaultAt} {negated : Bool} → g ≡ Ok v
+      → ReadsCall s c negated (arguments range (value v) (get_or ar (value v) 0) (drop (next v) s)) → ReadsCall s c negated (fields range ar (drop at s))
   unfolding fields arguments
-  call_read e v = record { reads = then_next _ w e v.reads; sign = v.sign }
+  call_read e v = record { reads = then_next w _ e v.reads; sign = v.sign }

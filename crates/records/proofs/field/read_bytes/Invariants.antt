@@ -1,10 +1,6 @@
--- `records::field::read_bytes` meets its contract. Each turn keeps what is still to be read equal to the whole; the bytes left fall. Assumes nothing.
-use Prim.Native.Nat.{◌-◌}
+-- `records::field::read_bytes` meets its contract. Each turn keeps what is still to be read equal to the whole. Assumes nothing.
 use Rattle.records.proofs.Laws.Stores.{Laying}
 use Rattle.records.proofs.field.read_bytes.Given as goal
 
 abbrev pub invariant-loop-i : goal.invariant-loop-i
 invariant-loop-i l = Laying l.range l.s l.k l.from l.at l.i l.start l.initial.out l.out
-
-abbrev pub decreases-loop-i : goal.decreases-loop-i
-decreases-loop-i l = l.n - l.i
