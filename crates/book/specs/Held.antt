@@ -107,3 +107,7 @@ book_in preds arities modes clauses rules =
       clauses = clauses_of rules (min clauses max_clauses);
       query = (clause_at rules max_clauses).body;
     }
+
+-- no predicate has MO
+abbrev pub NoModes : List ℕ → Type 0
+NoModes modes = (p : ℕ) → mode_at modes p ≡ []

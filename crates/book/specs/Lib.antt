@@ -8,3 +8,4 @@ pub mod Encode
 pub mod Held
 pub mod Table
 pub mod Sets
+pub mod Refusal

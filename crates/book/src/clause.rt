@@ -7,8 +7,64 @@ ghost use Rattle.book.specs.Limits.{max_clauses};
 ghost use Rattle.book.specs.Book.{no_call};
 ghost use Rattle.book.specs.Held.{head_in, call_in, clause_at, StoredClause};
 
+use crate::call::Call;
 use crate::limits::{CLAUSE_SIZE, MAX_SUBGOALS, RULES_SIZE};
 use masks::limits::MAX_ARGUMENTS;
+use std::marker::Model;
+
+// A clause where it stands, among those of a book.
+#[derive(Drop)]
+pub struct Clause<'a> {
+    rules: &'a [u64; RULES_SIZE],
+    k: usize,
+}
+
+impl<'a> Model for Clause<'a> {
+    ghost use Rattle.std.specs.Prelude.{◌≤◌};
+    ghost use Rattle.book.specs.Book as book;
+    ghost use Rattle.book.specs.Limits.{max_clauses};
+    ghost use Rattle.book.specs.Held.{clause_at};
+
+    ghost Value = { book.Clause };
+
+    ghost view = { λ c. clause_at c.rules.now c.k };
+
+    ghost invariant = { λ c. c.k ≤ max_clauses };
+}
+
+impl<'a> Clause<'a> {
+    // Clause k of an array.
+    pub fn at(rules: &'a [u64; RULES_SIZE], k: usize) -> Clause<'a>
+        requires { k ≤ max_clauses }
+        ensures { result ≡ clause_at rules.now k }
+    {
+        Clause { rules, k }
+    }
+
+    pub fn head(&self) -> Call
+        ensures { head_in result.word ≡ self.now.head }
+    {
+        Call {
+            word: self.rules[self.k * CLAUSE_SIZE + 1],
+        }
+    }
+
+    // How many subgoals it has.
+    pub fn subgoals(&self) -> usize
+        ensures { result ≡ length self.now.body }
+    {
+        MAX_SUBGOALS.min(self.rules[self.k * CLAUSE_SIZE] as usize)
+    }
+
+    pub fn subgoal(&self, j: usize) -> Call
+        requires { j < length self.now.body }
+        ensures { call_in result.word ≡ get_or self.now.body j no_call }
+    {
+        Call {
+            word: self.rules[self.k * CLAUSE_SIZE + 2 + j],
+        }
+    }
+}
 
 // The head of clause k of an array.
 pub fn head_at(rules: &[u64; RULES_SIZE], k: usize) -> u64

@@ -42,11 +42,8 @@ impl Fault {
     {
         match self {
             Fault::PastEnd => end,
-            Fault::NoMark
-            | Fault::OutOfTurn
-            | Fault::OutOfRange
-            | Fault::TooMany
-            | Fault::Clash => found,
+            Fault::NoMark | Fault::OutOfTurn | Fault::OutOfRange | Fault::TooMany | Fault::Clash =>
+                found,
         }
     }
 }

@@ -4,9 +4,12 @@
 // Reading and writing are crates of their own.
 #![tactic(auto)]
 
+pub mod call;
 pub mod clause;
 pub mod fault;
+pub mod held;
 pub mod limits;
 pub mod mark;
 pub mod mode;
 pub mod range;
+pub mod refusal;

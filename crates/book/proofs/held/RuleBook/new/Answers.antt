@@ -1,0 +1,6 @@
+-- `book::held::RuleBook::new` meets its contract. Assumes nothing.
+use Rattle.book.proofs.Laws.Held.{mode_at_zeros}
+use Rattle.book.proofs.held.RuleBook.new.Goals as goal
+
+pub returns : goal.returns
+returns c = mode_at_zeros 1408
