@@ -23,7 +23,7 @@ loop-j-init c =
     adding_start args.rules.now args.k args.callers.now (let l = c.words-1.given.0.1 in omega arith)
 
 pub subgoal_at-requires : goal.subgoal_at-requires
-subgoal_at-requires c = let n = c.subgoals_at-n.ensures in (c.requires.0, omega arith)
+subgoal_at-requires c = let n = c.subgoals_at-j-end.ensures in (c.requires.0, omega arith)
 
 -- in a turn: p is the head's predicate and q that of subgoal j
 module _ (c : After-predicate-q) where
@@ -36,7 +36,7 @@ module _ (c : After-predicate-q) where
   low : c.predicate-q.result < max_predicates
   low =
       let e = is in
-      let n = c.subgoals_at-n.ensures in
+      let n = c.subgoals_at-j-end.ensures in
       let l = callable_low (clause_at c.args.rules.now c.args.k).body c.loop-j.j c.requires.2 (omega arith) in
       omega arith
 
@@ -58,9 +58,9 @@ bounds-words-q-in-loop-j c = let l = low c.before.before in let s = c.loop-j.inv
 pub loop-j-preserved : goal.loop-j-preserved
 loop-j-preserved c =
     let d = c.before.before in
-    let n = c.subgoals_at-n.ensures in
+    let n = c.subgoals_at-j-end.ensures in
     rw c.with_member.ensures
     (adding_next c.loop-j.invariant c.predicate-p.result d.predicate-q.result (low d) (omega arith) (head d) (is d))
 
 pub returns : goal.returns
-returns c = let n = c.subgoals_at-n.ensures in adding_end c.loop-j.invariant (omega arith)
+returns c = let n = c.subgoals_at-j-end.ensures in adding_end c.loop-j.invariant (omega arith)

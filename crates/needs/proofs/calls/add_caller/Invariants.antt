@@ -5,6 +5,3 @@ use Rattle.needs.proofs.calls.add_caller.Given as goal
 
 abbrev pub invariant-loop-j : goal.invariant-loop-j
 invariant-loop-j l = Adding l.rules l.k l.initial.words l.j l.words
-
-abbrev pub decreases-loop-j : goal.decreases-loop-j
-decreases-loop-j l = l.n - l.j

@@ -7,6 +7,3 @@ use Rattle.needs.proofs.calls.own_clauses.Given as goal
 
 abbrev pub invariant-loop-k : goal.invariant-loop-k
 invariant-loop-k l = Owning l.rules l.clauses l.k l.words × Heading l.rules l.clauses l.k l.heads
-
-abbrev pub decreases-loop-k : goal.decreases-loop-k
-decreases-loop-k l = l.clauses - l.k

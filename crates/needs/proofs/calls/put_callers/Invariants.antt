@@ -5,6 +5,3 @@ use Rattle.needs.proofs.calls.put_callers.Given as goal
 
 abbrev pub invariant-loop-k : goal.invariant-loop-k
 invariant-loop-k l = Gathering l.rules l.clauses l.k l.callers
-
-abbrev pub decreases-loop-k : goal.decreases-loop-k
-decreases-loop-k l = l.clauses - l.k
