@@ -18,12 +18,11 @@ pub fn own_clauses(clauses: u8, rules: &[u64; RULES_SIZE], own: &mut [u64; MAX_P
     ensures owns { Owns rules.now clauses own.new }
     ensures holds { Holds result (defined (clauses_of rules.now clauses)) }
 {
-    let words: &mut [u64] = own;
     let mut heads = 0;
     for k in 0..clauses {
         let p = predicate(head_at(rules, k as usize));
         let q = p as usize;
-        words[q] = with_member(words[q], k);
+        own[q] = with_member(own[q], k);
         heads = with_member(heads, p);
     }
     heads
@@ -44,11 +43,10 @@ fn add_caller(rules: &[u64; RULES_SIZE], k: usize, callers: &mut [u64; MAX_PREDI
     requires { (k ≤ max_clauses) × ((clause_at rules.now k).head.pred < max_predicates) × (callable (clause_at rules.now k).body ≡ true) }
     ensures { Added rules.now k callers.old callers.new }
 {
-    let words: &mut [u64] = callers;
     let p = predicate(head_at(rules, k));
     for j in 0..subgoals_at(rules, k) {
         let q = predicate(subgoal_at(rules, k, j)) as usize;
-        words[q] = with_member(words[q], p);
+        callers[q] = with_member(callers[q], p);
     }
 }
 

@@ -34,17 +34,15 @@ pub fn first_table(
     ensures preds_after { table_in table.new preds ≡ first_needs (modes_of modes.now max_predicates) preds }
     ensures admitted { Admitted table.new admits.new }
 {
-    let masks: &mut [u64] = table;
-    let patterns: &mut [u64] = admits;
     for p in 0..preds {
         let q = p as usize;
         if has_mode(modes, p) {
             let c = minimised(masks_at(modes, p));
-            masks[q] = c;
-            patterns[q] = admitted(c);
+            table[q] = c;
+            admits[q] = admitted(c);
         } else {
-            masks[q] = TRIVIAL;
-            patterns[q] = ALL;
+            table[q] = TRIVIAL;
+            admits[q] = ALL;
         }
     }
 }

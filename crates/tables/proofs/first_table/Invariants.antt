@@ -4,4 +4,4 @@ use Rattle.tables.proofs.Laws.Held.{Filling}
 use Rattle.tables.proofs.first_table.Given as goal
 
 abbrev pub invariant-loop-p : goal.invariant-loop-p
-invariant-loop-p l = Filling l.modes l.p l.masks l.patterns
+invariant-loop-p l = Filling l.modes l.p l.table l.admits

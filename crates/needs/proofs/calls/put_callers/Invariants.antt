@@ -1,5 +1,4 @@
 -- `needs::calls::put_callers` meets its contract. The loop's invariant: each predicate's set has those whose first k clauses call it. Assumes nothing.
-use Prim.Native.Nat.{◌-◌}
 use Rattle.needs.proofs.Laws.Calls.{Gathering}
 use Rattle.needs.proofs.calls.put_callers.Given as goal
 
