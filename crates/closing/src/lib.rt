@@ -37,8 +37,8 @@ pub fn close(book: &[u8], set: u64, out: &mut [u8]) -> Reply
 
 // The highest chosen predicate has its record where a book lists it: predicates come first, three bytes each. It is a hint, which no promise rests on.
 fn lists(book: &[u8], set: u64) -> bool {
-    let at = 3 * (63 - u64::leading_zeros(set | 1) as usize);
-    at < book.len() && book[at] == b'P'
+    let at = 3 * (set | 1).ilog2() as usize;
+    book.get(at) == Some(&b'P')
 }
 
 // What a book is refused with once it is read: its fault, or 8; else 0.
