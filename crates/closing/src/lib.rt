@@ -11,9 +11,10 @@ ghost use Rattle.closing.specs.Close.{closing};
 ghost use Rattle.closing.specs.Held.{Lacking, Few, ModesClosed, ClausesKept};
 
 use book::clause::{head_at, move_clause, predicate};
-use book::limits::{MAX_PREDICATES, MODES_SIZE, NO_CALL, PREDICATES, RULES_SIZE};
+use book::limits::{MAX_PREDICATES, MODES_SIZE, NO_CALL, RULES_SIZE};
 use book::mode::put_mode;
 use masks::constraint::has_member;
+use masks::members::Members;
 use masks::reply::Reply;
 use needs::settle;
 use reading::{Reading, read_book, read_only};
@@ -36,8 +37,8 @@ pub fn close(book: &[u8], set: u64, out: &mut [u8]) -> Reply
 
 // The highest chosen predicate has its record where a book lists it: predicates come first, three bytes each. It is a hint, which no promise rests on.
 fn lists(book: &[u8], set: u64) -> bool {
-    let at = 3 * (63 - u64::leading_zeros(set | 1) as usize);
-    at < book.len() && book[at] == b'P'
+    let at = 3 * (set | 1).ilog2() as usize;
+    book.get(at) == Some(&b'P')
 }
 
 // What a book is refused with once it is read: its fault, or 8; else 0.
@@ -87,7 +88,7 @@ fn close_over(book: &[u8], set: u64, out: &mut [u8]) -> Reply
 fn chosen_from(set: u64, n: u8) -> u64
     ensures { Holds result (λ k. bit_at set (n + k)) }
 {
-    if n < PREDICATES { set >> n } else { 0 }
+    set.checked_shr(n as u32).unwrap_or(0)
 }
 
 // Gives each chosen predicate `MO` with its constraint in a table, of at most 20 masks.
@@ -95,10 +96,7 @@ fn close_modes(modes: &mut [u8; MODES_SIZE], set: u64, table: &[u64; MAX_PREDICA
     requires { Few (bit_at set) table.now }
     ensures { ModesClosed (bit_at set) table.now modes.old modes.new }
 {
-    let mut rest = set;
-    while rest != 0 {
-        let p = u64::trailing_zeros(rest) as u8;
-        rest = rest & (rest - 1);
+    for p in Members::of(set) {
         put_mode(modes, p, table[p as usize]);
     }
 }
@@ -109,14 +107,12 @@ fn keep_clauses(rules: &mut [u64; RULES_SIZE], clauses: u8, set: u64) -> u8
     ensures { ClausesKept (bit_at set) rules.old clauses rules.new result }
 {
     let mut n: u8 = 0;
-    let mut k: u8 = 0;
-    while k < clauses {
+    for k in 0..clauses {
         let p = predicate(head_at(rules, k as usize));
         if !has_member(set, p) {
             move_clause(rules, k as usize, n as usize);
             n += 1;
         }
-        k += 1;
     }
     n
 }

@@ -10,6 +10,7 @@ ghost use Rattle.needs.specs.Sets.{some_in, Calling, Added};
 use book::clause::{head_at, predicate, subgoal_at, subgoals_at};
 use book::limits::{MAX_PREDICATES, RULES_SIZE};
 use masks::constraint::with_member;
+use masks::members::Members;
 
 // The clauses of each predicate, as sets in words that are empty yet: clause k is in it where bit k is set. The predicates that have any.
 pub fn own_clauses(clauses: u8, rules: &[u64; RULES_SIZE], own: &mut [u64; MAX_PREDICATES]) -> u64
@@ -17,15 +18,12 @@ pub fn own_clauses(clauses: u8, rules: &[u64; RULES_SIZE], own: &mut [u64; MAX_P
     ensures owns { Owns rules.now clauses own.new }
     ensures holds { Holds result (defined (clauses_of rules.now clauses)) }
 {
-    let words: &mut [u64] = own;
-    let mut heads: u64 = 0;
-    let mut k: u8 = 0;
-    while k < clauses {
+    let mut heads = 0;
+    for k in 0..clauses {
         let p = predicate(head_at(rules, k as usize));
         let q = p as usize;
-        words[q] = with_member(words[q], k);
+        own[q] = with_member(own[q], k);
         heads = with_member(heads, p);
-        k += 1;
     }
     heads
 }
@@ -35,10 +33,8 @@ pub fn put_callers(clauses: u8, rules: &[u64; RULES_SIZE], callers: &mut [u64; M
     requires { (clauses ≤ max_clauses) × Known rules.now clauses × Cleared callers.old }
     ensures { Calling rules.now clauses callers.new }
 {
-    let mut k: u8 = 0;
-    while k < clauses {
-        add_caller(rules, k as usize, callers);
-        k += 1;
+    for k in 0..clauses as usize {
+        add_caller(rules, k, callers);
     }
 }
 
@@ -47,14 +43,10 @@ fn add_caller(rules: &[u64; RULES_SIZE], k: usize, callers: &mut [u64; MAX_PREDI
     requires { (k ≤ max_clauses) × ((clause_at rules.now k).head.pred < max_predicates) × (callable (clause_at rules.now k).body ≡ true) }
     ensures { Added rules.now k callers.old callers.new }
 {
-    let words: &mut [u64] = callers;
     let p = predicate(head_at(rules, k));
-    let n = subgoals_at(rules, k);
-    let mut j: usize = 0;
-    while j < n {
+    for j in 0..subgoals_at(rules, k) {
         let q = predicate(subgoal_at(rules, k, j)) as usize;
-        words[q] = with_member(words[q], p);
-        j += 1;
+        callers[q] = with_member(callers[q], p);
     }
 }
 
@@ -62,12 +54,9 @@ fn add_caller(rules: &[u64; RULES_SIZE], k: usize, callers: &mut [u64; MAX_PREDI
 pub fn calling(callers: &[u64; MAX_PREDICATES], called: u64) -> u64
     ensures { Holds result (λ p. some_in called (λ q. bit_at (get_or callers.now q 0) p) max_predicates) }
 {
-    let mut set: u64 = 0;
-    let mut rest = called;
-    while rest != 0 {
-        let q = u64::trailing_zeros(rest) as usize;
-        rest = rest & (rest - 1);
-        set = set | callers[q];
+    let mut set = 0;
+    for q in Members::of(called) {
+        set |= callers[q as usize];
     }
     set
 }

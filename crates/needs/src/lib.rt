@@ -68,7 +68,8 @@ pub fn settle<'a>(
     first_table(preds, modes, table, admits);
     let mut callers = [0u64; MAX_PREDICATES];
     put_callers(clauses, rules, &mut callers);
-    let mut k: u64 = 0;
+    let mut k = 0;
+    // That this ends is a theorem and no count: a `for` over `0..` would ask for an `unreachable!` behind it.
     loop {
         let changed = round(rules, own, table, *admits, due, admits);
         if changed == 0 {

@@ -34,20 +34,16 @@ pub fn first_table(
     ensures preds_after { table_in table.new preds ≡ first_needs (modes_of modes.now max_predicates) preds }
     ensures admitted { Admitted table.new admits.new }
 {
-    let masks: &mut [u64] = table;
-    let patterns: &mut [u64] = admits;
-    let mut p: u8 = 0;
-    while p < preds {
+    for p in 0..preds {
         let q = p as usize;
         if has_mode(modes, p) {
             let c = minimised(masks_at(modes, p));
-            masks[q] = c;
-            patterns[q] = admitted(c);
+            table[q] = c;
+            admits[q] = admitted(c);
         } else {
-            masks[q] = TRIVIAL;
-            patterns[q] = ALL;
+            table[q] = TRIVIAL;
+            admits[q] = ALL;
         }
-        p += 1;
     }
 }
 
@@ -56,11 +52,9 @@ pub fn image_length(preds: u8, table: &[u64; MAX_PREDICATES]) -> usize
     requires { preds ≤ max_predicates }
     ensures { LengthOf preds table.now result }
 {
-    let mut total: usize = 0;
-    let mut p: usize = 0;
-    while p < preds as usize {
-        total += 5 + count(table[p]);
-        p += 1;
+    let mut total = 0;
+    for &masks in &table[..preds as usize] {
+        total += 5 + count(masks);
     }
     total
 }
@@ -76,13 +70,11 @@ pub fn put_image<'a>(
     requires { (preds ≤ max_predicates) × LowArities preds arities.now × Admitted table.now admits.now × Room out.old 0 (rows arities.now (table_in table.now preds) preds) }
     ensures { Wrote out.old out.new 0 result (rows arities.now (table_in table.now preds) preds) }
 {
-    let mut at: usize = 0;
-    let mut p: u8 = 0;
-    while p < preds {
+    let mut at = 0;
+    for p in 0..preds {
         let i = p as usize;
         let fit = fitting(admits[i], arities[i]);
         at = put_row(out, at, p, table[i], fit);
-        p += 1;
     }
     at
 }

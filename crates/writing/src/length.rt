@@ -6,10 +6,10 @@ ghost use Rattle.book.specs.Limits.{max_predicates, max_clauses, max_subgoals};
 ghost use Rattle.book.specs.Encode.{run, enc_mode, enc_subgoal, enc_clause, encode};
 ghost use Rattle.book.specs.Held.{clause_at, clauses_of, HaveMode, modes_of, book_in};
 
-use crate::put::least;
 use book::clause::{arguments, head_at, subgoal_at, subgoals_at};
 use book::limits::{MAX_CLAUSES, MAX_PREDICATES, MODES_SIZE, RULES_SIZE};
 use book::mode::masks_at;
+use masks::members::Members;
 
 // How many bytes the book of these fields has: three a predicate, its modes and clauses, two for `QU`, and its query.
 pub fn book_length<'a>(
@@ -23,8 +23,7 @@ pub fn book_length<'a>(
     requires { HaveMode modes.now given }
     ensures { result ≡ length (encode (book_in preds arities.now modes.now clauses rules.now)) }
 {
-    let bytes: &[u8] = arities;
-    let n = least(preds as usize, bytes.len());
+    let n = (preds as usize).min(MAX_PREDICATES);
     3 * n
         + modes_length(modes, given)
         + clauses_length(clauses, rules)
@@ -38,11 +37,8 @@ fn modes_length(modes: &[u8; MODES_SIZE], given: u64) -> usize
     ensures value { result ≡ length (run enc_mode (modes_of modes.now max_predicates)) }
     ensures upper_bound { result ≤ max_predicates * (4 + max_masks) }
 {
-    let mut total: usize = 0;
-    let mut rest = given;
-    while rest != 0 {
-        let p = u64::trailing_zeros(rest) as u8;
-        rest = rest & (rest - 1);
+    let mut total = 0;
+    for p in Members::of(given) {
         let masks = masks_at(modes, p);
         total += 4 + masks.len();
     }
@@ -54,12 +50,10 @@ fn clauses_length(clauses: u8, rules: &[u64; RULES_SIZE]) -> usize
     ensures value { result ≡ length (run enc_clause (clauses_of rules.now (min clauses max_clauses))) }
     ensures upper_bound { result ≤ max_clauses * (3 + max_arity + max_subgoals * (3 + max_arity)) }
 {
-    let n = least(clauses as usize, MAX_CLAUSES);
-    let mut total: usize = 0;
-    let mut k: usize = 0;
-    while k < n {
+    let n = (clauses as usize).min(MAX_CLAUSES);
+    let mut total = 0;
+    for k in 0..n {
         total += 3 + arguments(head_at(rules, k)) + body_length(rules, k);
-        k += 1;
     }
     total
 }
@@ -70,12 +64,9 @@ fn body_length(rules: &[u64; RULES_SIZE], k: usize) -> usize
     ensures value { result ≡ length (run enc_subgoal (clause_at rules.now k).body) }
     ensures upper_bound { result ≤ max_subgoals * (3 + max_arity) }
 {
-    let n = subgoals_at(rules, k);
-    let mut total: usize = 0;
-    let mut j: usize = 0;
-    while j < n {
+    let mut total = 0;
+    for j in 0..subgoals_at(rules, k) {
         total += 3 + arguments(subgoal_at(rules, k, j));
-        j += 1;
     }
     total
 }

@@ -14,10 +14,11 @@ ghost use Rattle.book.specs.Held.{head_in, call_in, clause_at, clauses_of, HaveM
 ghost use Rattle.writing.specs.Wrote.{Room, Wrote};
 
 use crate::length::book_length;
-use crate::put::{least, put_byte, put_bytes, put_mark};
+use crate::put::{put_byte, put_bytes, put_mark};
 use book::clause::{argument, arguments, head_at, negated, predicate, subgoal_at, subgoals_at};
 use book::limits::{MAX_CLAUSES, MAX_PREDICATES, MODES_SIZE, RULES_SIZE};
 use book::mode::{masks_at, with_mode};
+use masks::members::Members;
 use masks::reply::Reply;
 
 // Writes the bytes of a book from the output's start, or answers 9 where the output is too short.
@@ -80,14 +81,11 @@ fn put_predicates(out: &mut [u8], at: usize, preds: u8, arities: &[u8; MAX_PREDI
     requires { Room out.old at (run enc_predicate (take preds arities.now)) }
     ensures { Wrote out.old out.new at result (run enc_predicate (take preds arities.now)) }
 {
-    let bytes: &[u8] = arities;
-    let n = least(preds as usize, MAX_PREDICATES);
+    let n = (preds as usize).min(MAX_PREDICATES);
     let mut p = at;
-    let mut i: usize = 0;
-    while i < n {
+    for &arity in &arities[..n] {
         let q = put_mark(out, p, b"PR");
-        p = put_byte(out, q, bytes[i]);
-        i += 1;
+        p = put_byte(out, q, arity);
     }
     p
 }
@@ -98,10 +96,7 @@ fn put_modes(out: &mut [u8], at: usize, modes: &[u8; MODES_SIZE], given: u64) ->
     ensures { Wrote out.old out.new at result (run enc_mode (modes_of modes.now max_predicates)) }
 {
     let mut q = at;
-    let mut rest = given;
-    while rest != 0 {
-        let p = u64::trailing_zeros(rest) as u8;
-        rest = rest & (rest - 1);
+    for p in Members::of(given) {
         q = put_mode(out, q, p, masks_at(modes, p));
     }
     q
@@ -123,12 +118,10 @@ fn put_clauses(out: &mut [u8], at: usize, clauses: u8, rules: &[u64; RULES_SIZE]
     requires { Room out.old at (run enc_clause (clauses_of rules.now (min clauses max_clauses))) }
     ensures { Wrote out.old out.new at result (run enc_clause (clauses_of rules.now (min clauses max_clauses))) }
 {
-    let n = least(clauses as usize, MAX_CLAUSES);
+    let n = (clauses as usize).min(MAX_CLAUSES);
     let mut p = at;
-    let mut k: usize = 0;
-    while k < n {
+    for k in 0..n {
         p = put_clause(out, p, rules, k);
-        k += 1;
     }
     p
 }
@@ -148,12 +141,9 @@ fn put_body(out: &mut [u8], at: usize, rules: &[u64; RULES_SIZE], k: usize) -> u
     requires { (k ≤ max_clauses) × Room out.old at (run enc_subgoal (clause_at rules.now k).body) }
     ensures { Wrote out.old out.new at result (run enc_subgoal (clause_at rules.now k).body) }
 {
-    let n = subgoals_at(rules, k);
     let mut p = at;
-    let mut j: usize = 0;
-    while j < n {
+    for j in 0..subgoals_at(rules, k) {
         p = put_subgoal(out, p, subgoal_at(rules, k, j));
-        j += 1;
     }
     p
 }
@@ -176,12 +166,9 @@ fn put_call(out: &mut [u8], at: usize, call: u64) -> usize
     requires { Room out.old at (enc_head (head_in call)) }
     ensures { Wrote out.old out.new at result (enc_head (head_in call)) }
 {
-    let n = arguments(call);
     let mut p = put_byte(out, at, predicate(call));
-    let mut i: usize = 0;
-    while i < n {
+    for i in 0..arguments(call) {
         p = put_byte(out, p, argument(call, i));
-        i += 1;
     }
     p
 }

@@ -22,10 +22,8 @@ pub fn put_bytes(out: &mut [u8], at: usize, b: &[u8]) -> usize
     ensures { Wrote out.old out.new at result b.now }
 {
     let mut p = at;
-    let mut i: usize = 0;
-    while i < b.len() {
-        p = put_byte(out, p, b[i]);
-        i += 1;
+    for &x in b {
+        p = put_byte(out, p, x);
     }
     p
 }

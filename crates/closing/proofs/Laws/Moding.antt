@@ -3,20 +3,18 @@
 use mathlib.Core.Path.{◌≡◌, refl, sym, ap, ◌∙◌}
 use mathlib.Core.Bool.{true, false}
 use mathlib.Core.List.{List, [], ◌∷◌}
-use Prim.Native.Nat.{ℕ, suc, ◌-◌, ◌^◌, ◌≤◌, ◌<◌}
+use Prim.Native.Nat.{ℕ, suc, ◌≤◌, ◌<◌}
 use native.Mathlib.Omega.{arith}
-use lib.Bits.{bit_and}
-use lib.Count.{count_trailing_zeros}
 use lib.Dec.{eqb}
 use borrow.Author.Tests.{eqb-true, eqb-false}
-use Rattle.masks.specs.Set.{bit_at}
+use Rattle.masks.specs.Set.{bit_at, members}
 use Rattle.book.specs.Limits.{max_predicates}
 use Rattle.book.specs.Book.{Mode}
 use Rattle.book.specs.Held.{mode_at, StoredMode}
 use Rattle.book.specs.Table.{entry_in}
 use Rattle.closing.specs.Held.{ModesClosed}
 use Rattle.masks.proofs.Laws.Logic.{by_bool, clash}
-use Rattle.masks.proofs.Laws.Members.{Over, over_start, over_end, over_lowest, over_member, over_here, over_next}
+use Rattle.masks.proofs.Laws.Loops.{Over, over_start, over_end, over_small, over_member, over_here, over_next}
 use Rattle.book.proofs.Laws.Held.{mode_at_others}
 
 module _ (set : ℕ) (table modes : List ℕ) where
@@ -29,9 +27,9 @@ module _ (set : ℕ) (table modes : List ℕ) where
     pub done : (p : ℕ) → p < n → bit_at set p ≡ true → mode_at now p ≡ given p
     pub kept : (p : ℕ) → (bit_at set p ≡ true → n ≤ p) → mode_at now p ≡ mode_at modes p
 
-  -- the loop: those of `rest` are still to be done
-  pub record Moding (now : List ℕ) (rest : ℕ) : Type 0 where
-    pub over : Over (Moded now) max_predicates set rest
+  -- the loop: those of `left` are still to be done
+  pub record Moding (now left : List ℕ) : Type 0 where
+    pub over : Over (Moded now) set left
 
   moded_start : Moded modes 0
   moded_start = record { done = λ p h. absurd (omega arith); kept = λ p h. refl }
@@ -57,30 +55,27 @@ module _ (set : ℕ) (table modes : List ℕ) where
   moded_end : {now : List ℕ} → Moded now max_predicates → ModesClosed (bit_at set) table modes now
   moded_end m p h = by_bool (bit_at set p) (λ t. rw t (m.done p h t)) (λ t. rw t (m.kept p (λ d. clash d t)))
 
-  pub moding_start : set < 2 ^ max_predicates → Moding modes set
-  moding_start l = record { over = over_start (Moded modes) max_predicates set l moded_start }
+  pub moding_start : Moding modes (members set)
+  moding_start = record { over = over_start (Moded modes) set moded_start }
 
-module _ {set : ℕ} {table modes now : List ℕ} {rest : ℕ} (m : Moding set table modes now rest) where
-  abbrev moded : ℕ → Type 0
-  moded = Moded set table modes now
-
-  abbrev skip : (n : ℕ) → bit_at set n ≡ false → moded n → moded (suc n)
+module _ {set : ℕ} {table modes now left : List ℕ} (m : Moding set table modes now left) where
+  abbrev skip : (n : ℕ) → bit_at set n ≡ false → Moded set table modes now n → Moded set table modes now (suc n)
   skip = moded_skip set table modes now
 
-  pub moding_end : rest ≡ 0 → ModesClosed (bit_at set) table modes now
-  moding_end z = moded_end set table modes (over_end moded max_predicates set rest skip m.over z)
+  pub moding_end : left ≡ [] → ModesClosed (bit_at set) table modes now
+  moding_end e = moded_end set table modes (over_end _ _ _ skip m.over e)
 
-  module _ (z : rest ≡ 0 → ⊥) where
-    abbrev p : ℕ
-    p = count_trailing_zeros max_predicates rest
-
+  module _ {p : ℕ} {others : List ℕ} (e : left ≡ p ∷ others) where
     pub moding_low : p < max_predicates
-    moding_low = (over_lowest moded max_predicates set rest skip m.over z).small
+    moding_low = over_small _ _ _ skip m.over p others e
 
     pub moding_member : bit_at set p ≡ true
-    moding_member = over_member moded max_predicates set rest skip m.over z
+    moding_member = over_member _ _ _ skip m.over p others e
 
-    pub moding_next : {after : List ℕ} → StoredMode now after p (entry_in table p) → Moding set table modes after (bit_and rest (rest - 1))
+    pub moding_next : {after : List ℕ} → StoredMode now after p (entry_in table p) → Moding set table modes after others
     moding_next {after} s =
-        let h = over_here moded max_predicates set rest skip m.over z in
-        record { over = over_next moded max_predicates set rest skip m.over z (Moded set table modes after) (moded_next set table modes p moding_member s h) }
+        record {
+          over =
+              over_next _ _ _ skip m.over p others e (Moded set table modes after)
+              (moded_next set table modes p moding_member s (over_here _ _ _ skip m.over p others e));
+        }

@@ -37,12 +37,6 @@ move_clause-requires c =
 pub overflow_add-n : goal.overflow_add-n
 overflow_add-n c = let f = c.loop-k.invariant.few in omega arith
 
-pub overflow_add-k : goal.overflow_add-k
-overflow_add-k c = omega arith
-
-pub loop-k-smaller : goal.loop-k-smaller
-loop-k-smaller c = omega arith
-
 pub loop-k-preserved : goal.loop-k-preserved
 loop-k-preserved c =
     let l = c.loop-k.invariant in

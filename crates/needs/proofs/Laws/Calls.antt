@@ -6,14 +6,13 @@ use mathlib.Core.List.{List, [], ◌∷◌}
 use Prim.Native.Nat.{ℕ, zero, suc, ◌+◌, ◌-◌, ◌^◌, ◌≤◌, ◌<◌}
 use native.Mathlib.Numerals.{add-one}
 use native.Mathlib.Omega.{arith}
-use lib.Bits.{bit_and, bit_or}
-use lib.Count.{count_trailing_zeros}
+use lib.Bits.{bit_or}
 use lib.Dec.{eqb, ltb}
 use lib.ListN.{length, get_or, take, set, length-set}
 use lib.Seq.{take_all}
 use borrow.Author.Tests.{eqb-true, eqb-false, ne_eqb, ltb-true, lt-ltb, le-ltb}
 use Rattle.masks.specs.Lists.{any, all}
-use Rattle.masks.specs.Set.{bit_at, Holds}
+use Rattle.masks.specs.Set.{bit_at, Holds, members}
 use Rattle.book.specs.Limits.{max_predicates, max_clauses}
 use Rattle.book.specs.Book.{Call, no_call}
 use Rattle.book.specs.Format.{allows}
@@ -28,7 +27,7 @@ use Rattle.needs.specs.Sets.{each_in, some_in, Calling, Added}
 use Rattle.masks.proofs.Laws.Logic.{by_bool, and_left, and_right}
 use Rattle.masks.proofs.Laws.Lists.{any_suc}
 use Rattle.masks.proofs.Laws.Set.{bit_at_zero, bit_at_or, bit_at_more}
-use Rattle.masks.proofs.Laws.Members.{Over, over_start, over_end, over_lowest, over_member, over_here, over_next}
+use Rattle.masks.proofs.Laws.Loops.{Over, over_start, over_end, over_small, over_member, over_here, over_next}
 use Rattle.book.proofs.Laws.Sets.{stored_more}
 use Rattle.tables.proofs.Laws.Own.{defined_snoc, touched_snoc, good_snoc}
 
@@ -133,36 +132,32 @@ abbrev Callers : List ℕ → ℕ → ℕ → ℕ → Type 0
 Callers callers called set n = Holds set (λ p. some_in called (λ q. bit_at (get_or callers q 0) p) n)
 
 -- the loop over the members
-abbrev pub Passing : List ℕ → ℕ → ℕ → ℕ → Type 0
-Passing callers called set rest = Over (Callers callers called set) max_predicates called rest
+abbrev pub Passing : List ℕ → ℕ → ℕ → List ℕ → Type 0
+Passing callers called set left = Over (Callers callers called set) called left
 
-pub passing_start : (callers : List ℕ) (called : ℕ) → called < 2 ^ max_predicates → Passing callers called 0 called
-passing_start callers called l = over_start (Callers callers called 0) max_predicates called l bit_at_zero
+pub passing_start : (callers : List ℕ) (called : ℕ) → Passing callers called 0 (members called)
+passing_start callers called = over_start (Callers callers called 0) called bit_at_zero
 
-module _ (callers : List ℕ) (called set rest : ℕ) (g : Passing callers called set rest) where
+module _ (callers : List ℕ) (called set : ℕ) (left : List ℕ) (g : Passing callers called set left) where
   absent : (n : ℕ) → bit_at called n ≡ false → Callers callers called set n → Callers callers called set (suc n)
   absent n t f p = rw t (f p ∙ sym (or-false (some_in called (λ q. bit_at (get_or callers q 0) p) n)))
 
-  pub passing_end : rest ≡ 0 → Holds set (λ p. some_in called (λ q. bit_at (get_or callers q 0) p) max_predicates)
-  passing_end z = over_end (Callers callers called set) max_predicates called rest absent g z
+  pub passing_end : left ≡ [] → Holds set (λ p. some_in called (λ q. bit_at (get_or callers q 0) p) max_predicates)
+  passing_end e = over_end (Callers callers called set) called left absent g e
 
-  module _ (z : rest ≡ 0 → ⊥) where
-    abbrev q : ℕ
-    q = count_trailing_zeros max_predicates rest
-
+  module _ (q : ℕ) (others : List ℕ) (e : left ≡ q ∷ others) where
     pub passing_low : q < max_predicates
-    passing_low = (over_lowest (Callers callers called set) max_predicates called rest absent g z).small
+    passing_low = over_small (Callers callers called set) called left absent g q others e
 
     member : Callers callers called (bit_or set (get_or callers q 0)) (suc q)
     member p =
-        let P = Callers callers called set in
-        rw (over_member P max_predicates called rest absent g z)
+        rw (over_member (Callers callers called set) called left absent g q others e)
         (bit_at_or set (get_or callers q 0) p
-        ∙ ap (λ (b : Bool). b || bit_at (get_or callers q 0) p) (over_here P max_predicates called rest absent g z p))
+        ∙ ap (λ (b : Bool). b || bit_at (get_or callers q 0) p) (over_here (Callers callers called set) called left absent g q others e p))
 
-    pub passing_next : Passing callers called (bit_or set (get_or callers q 0)) (bit_and rest (rest - 1))
+    pub passing_next : Passing callers called (bit_or set (get_or callers q 0)) others
     passing_next =
-        over_next (Callers callers called set) max_predicates called rest absent g z (Callers callers called (bit_or set (get_or callers q 0))) member
+        over_next (Callers callers called set) called left absent g q others e (Callers callers called (bit_or set (get_or callers q 0))) member
 
 -- ---- some member of a set
 

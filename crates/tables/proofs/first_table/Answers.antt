@@ -17,9 +17,7 @@ pub loop-p-init : goal.loop-p-init
 loop-p-init c =
     let s = c.args in
     let p = c.requires in
-    let m = c.masks-1.given.0.1 in
-    let n = c.patterns-1.given.0.1 in
-    (omega arith, filling_start s.modes.now s.table.now s.admits.now (omega arith) (omega arith) p.2 p.3)
+    filling_start s.modes.now s.table.now s.admits.now (omega arith) (omega arith) p.2 p.3
 
 pub has_mode-requires : goal.has_mode-requires
 has_mode-requires c = let h = c.requires.0 in omega arith
@@ -34,52 +32,50 @@ minimised-c-requires c =
     ap (in_range all_patterns) c.masks_at.ensures
     ∙ p.1 c.loop-p.p (omega arith) (sym c.has_mode.ensures ∙ c.if-has_mode.true)
 
-pub offset_bounds-masks-q : goal.offset_bounds-masks-q
-offset_bounds-masks-q c = let h = c.requires.0 in omega arith
+pub offset_bounds-table-q : goal.offset_bounds-table-q
+offset_bounds-table-q c = let h = c.requires.0 in omega arith
 
-pub bounds-masks-q : goal.bounds-masks-q
-bounds-masks-q c = let h = c.requires.0 in let s = c.loop-p.invariant.1.size in omega arith
+pub bounds-table-q : goal.bounds-table-q
+bounds-table-q c = let h = c.requires.0 in let s = c.loop-p.invariant.size in omega arith
 
-pub offset_bounds-patterns-q : goal.offset_bounds-patterns-q
-offset_bounds-patterns-q c = let h = c.requires.0 in omega arith
+pub offset_bounds-admits-q : goal.offset_bounds-admits-q
+offset_bounds-admits-q c = let h = c.requires.0 in omega arith
 
-pub bounds-patterns-q : goal.bounds-patterns-q
-bounds-patterns-q c = let h = c.requires.0 in let s = c.loop-p.invariant.1.room in omega arith
+pub bounds-admits-q : goal.bounds-admits-q
+bounds-admits-q c = let h = c.requires.0 in let s = c.loop-p.invariant.room in omega arith
 
-pub offset_bounds-masks-q-else-has_mode : goal.offset_bounds-masks-q-else-has_mode
-offset_bounds-masks-q-else-has_mode c = let h = c.requires.0 in omega arith
+pub offset_bounds-table-q-else-has_mode : goal.offset_bounds-table-q-else-has_mode
+offset_bounds-table-q-else-has_mode c = let h = c.requires.0 in omega arith
 
-pub bounds-masks-q-else-has_mode : goal.bounds-masks-q-else-has_mode
-bounds-masks-q-else-has_mode c = let h = c.requires.0 in let s = c.loop-p.invariant.1.size in omega arith
+pub bounds-table-q-else-has_mode : goal.bounds-table-q-else-has_mode
+bounds-table-q-else-has_mode c = let h = c.requires.0 in let s = c.loop-p.invariant.size in omega arith
 
-pub offset_bounds-patterns-q-else-has_mode : goal.offset_bounds-patterns-q-else-has_mode
-offset_bounds-patterns-q-else-has_mode c = let h = c.requires.0 in omega arith
+pub offset_bounds-admits-q-else-has_mode : goal.offset_bounds-admits-q-else-has_mode
+offset_bounds-admits-q-else-has_mode c = let h = c.requires.0 in omega arith
 
-pub bounds-patterns-q-else-has_mode : goal.bounds-patterns-q-else-has_mode
-bounds-patterns-q-else-has_mode c = let h = c.requires.0 in let s = c.loop-p.invariant.1.room in omega arith
+pub bounds-admits-q-else-has_mode : goal.bounds-admits-q-else-has_mode
+bounds-admits-q-else-has_mode c = let h = c.requires.0 in let s = c.loop-p.invariant.room in omega arith
 
 pub loop-p-preserved : goal.loop-p-preserved
 loop-p-preserved c =
     let l = c.loop-p in
     let s = c.args in
     let h = c.requires.0 in
-    let has = sym c.has_mode.ensures in (
-      omega arith,
-      elim c.if-has_mode.branch [
-        | then-has_mode u ↦
-            rw (u.masks-is, u.patterns-is)
-            (filling_next s.modes.now l.p u.minimised-c.result u.admitted.result (omega arith)
-            (u.minimised-c.ensures ∙ ap minimise u.masks_at.ensures ∙ first_some s.modes.now l.p (omega arith) (has ∙ u.if-has_mode.true)) u.admitted.ensures
-            l.invariant.1)
-        | else-has_mode u ↦
-            rw (u.masks-is, u.patterns-is)
-            (filling_next s.modes.now l.p 1 ones (omega arith) (trivial_held ∙ first_none s.modes.now l.p (omega arith) (has ∙ u.if-has_mode.false)) trivial_full
-            l.invariant.1)
-      ],
-    )
+    let has = sym c.has_mode.ensures in
+    elim c.if-has_mode.branch [
+      | then-has_mode u ↦
+          rw (u.table-is, u.admits-is)
+          (filling_next s.modes.now l.p u.minimised-c.result u.admitted.result (omega arith)
+          (u.minimised-c.ensures ∙ ap minimise u.masks_at.ensures ∙ first_some s.modes.now l.p (omega arith) (has ∙ u.if-has_mode.true)) u.admitted.ensures
+          l.invariant)
+      | else-has_mode u ↦
+          rw (u.table-is, u.admits-is)
+          (filling_next s.modes.now l.p 1 ones (omega arith) (trivial_held ∙ first_none s.modes.now l.p (omega arith) (has ∙ u.if-has_mode.false)) trivial_full
+          l.invariant)
+    ]
 
 pub returns : goal.returns
 returns c =
     let l = c.loop-p in
     let s = c.args in
-    let e : l.p ≡ s.preds = omega arith in record { preds_after = subst (λ (n : ℕ). table_in l.masks n ≡ first_needs (modes_of s.modes.now 64) n) e l.invariant.1.is; admitted = l.invariant.1.admitted }
+    let e : l.p ≡ s.preds = omega arith in record { preds_after = subst (λ (n : ℕ). table_in l.table n ≡ first_needs (modes_of s.modes.now 64) n) e l.invariant.is; admitted = l.invariant.admitted }

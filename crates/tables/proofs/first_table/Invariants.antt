@@ -1,11 +1,7 @@
 -- `tables::first_table` meets its contract. The loop's invariant: the first p constraints are those of table 0, with the patterns that they admit. Assumes
 -- nothing.
-use Prim.Native.Nat.{◌-◌, ◌≤◌}
 use Rattle.tables.proofs.Laws.Held.{Filling}
 use Rattle.tables.proofs.first_table.Given as goal
 
 abbrev pub invariant-loop-p : goal.invariant-loop-p
-invariant-loop-p l = (l.p ≤ l.preds) × Filling l.modes l.p l.masks l.patterns
-
-abbrev pub decreases-loop-p : goal.decreases-loop-p
-decreases-loop-p l = l.preds - l.p
+invariant-loop-p l = Filling l.modes l.p l.table l.admits

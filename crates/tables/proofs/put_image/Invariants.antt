@@ -1,5 +1,4 @@
 -- `tables::put_image` meets its contract. The loop's invariant: the rows of the first p predicates are written. Assumes nothing.
-use Prim.Native.Nat.{◌-◌}
 use Rattle.writing.proofs.Laws.Chunks.{Writing}
 use Rattle.tables.proofs.Laws.Held.{rows_to, row_held}
 use Rattle.tables.proofs.put_image.Given as goal
@@ -7,6 +6,3 @@ use Rattle.tables.proofs.put_image.Given as goal
 abbrev pub invariant-loop-p : goal.invariant-loop-p
 invariant-loop-p l =
     Writing l.preds (rows_to l.arities l.table l.preds) (row_held l.arities l.table l.preds) (rows_to l.arities l.table l.preds l.preds) l.initial.out 0 l.p l.out l.at
-
-abbrev pub decreases-loop-p : goal.decreases-loop-p
-decreases-loop-p l = l.preds - l.p

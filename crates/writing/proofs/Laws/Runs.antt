@@ -1,15 +1,17 @@
 -- The bytes of a run of records, and how the runs of a book come in chunks: record by record, or a chunk for each member of a set. Assumes nothing.
-use mathlib.Core.Path.{◌≡◌, refl, ap, ◌∙◌}
+use mathlib.Core.Path.{◌≡◌, refl, sym, ap, ap₂, ◌∙◌}
 use mathlib.Core.Bool.{Bool, true, false, cond}
 use mathlib.Core.List.{List, [], ◌∷◌, ◌++◌, append-nil}
-use Prim.Native.Nat.{ℕ, ◌+◌, ◌*◌, ◌≤◌, min}
+use Prim.Native.Nat.{ℕ, zero, suc, ◌+◌, ◌*◌, ◌≤◌, min}
 use native.Mathlib.Omega.{arith}
 use native.Mathlib.Numerals.{add-one}
 use lib.ListN.{length, get_or, take, drop, length-append, length-take, length-drop}
-use lib.Seq.{take-suc, take-length}
+use lib.Seq.{take-suc, take-length, get_or-append_seam}
 use Rattle.masks.specs.Limits.{max_masks}
-use Rattle.masks.specs.Set.{bit_at}
+use Rattle.masks.specs.Lists.{below, joined}
+use Rattle.masks.specs.Set.{bit_at, members}
 use Rattle.masks.proofs.Laws.Lists.{joined_cong}
+use Rattle.masks.proofs.Laws.Loops.{Passed}
 use Rattle.book.specs.Limits.{max_predicates}
 use Rattle.book.specs.Book.{Call, no_call, Clause}
 use Rattle.book.specs.Encode.{SG, NG, run, enc_predicate, enc_mode, enc_subgoal, enc_clause}
@@ -18,7 +20,6 @@ use Rattle.book.proofs.Laws.Encode.{run_append, run_joined}
 use Rattle.book.proofs.Laws.Held.{modes_of_joined}
 use Rattle.writing.proofs.Laws.Wrote.{front}
 use Rattle.writing.proofs.Laws.Chunks.{Chunks}
-use Rattle.writing.proofs.Laws.Members.{member_chunk, member_chunks}
 
 pub run_snoc : {A : Type 0} (f : A → List ℕ) (xs : List A) (x : A) → run f (xs ++ (x ∷ [])) ≡ run f xs ++ f x
 run_snoc f xs x = run_append f xs (x ∷ []) ∙ ap (λ (l : List ℕ). run f xs ++ l) (append-nil (f x))
@@ -61,11 +62,13 @@ module _ (arities : List ℕ) where
   abbrev pub predicate_at : ℕ → List ℕ
   predicate_at i = enc_predicate (get_or arities i 0)
 
-  -- n may be above the number of places
-  pub predicates_chunks : (n : ℕ) {k : ℕ} → length arities ≡ max_predicates → k ≡ min n max_predicates → Chunks k predicates_to predicate_at (predicates_to n)
-  predicates_chunks n {k} e h =
-      let z : k ≡ length (take n arities) = omega (arith, length-take n arities) in
-      elements_chunks enc_predicate arities 0 (front n arities z).fits (ap (run enc_predicate) (front n arities z).is)
+-- as many predicates of an array as there are places for; n may be above that
+pub predicates_chunks : (arities : List ℕ) (n : ℕ) {k : ℕ} → length arities ≡ max_predicates → k ≡ min n max_predicates
+    → Chunks (length (take k arities)) (predicates_to (take k arities)) (predicate_at (take k arities)) (predicates_to arities n)
+predicates_chunks arities n {k} e h =
+    let z : k ≡ length (take n arities) = omega (arith, length-take n arities) in
+    elements_chunks enc_predicate (take k arities) 0 (omega arith)
+    (ap (run enc_predicate) (take-length (take k arities) ∙ (front n arities z).is))
 
 module _ (rules : List ℕ) (k : ℕ) where
   abbrev pub subgoals_to : ℕ → List ℕ
@@ -99,6 +102,21 @@ module _ (rules : List ℕ) where
 
 -- ---- the modes: a chunk for each predicate of the set of those that have MO
 
+-- f of each number below n that p tells, one after the other
+run_below : (f : ℕ → List ℕ) (p : ℕ → Bool) (n : ℕ) → joined (λ k. cond (p k) (f k) []) n ≡ run f (below p n)
+run_below f p zero = refl
+run_below f p (suc n) =
+    ap₂ ◌++◌ (run_below f p n) (one (p n)) ∙ sym (run_append f (below p n) (cond (p n) (n ∷ []) []))
+  where
+    one : (b : Bool) → cond b (f n) [] ≡ run f (cond b (n ∷ []) [])
+    one true = sym (append-nil (f n))
+    one false = refl
+
+-- the member that a loop over a set has come to
+pub member_here : {word m : ℕ} {passed left others : List ℕ} → Passed word passed left → left ≡ m ∷ others → get_or (members word) (length passed) 0 ≡ m
+member_here {m = m} {passed} {others = others} g e =
+    ap (λ (l : List ℕ). get_or l (length passed) 0) (g.all ∙ ap (λ (l : List ℕ). passed ++ l) e) ∙ get_or-append_seam passed m others 0
+
 module _ (modes : List ℕ) where
   abbrev pub modes_to : ℕ → List ℕ
   modes_to n = run enc_mode (modes_of modes n)
@@ -107,18 +125,31 @@ module _ (modes : List ℕ) where
   abbrev pub mode_bytes_at : ℕ → List ℕ
   mode_bytes_at p = enc_mode (record { pred = p; masks = masks_in (mode_bytes modes p) })
 
-  pub modes_members : (given : ℕ) → HaveMode modes given → modes_to max_predicates ≡ member_chunks max_predicates given mode_bytes_at
-  unfolding mode_at
-  modes_members given have =
-      ap (run enc_mode) (modes_of_joined modes max_predicates) ∙ run_joined enc_mode (mode_at modes) max_predicates
-      ∙ joined_cong (λ p. run enc_mode (mode_at modes p)) (member_chunk given mode_bytes_at) max_predicates (λ p h. one p (have p h))
-    where
-      alone : (p : ℕ) (b : Bool) → run enc_mode (cond b (record { pred = p; masks = masks_in (mode_bytes modes p) } ∷ []) []) ≡ cond b (mode_bytes_at p) []
-      alone p true = append-nil (mode_bytes_at p)
-      alone p false = refl
+  module _ (given : ℕ) where
+    abbrev pub members_to : ℕ → List ℕ
+    members_to i = run mode_bytes_at (take i (members given))
 
-      one : (p : ℕ) → bit_at given p ≡ has_in (mode_bytes modes p) → run enc_mode (mode_at modes p) ≡ member_chunk given mode_bytes_at p
-      one p e = rw e (alone p (has_in (mode_bytes modes p)))
+    abbrev pub member_at : ℕ → List ℕ
+    member_at i = mode_bytes_at (get_or (members given) i 0)
+
+    modes_members : HaveMode modes given → run mode_bytes_at (members given) ≡ modes_to max_predicates
+    unfolding mode_at members
+    modes_members have =
+        sym (ap (run enc_mode) (modes_of_joined modes max_predicates)
+        ∙ run_joined enc_mode (mode_at modes) max_predicates
+        ∙ joined_cong (λ p. run enc_mode (mode_at modes p)) (λ p. cond (bit_at given p) (mode_bytes_at p) []) max_predicates (λ p h. one p (have p h))
+        ∙ run_below mode_bytes_at (bit_at given) max_predicates)
+      where
+        alone : (p : ℕ) (b : Bool) → run enc_mode (cond b (record { pred = p; masks = masks_in (mode_bytes modes p) } ∷ []) []) ≡ cond b (mode_bytes_at p) []
+        alone p true = append-nil (mode_bytes_at p)
+        alone p false = refl
+
+        one : (p : ℕ) → bit_at given p ≡ has_in (mode_bytes modes p) → run enc_mode (mode_at modes p) ≡ cond (bit_at given p) (mode_bytes_at p) []
+        one p e = rw e (alone p (has_in (mode_bytes modes p)))
+
+    pub modes_chunks : HaveMode modes given → Chunks (length (members given)) members_to member_at (modes_to max_predicates)
+    modes_chunks have =
+        elements_chunks mode_bytes_at (members given) 0 (omega arith) (ap (run mode_bytes_at) (take-length (members given)) ∙ modes_members have)
 
   pub mode_few : (p : ℕ) {masks : List ℕ} → masks ≡ masks_in (mode_bytes modes p) → length masks ≤ max_masks
   mode_few p e =

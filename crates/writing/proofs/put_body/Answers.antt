@@ -9,25 +9,18 @@ use Rattle.writing.proofs.Laws.Chunks.{writing_start, writing_length, writing_ro
 use Rattle.writing.proofs.Laws.Runs.{subgoals_chunks}
 use Rattle.writing.proofs.put_body.Goals as goal
 
-pub subgoals_at-n-requires : goal.subgoals_at-n-requires
-subgoals_at-n-requires c = c.requires.0
+pub subgoals_at-j-end-requires : goal.subgoals_at-j-end-requires
+subgoals_at-j-end-requires c = c.requires.0
 
 pub loop-j-init : goal.loop-j-init
 loop-j-init c =
-    let s = c.before.before.before in
-    writing_start (subgoals_chunks s.args.rules.now s.args.k c.subgoals_at-n.ensures) s.requires.1
+    writing_start (subgoals_chunks c.args.rules.now c.args.k c.subgoals_at-j-end.ensures) c.requires.1
 
 pub subgoal_at-requires : goal.subgoal_at-requires
-subgoal_at-requires c = let k = c.before.before.before in let e = k.subgoals_at-n.ensures in (k.requires.0, omega arith)
+subgoal_at-requires c = let e = c.subgoals_at-j-end.ensures in (c.requires.0, omega arith)
 
 pub put_subgoal-p-requires : goal.put_subgoal-p-requires
 put_subgoal-p-requires c = let e = ap (λ (s : Call). length (enc_subgoal s)) c.subgoal_at.ensures in let r = writing_room c.loop-j.invariant (omega arith) in omega arith
-
-pub overflow_add-j : goal.overflow_add-j
-overflow_add-j c = omega arith
-
-pub loop-j-smaller : goal.loop-j-smaller
-loop-j-smaller c = omega arith
 
 pub loop-j-preserved : goal.loop-j-preserved
 loop-j-preserved c =

@@ -1,5 +1,4 @@
 -- `writing::put_body` meets its contract. The loop's invariant: the first j subgoals are written. Assumes nothing.
-use Prim.Native.Nat.{◌-◌}
 use Rattle.book.specs.Encode.{run, enc_subgoal}
 use Rattle.book.specs.Held.{clause_at}
 use Rattle.writing.proofs.Laws.Chunks.{Writing}
@@ -7,7 +6,4 @@ use Rattle.writing.proofs.Laws.Runs.{subgoals_to, subgoal_at}
 use Rattle.writing.proofs.put_body.Given as goal
 
 abbrev pub invariant-loop-j : goal.invariant-loop-j
-invariant-loop-j l = Writing l.n (subgoals_to l.rules l.k) (subgoal_at l.rules l.k) (run enc_subgoal (clause_at l.rules l.k).body) l.initial.out l.at l.j l.out l.p
-
-abbrev pub decreases-loop-j : goal.decreases-loop-j
-decreases-loop-j l = l.n - l.j
+invariant-loop-j l = Writing l.j-end (subgoals_to l.rules l.k) (subgoal_at l.rules l.k) (run enc_subgoal (clause_at l.rules l.k).body) l.initial.out l.at l.j l.out l.p

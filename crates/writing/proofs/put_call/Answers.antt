@@ -14,21 +14,14 @@ put_byte-p-requires c = omega (arith, c.requires)
 
 pub loop-i-init : goal.loop-i-init
 loop-i-init c =
-    let k = c.before.before.before.before.before.before.before.before in
-    let args = (call_in k.args.call).args in
-    writing_start (bytes_chunks args c.arguments-n.ensures.value) (room_second args c.put_byte-p.ensures k.requires)
+    let args = (call_in c.args.call).args in
+    writing_start (bytes_chunks args c.arguments-i-end.ensures.value) (room_second args c.put_byte-p.ensures c.requires)
 
 pub argument-requires : goal.argument-requires
-argument-requires c = let e = c.arguments-n.ensures.value in omega arith
+argument-requires c = let e = c.arguments-i-end.ensures.value in omega arith
 
 pub put_byte-p-requires-in-loop-i : goal.put_byte-p-requires-in-loop-i
 put_byte-p-requires-in-loop-i c = writing_room c.loop-i.invariant (omega arith)
-
-pub overflow_add-i : goal.overflow_add-i
-overflow_add-i c = omega arith
-
-pub loop-i-smaller : goal.loop-i-smaller
-loop-i-smaller c = omega arith
 
 pub loop-i-preserved : goal.loop-i-preserved
 loop-i-preserved c =
@@ -40,7 +33,6 @@ shape_of-out c = writing_length c.loop-i.invariant ∙ wrote_length c.put_byte-p
 
 pub returns : goal.returns
 returns c =
-    let k = c.before.before.before.before in
-    let args = (call_in k.args.call).args in
-    let pred = ap (λ (x : ℕ). x ∷ args) k.predicate.ensures in
-    wrote_as pred (wrote_append k.put_byte-p.ensures (writing_end c.loop-i.invariant (omega arith)))
+    let args = (call_in c.args.call).args in
+    let pred = ap (λ (x : ℕ). x ∷ args) c.predicate.ensures in
+    wrote_as pred (wrote_append c.put_byte-p.ensures (writing_end c.loop-i.invariant (omega arith)))

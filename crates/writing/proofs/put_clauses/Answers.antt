@@ -12,12 +12,6 @@ loop-k-init c = writing_start (clauses_chunks c.args.rules.now (min c.args.claus
 pub put_clause-p-requires : goal.put_clause-p-requires
 put_clause-p-requires c = (omega arith, writing_room c.loop-k.invariant (omega arith))
 
-pub overflow_add-k : goal.overflow_add-k
-overflow_add-k c = omega arith
-
-pub loop-k-smaller : goal.loop-k-smaller
-loop-k-smaller c = omega arith
-
 pub loop-k-preserved : goal.loop-k-preserved
 loop-k-preserved c = writing_next c.loop-k.invariant (omega arith) c.put_clause-p.ensures
 

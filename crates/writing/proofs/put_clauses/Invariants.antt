@@ -1,5 +1,5 @@
 -- `writing::put_clauses` meets its contract. The loop's invariant: the first k clauses are written. Assumes nothing.
-use Prim.Native.Nat.{min, ◌-◌}
+use Prim.Native.Nat.{min}
 use Rattle.book.specs.Limits.{max_clauses}
 use Rattle.writing.proofs.Laws.Chunks.{Writing}
 use Rattle.writing.proofs.Laws.Runs.{clauses_to, clause_bytes_at}
@@ -7,6 +7,3 @@ use Rattle.writing.proofs.put_clauses.Given as goal
 
 abbrev pub invariant-loop-k : goal.invariant-loop-k
 invariant-loop-k l = Writing l.n (clauses_to l.rules) (clause_bytes_at l.rules) (clauses_to l.rules (min l.clauses max_clauses)) l.initial.out l.at l.k l.out l.p
-
-abbrev pub decreases-loop-k : goal.decreases-loop-k
-decreases-loop-k l = l.n - l.k

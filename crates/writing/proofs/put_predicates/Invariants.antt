@@ -1,11 +1,8 @@
--- `writing::put_predicates` meets its contract. The loop's invariant: the first i predicates are written. Assumes nothing.
-use Prim.Native.Nat.{◌-◌}
+-- `writing::put_predicates` meets its contract. The loop's invariant: the predicates passed are written. Assumes nothing.
+use lib.ListN.{length}
 use Rattle.writing.proofs.Laws.Chunks.{Writing}
 use Rattle.writing.proofs.Laws.Runs.{predicates_to, predicate_at}
 use Rattle.writing.proofs.put_predicates.Given as goal
 
-abbrev pub invariant-loop-i : goal.invariant-loop-i
-invariant-loop-i l = Writing l.n (predicates_to l.bytes) (predicate_at l.bytes) (predicates_to l.bytes l.preds) l.initial.out l.at l.i l.out l.p
-
-abbrev pub decreases-loop-i : goal.decreases-loop-i
-decreases-loop-i l = l.n - l.i
+abbrev pub invariant-loop-arity : goal.invariant-loop-arity
+invariant-loop-arity l = Writing (length l.arity-items) (predicates_to l.arity-items) (predicate_at l.arity-items) (predicates_to l.arities l.preds) l.initial.out l.at l.arity-index l.out l.p

@@ -20,10 +20,10 @@ After-predicate-q = Lts.After-predicate2 Tie.the-claims Reads.Pre Reads.Post goa
 pub loop-j-init : goal.loop-j-init
 loop-j-init c =
     let args = c.args in
-    adding_start args.rules.now args.k args.callers.now (let l = c.words-1.given.0.1 in omega arith)
+    adding_start args.rules.now args.k args.callers.now (omega arith)
 
 pub subgoal_at-requires : goal.subgoal_at-requires
-subgoal_at-requires c = let n = c.subgoals_at-n.ensures in (c.requires.0, omega arith)
+subgoal_at-requires c = let n = c.subgoals_at-j-end.ensures in (c.requires.0, omega arith)
 
 -- in a turn: p is the head's predicate and q that of subgoal j
 module _ (c : After-predicate-q) where
@@ -36,31 +36,31 @@ module _ (c : After-predicate-q) where
   low : c.predicate-q.result < max_predicates
   low =
       let e = is in
-      let n = c.subgoals_at-n.ensures in
+      let n = c.subgoals_at-j-end.ensures in
       let l = callable_low (clause_at c.args.rules.now c.args.k).body c.loop-j.j c.requires.2 (omega arith) in
       omega arith
 
-pub offset_bounds-words-q : goal.offset_bounds-words-q
-offset_bounds-words-q c = let l = low c in omega arith
+pub offset_bounds-callers-q : goal.offset_bounds-callers-q
+offset_bounds-callers-q c = let l = low c in omega arith
 
-pub bounds-words-q : goal.bounds-words-q
-bounds-words-q c = let l = low c.before.before in let s = c.loop-j.invariant.size in omega arith
+pub bounds-callers-q : goal.bounds-callers-q
+bounds-callers-q c = let l = low c.before.before in let s = c.loop-j.invariant.size in omega arith
 
 pub with_member-requires : goal.with_member-requires
-with_member-requires c = let e = head c.before.before in let l = c.requires.1 in omega arith
+with_member-requires c = let e = head c.before.before.before in let l = c.requires.1 in omega arith
 
-pub offset_bounds-words-q-in-loop-j : goal.offset_bounds-words-q-in-loop-j
-offset_bounds-words-q-in-loop-j c = let l = low c.before.before in omega arith
+pub offset_bounds-callers-q-in-loop-j : goal.offset_bounds-callers-q-in-loop-j
+offset_bounds-callers-q-in-loop-j c = let l = low c.before.before.before in omega arith
 
-pub bounds-words-q-in-loop-j : goal.bounds-words-q-in-loop-j
-bounds-words-q-in-loop-j c = let l = low c.before.before in let s = c.loop-j.invariant.size in omega arith
+pub bounds-callers-q-in-loop-j : goal.bounds-callers-q-in-loop-j
+bounds-callers-q-in-loop-j c = let l = low c.before.before.before in let s = c.loop-j.invariant.size in omega arith
 
 pub loop-j-preserved : goal.loop-j-preserved
 loop-j-preserved c =
-    let d = c.before.before in
-    let n = c.subgoals_at-n.ensures in
+    let d = c.before.before.before in
+    let n = c.subgoals_at-j-end.ensures in
     rw c.with_member.ensures
     (adding_next c.loop-j.invariant c.predicate-p.result d.predicate-q.result (low d) (omega arith) (head d) (is d))
 
 pub returns : goal.returns
-returns c = let n = c.subgoals_at-n.ensures in adding_end c.loop-j.invariant (omega arith)
+returns c = let n = c.subgoals_at-j-end.ensures in adding_end c.loop-j.invariant (omega arith)

@@ -1,10 +1,6 @@
 -- `needs::calls::add_caller` meets its contract. The loop's invariant: the contract for the first j subgoals. Assumes nothing.
-use Prim.Native.Nat.{◌-◌}
 use Rattle.needs.proofs.Laws.Calls.{Adding}
 use Rattle.needs.proofs.calls.add_caller.Given as goal
 
 abbrev pub invariant-loop-j : goal.invariant-loop-j
-invariant-loop-j l = Adding l.rules l.k l.initial.words l.j l.words
-
-abbrev pub decreases-loop-j : goal.decreases-loop-j
-decreases-loop-j l = l.n - l.j
+invariant-loop-j l = Adding l.rules l.k l.initial.callers l.j l.callers

@@ -20,7 +20,7 @@ After-predicate-p = Lts.After-predicate Tie.the-claims Reads.Pre Reads.Post goal
 pub loop-k-init : goal.loop-k-init
 loop-k-init c =
     let s = c.args in (
-      owning_start s.rules.now s.clauses s.own.now (let l = c.words-1.given.0.1 in omega arith) c.requires.2,
+      owning_start s.rules.now s.clauses s.own.now (omega arith) c.requires.2,
       heading_start s.rules.now s.clauses,
     )
 
@@ -32,24 +32,24 @@ module _ (c : After-predicate-p) where
   low : c.predicate-p.result < max_predicates
   low = head_low c.loop-k.k c.predicate-p.result c.requires.1 (omega arith) is
 
-pub offset_bounds-words-q : goal.offset_bounds-words-q
-offset_bounds-words-q c = let l = low c in omega arith
+pub offset_bounds-own-q : goal.offset_bounds-own-q
+offset_bounds-own-q c = let l = low c in omega arith
 
-pub bounds-words-q : goal.bounds-words-q
-bounds-words-q c = let l = low c.before.before in let s = c.loop-k.invariant.0.size in omega arith
+pub bounds-own-q : goal.bounds-own-q
+bounds-own-q c = let l = low c.before.before in let s = c.loop-k.invariant.0.size in omega arith
 
-pub offset_bounds-words-q-in-loop-k : goal.offset_bounds-words-q-in-loop-k
-offset_bounds-words-q-in-loop-k c = let l = low c.before.before in omega arith
+pub offset_bounds-own-q-in-loop-k : goal.offset_bounds-own-q-in-loop-k
+offset_bounds-own-q-in-loop-k c = let l = low c.before.before.before in omega arith
 
-pub bounds-words-q-in-loop-k : goal.bounds-words-q-in-loop-k
-bounds-words-q-in-loop-k c = let l = low c.before.before in let s = c.loop-k.invariant.0.size in omega arith
+pub bounds-own-q-in-loop-k : goal.bounds-own-q-in-loop-k
+bounds-own-q-in-loop-k c = let l = low c.before.before.before in let s = c.loop-k.invariant.0.size in omega arith
 
 pub with_member-heads-requires : goal.with_member-heads-requires
-with_member-heads-requires c = low c.before.before
+with_member-heads-requires c = low c.before.before.before
 
 pub loop-k-preserved : goal.loop-k-preserved
 loop-k-preserved c =
-    let d = c.before.before.before in
+    let d = c.before.before.before.before in
     let l = c.loop-k.invariant in
     let p = d.predicate-p.result in
     rw (c.with_member.ensures, c.with_member-heads.ensures)

@@ -1,12 +1,8 @@
 -- `needs::calls::own_clauses` meets its contract. The loop's invariant: each predicate's set has its own of the first k clauses, and the heads' predicates
 -- are told. Assumes nothing.
-use Prim.Native.Nat.{◌-◌}
 use Rattle.book.proofs.Laws.Sets.{Owning}
 use Rattle.needs.proofs.Laws.Calls.{Heading}
 use Rattle.needs.proofs.calls.own_clauses.Given as goal
 
 abbrev pub invariant-loop-k : goal.invariant-loop-k
-invariant-loop-k l = Owning l.rules l.clauses l.k l.words × Heading l.rules l.clauses l.k l.heads
-
-abbrev pub decreases-loop-k : goal.decreases-loop-k
-decreases-loop-k l = l.clauses - l.k
+invariant-loop-k l = Owning l.rules l.clauses l.k l.own × Heading l.rules l.clauses l.k l.heads

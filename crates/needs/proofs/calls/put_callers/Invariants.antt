@@ -1,10 +1,6 @@
 -- `needs::calls::put_callers` meets its contract. The loop's invariant: each predicate's set has those whose first k clauses call it. Assumes nothing.
-use Prim.Native.Nat.{◌-◌}
 use Rattle.needs.proofs.Laws.Calls.{Gathering}
 use Rattle.needs.proofs.calls.put_callers.Given as goal
 
 abbrev pub invariant-loop-k : goal.invariant-loop-k
 invariant-loop-k l = Gathering l.rules l.clauses l.k l.callers
-
-abbrev pub decreases-loop-k : goal.decreases-loop-k
-decreases-loop-k l = l.clauses - l.k

@@ -10,26 +10,19 @@ use Rattle.writing.proofs.Laws.Runs.{call_at, subgoals_chunks}
 use Rattle.writing.proofs.length.body_length.Goals as goal
 
 pub loop-j-init : goal.loop-j-init
-loop-j-init c = measuring_start (subgoals_chunks c.args.rules.now c.args.k c.subgoals_at-n.ensures)
+loop-j-init c = measuring_start (subgoals_chunks c.args.rules.now c.args.k c.subgoals_at-j-end.ensures)
 
 pub subgoal_at-requires : goal.subgoal_at-requires
-subgoal_at-requires c = let e = c.subgoals_at-n.ensures in (c.requires, omega arith)
+subgoal_at-requires c = let e = c.subgoals_at-j-end.ensures in (c.requires, omega arith)
 
 pub overflow_add-total : goal.overflow_add-total
 overflow_add-total c = omega arith
 
 pub overflow_add-total-in-loop-j : goal.overflow_add-total-in-loop-j
 overflow_add-total-in-loop-j c =
-    let k = c.before.before.before.before in
-    let e = k.subgoals_at-n.ensures in
-    let f = clause_at_few k.args.rules.now k.args.k in
+    let e = c.subgoals_at-j-end.ensures in
+    let f = clause_at_few c.args.rules.now c.args.k in
     omega arith
-
-pub overflow_add-j : goal.overflow_add-j
-overflow_add-j c = omega arith
-
-pub loop-j-smaller : goal.loop-j-smaller
-loop-j-smaller c = omega arith
 
 pub loop-j-preserved : goal.loop-j-preserved
 loop-j-preserved c =
@@ -41,6 +34,5 @@ loop-j-preserved c =
 
 pub returns : goal.returns
 returns c =
-    let k = c.before.before in
-    let e = k.subgoals_at-n.ensures in
-    let f = clause_at_few k.args.rules.now k.args.k in record { value = measuring_end c.loop-j.invariant (omega arith); upper_bound = omega arith }
+    let e = c.subgoals_at-j-end.ensures in
+    let f = clause_at_few c.args.rules.now c.args.k in record { value = measuring_end c.loop-j.invariant (omega arith); upper_bound = omega arith }

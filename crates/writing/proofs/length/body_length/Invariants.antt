@@ -1,5 +1,5 @@
 -- `writing::length::body_length` meets its contract. The loop's invariant: the total is the length of the first j subgoals. Assumes nothing.
-use Prim.Native.Nat.{◌+◌, ◌-◌}
+use Prim.Native.Nat.{◌+◌}
 use Rattle.masks.specs.Limits.{max_arity}
 use Rattle.book.specs.Encode.{run, enc_subgoal}
 use Rattle.book.specs.Held.{clause_at}
@@ -8,7 +8,4 @@ use Rattle.writing.proofs.Laws.Runs.{subgoals_to, subgoal_at}
 use Rattle.writing.proofs.length.body_length.Given as goal
 
 abbrev pub invariant-loop-j : goal.invariant-loop-j
-invariant-loop-j l = Measuring l.n (subgoals_to l.rules l.k) (subgoal_at l.rules l.k) (run enc_subgoal (clause_at l.rules l.k).body) (3 + max_arity) l.j l.total
-
-abbrev pub decreases-loop-j : goal.decreases-loop-j
-decreases-loop-j l = l.n - l.j
+invariant-loop-j l = Measuring l.j-end (subgoals_to l.rules l.k) (subgoal_at l.rules l.k) (run enc_subgoal (clause_at l.rules l.k).body) (3 + max_arity) l.j l.total

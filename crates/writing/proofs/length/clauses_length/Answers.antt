@@ -28,12 +28,6 @@ overflow_add-total-in-loop-k c = omega arith
 pub overflow_add-total-in-loop-k-2 : goal.overflow_add-total-in-loop-k-2
 overflow_add-total-in-loop-k-2 c = omega arith
 
-pub overflow_add-k : goal.overflow_add-k
-overflow_add-k c = omega arith
-
-pub loop-k-smaller : goal.loop-k-smaller
-loop-k-smaller c = omega arith
-
 pub loop-k-preserved : goal.loop-k-preserved
 loop-k-preserved c =
     let l = clause_length (clause_at c.args.rules.now c.loop-k.k) in

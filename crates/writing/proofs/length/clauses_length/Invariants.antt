@@ -1,5 +1,5 @@
 -- `writing::length::clauses_length` meets its contract. The loop's invariant: the total is the length of the first k clauses. Assumes nothing.
-use Prim.Native.Nat.{min, ◌+◌, ◌-◌, ◌*◌}
+use Prim.Native.Nat.{min, ◌+◌, ◌*◌}
 use Rattle.masks.specs.Limits.{max_arity}
 use Rattle.book.specs.Limits.{max_clauses, max_subgoals}
 use Rattle.writing.proofs.Laws.Chunks.{Measuring}
@@ -8,6 +8,3 @@ use Rattle.writing.proofs.length.clauses_length.Given as goal
 
 abbrev pub invariant-loop-k : goal.invariant-loop-k
 invariant-loop-k l = Measuring l.n (clauses_to l.rules) (clause_bytes_at l.rules) (clauses_to l.rules (min l.clauses max_clauses)) (3 + max_arity + max_subgoals * (3 + max_arity)) l.k l.total
-
-abbrev pub decreases-loop-k : goal.decreases-loop-k
-decreases-loop-k l = l.n - l.k

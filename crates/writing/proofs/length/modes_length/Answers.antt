@@ -1,47 +1,55 @@
--- `writing::length::modes_length` meets its contract. The loop's invariant: the total is the length of the `MO` of the predicates passed. Assumes nothing.
-use mathlib.Core.Path.{sym, ap, ◌∙◌}
+-- `writing::length::modes_length` meets its contract. The loop goes over the predicates that have `MO`; its invariant: the total is the length of the `MO`
+-- of those passed. Assumes nothing.
+use mathlib.Core.Path.{◌≡◌, ap}
+use mathlib.Core.List.{[], ◌∷◌}
+use Prim.Native.Nat.{ℕ}
 use native.Mathlib.Omega.{arith}
-use lib.Count.{count_trailing_zeros}
-use lib.ListN.{length}
-use borrow.Author.Rules.{rules}
-use Rattle.masks.proofs.Laws.Members.{others_less}
-use Rattle.book.specs.Limits.{max_predicates}
-use Rattle.writing.proofs.Laws.Members.{measured_start, measured_end, measured_low, measured_small, measured_next}
-use Rattle.writing.proofs.Laws.Runs.{modes_members, mode_few}
+use lib.ListN.{length, length-append}
+use Rattle.masks.specs.Set.{members}
+use Rattle.masks.proofs.Laws.Sets.{members_most}
+use Rattle.masks.proofs.Laws.Loops.{passed_start, passed_all, passed_next, passed_fewer, passed_small}
+use Rattle.writing.proofs.Laws.Chunks.{measuring_start, measuring_next, measuring_end}
+use Rattle.writing.proofs.Laws.Runs.{mode_bytes_at, member_here, modes_chunks, mode_few}
 use Rattle.writing.proofs.length.modes_length.Goals as goal
 
-pub loop-rest-init : goal.loop-rest-init
-loop-rest-init c = measured_start (search rules)
-
-pub overflow_cast-p : goal.overflow_cast-p
-overflow_cast-p c = let l = measured_low c.loop-rest.invariant c.loop-rest-test.true in omega arith
-
-pub overflow_sub-rest : goal.overflow_sub-rest
-overflow_sub-rest c = omega arith
+pub loop-p-init : goal.loop-p-init
+loop-p-init c = record {
+  going = rw (c.into_iter-p-iterator.ensures.into_iter_gives, c.of-p-items.ensures) (passed_start c.args.given);
+  measured = measuring_start (modes_chunks c.args.modes.now c.args.given c.requires);
+}
 
 pub masks_at-masks-requires : goal.masks_at-masks-requires
-masks_at-masks-requires c = measured_low c.loop-rest.invariant c.loop-rest-test.true
+masks_at-masks-requires c = passed_small c.loop-p.invariant.going c.in-Some.ensures.steps
 
 pub overflow_add-total : goal.overflow_add-total
-overflow_add-total c = let f = mode_few c.args.modes.now (count_trailing_zeros max_predicates c.loop-rest.rest) c.masks_at-masks.ensures in omega arith
+overflow_add-total c = let f = mode_few c.args.modes.now c.in-Some.p c.masks_at-masks.ensures in omega arith
 
-pub overflow_add-total-in-loop-rest : goal.overflow_add-total-in-loop-rest
-overflow_add-total-in-loop-rest c =
-    let f = mode_few c.args.modes.now (count_trailing_zeros max_predicates c.loop-rest.rest) c.masks_at-masks.ensures in
-    let l = measured_low c.loop-rest.invariant c.loop-rest-test.true in
-    let s = measured_small c.loop-rest.invariant c.loop-rest-test.true in
+pub overflow_add-total-in-loop-p : goal.overflow_add-total-in-loop-p
+overflow_add-total-in-loop-p c =
+    let i = c.loop-p.invariant in
+    let f = mode_few c.args.modes.now c.in-Some.p c.masks_at-masks.ensures in
+    let h = passed_fewer i.going c.in-Some.ensures.steps in
+    let m = members_most c.args.given in
+    let s = i.measured.small in
     omega arith
 
-pub loop-rest-smaller : goal.loop-rest-smaller
-loop-rest-smaller c = others_less c.loop-rest.rest c.loop-rest-test.true
-
-pub loop-rest-preserved : goal.loop-rest-preserved
-loop-rest-preserved c =
+pub loop-p-preserved : goal.loop-p-preserved
+loop-p-preserved c =
+    let i = c.loop-p.invariant in
     let e = ap length c.masks_at-masks.ensures in
-    let f = mode_few c.args.modes.now (count_trailing_zeros max_predicates c.loop-rest.rest) c.masks_at-masks.ensures in
-    measured_next c.loop-rest.invariant c.loop-rest-test.true (omega arith) (omega arith)
+    let f = mode_few c.args.modes.now c.in-Some.p c.masks_at-masks.ensures in
+    let here = ap (λ (k : ℕ). length (mode_bytes_at c.args.modes.now k)) (member_here i.going c.in-Some.ensures.steps) in
+    record {
+      going = passed_next i.going c.in-Some.ensures.steps;
+      measured =
+          rw (length-append c.loop-p.yielded (c.in-Some.p ∷ []))
+          (measuring_next i.measured (passed_fewer i.going c.in-Some.ensures.steps) (omega arith) (omega arith));
+    }
 
 pub returns : goal.returns
 returns c =
-    let e = modes_members c.args.modes.now c.args.given c.requires in
-    let r = measured_end c.loop-rest.invariant c.loop-rest-test.false in record { value = r.0 ∙ ap length (sym e); upper_bound = r.1 }
+    let i = c.loop-p.invariant in
+    let all : length c.loop-p.yielded ≡ length (members c.args.given) = ap length (passed_all i.going c.in-None.ensures.steps.0) in
+    let m = members_most c.args.given in
+    let s = i.measured.small in
+    record { value = measuring_end i.measured (omega arith); upper_bound = omega arith }
