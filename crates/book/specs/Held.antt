@@ -5,6 +5,7 @@ use Rattle.masks.specs.Lists.{any, values}
 use Rattle.masks.specs.Set.{bit_at}
 use Rattle.book.specs.Limits.{max_predicates, max_clauses, max_subgoals}
 use Rattle.book.specs.Book.{Head, Call, subgoal_of, Mode, Clause, Book}
+use Rattle.book.specs.declared.held.RuleBook.{RuleBook}
 
 -- ---- clauses
 
@@ -107,6 +108,10 @@ book_in preds arities modes clauses rules =
       clauses = clauses_of rules (min clauses max_clauses);
       query = (clause_at rules max_clauses).body;
     }
+
+-- the book that is held
+abbrev pub book_of : RuleBook → Book
+book_of b = book_in b.preds b.arities b.modes b.clauses b.rules
 
 -- no predicate has MO
 abbrev pub NoModes : List ℕ → Type 0

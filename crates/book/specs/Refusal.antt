@@ -1,5 +1,5 @@
 -- The refusals of an operation on a book as replies: document 01, "Replies". Assumes nothing.
-use Rattle.std.specs.Prelude.{Result, Ok, Err}
+use Rattle.masks.specs.Outcome.{nine}
 use Rattle.masks.specs.declared.reply.Reply.{Reply}
 use Rattle.book.specs.Format.{number}
 use Rattle.book.specs.declared.refusal.Refusal.{Refusal}
@@ -10,9 +10,4 @@ abbrev pub reply : Refusal → Reply
 reply (Fault e) = record { number = number e.fault; value = e.at; rounds = 0 }
 reply NoOrder = record { number = 7; value = 0; rounds = 0 }
 reply (Lacks p) = record { number = 8; value = p; rounds = 0 }
-reply (TooShort e) = record { number = 9; value = e.needed; rounds = 0 }
-
--- what is answered
-abbrev pub reply_of : Result Reply Refusal → Reply
-reply_of (Ok r) = r
-reply_of (Err e) = reply e
+reply (TooShort e) = nine e

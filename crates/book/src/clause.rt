@@ -3,7 +3,7 @@
 // set where a subgoal is negated, and the other four say nothing. Stores go through a slice, whose length the proof knows.
 ghost use Rattle.std.specs.Prelude.{◌≡◌, ◌<◌, ◌≤◌, min, length, get_or};
 ghost use Rattle.masks.specs.Limits.{max_arity};
-ghost use Rattle.book.specs.Limits.{max_clauses};
+ghost use Rattle.book.specs.Limits.{max_clauses, max_subgoals};
 ghost use Rattle.book.specs.Book.{no_call};
 ghost use Rattle.book.specs.Held.{head_in, call_in, clause_at, StoredClause};
 
@@ -51,7 +51,8 @@ impl<'a> Clause<'a> {
 
     // How many subgoals it has.
     pub fn subgoals(&self) -> usize
-        ensures { result ≡ length self.now.body }
+        ensures value { result ≡ length self.now.body }
+        ensures upper_bound { result ≤ max_subgoals }
     {
         MAX_SUBGOALS.min(self.rules[self.k * CLAUSE_SIZE] as usize)
     }

@@ -1,15 +1,16 @@
 // A book as it is held, in flat arrays of numbers: `clause` and `mode` know how the last two are laid out.
-ghost use Rattle.book.specs.Held.{NoModes};
+ghost use Rattle.std.specs.Prelude.{◌≡◌, ◌≤◌};
+ghost use Rattle.book.specs.Limits.{max_clauses};
+ghost use Rattle.book.specs.Held.{clause_at, NoModes};
 
-use crate::limits::{MAX_PREDICATES, MODES_SIZE, NO_CALL, RULES_SIZE};
+use crate::clause::Clause;
+use crate::limits::{MAX_CLAUSES, MAX_PREDICATES, MODES_SIZE, NO_CALL, RULES_SIZE};
 
-// How many predicates and clauses there are, the arity of each predicate, the set of those that have `MO`, the masks of each, and the clauses, with the
-// query behind them.
+// How many predicates and clauses there are, the arity and the mode of each predicate, and the clauses, with the query behind them.
 #[derive(Drop)]
 pub struct RuleBook {
     pub preds: u8,
     pub clauses: u8,
-    pub with_mode: u64,
     pub arities: [u8; MAX_PREDICATES],
     pub modes: [u8; MODES_SIZE],
     pub rules: [u64; RULES_SIZE],
@@ -23,10 +24,24 @@ impl RuleBook {
         RuleBook {
             preds: 0,
             clauses: 0,
-            with_mode: 0,
             arities: [0; MAX_PREDICATES],
             modes: [0; MODES_SIZE],
             rules: [NO_CALL; RULES_SIZE],
         }
+    }
+
+    // Clause k.
+    pub fn clause(&self, k: usize) -> Clause<'_>
+        requires { k ≤ max_clauses }
+        ensures { result ≡ clause_at self.now.rules k }
+    {
+        Clause::at(&self.rules, k)
+    }
+
+    // The query, as a clause whose head says nothing.
+    pub fn query(&self) -> Clause<'_>
+        ensures { result ≡ clause_at self.now.rules max_clauses }
+    {
+        self.clause(MAX_CLAUSES)
     }
 }

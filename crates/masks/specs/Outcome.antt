@@ -1,6 +1,7 @@
 -- What an operation answers, and what it leaves in the room lent to it: one shape for every operation of every crate. Assumes nothing.
-use Rattle.std.specs.Prelude.{cond, List, ◌++◌, ◌≡◌, ℕ, ltb, length, drop}
+use Rattle.std.specs.Prelude.{cond, List, ◌++◌, ◌≡◌, ℕ, ltb, length, drop, Result, Ok, Err}
 use Rattle.masks.specs.declared.reply.Reply.{Reply}
+use Rattle.masks.specs.declared.reply.TooShort.{TooShort}
 
 -- What comes of an input, whatever the room: a refusal with its number and value, or a result of so many rounds (0 but for the analysis).
 pub data Outcome : Type 0 where
@@ -26,3 +27,14 @@ left (done rounds bytes) out = cond (ltb (length out) (length bytes)) out (bytes
 pub record Answers (o : Outcome) (out : List ℕ) (r : Reply) (after : List ℕ) : Type 0 where
   pub replies : r ≡ reply o (length out)
   pub leaves : after ≡ left o out
+
+-- ---- the code's answers, before they are replies
+
+-- "9", with the "bytes needed"
+abbrev pub nine : TooShort → Reply
+nine e = record { number = 9; value = e.needed; rounds = 0 }
+
+-- the reply, or that of an error
+abbrev pub reply_of : {E : Type 0} → (E → Reply) → Result Reply E → Reply
+reply_of refusal (Ok r) = r
+reply_of refusal (Err e) = refusal e

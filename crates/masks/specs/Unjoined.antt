@@ -1,5 +1,6 @@
 -- The refusals of joining as replies: document 01, "Joining". Assumes nothing.
 use Rattle.std.specs.Prelude.{◌≡◌, Result, Ok, Err, ℕ}
+use Rattle.masks.specs.Outcome.{nine}
 use Rattle.masks.specs.declared.reply.Reply.{Reply}
 use Rattle.masks.specs.declared.Unjoined.{Unjoined}
 use Rattle.masks.specs.declared.Unjoined.TheVariants.{OutOfRange, TooMany, TooShort}
@@ -8,12 +9,7 @@ use Rattle.masks.specs.declared.Unjoined.TheVariants.{OutOfRange, TooMany, TooSh
 abbrev pub reply : Unjoined → Reply
 reply OutOfRange = record { number = 4; value = 0; rounds = 0 }
 reply TooMany = record { number = 5; value = 0; rounds = 0 }
-reply (TooShort e) = record { number = 9; value = e.needed; rounds = 0 }
-
--- what is answered
-abbrev pub reply_of : Result Reply Unjoined → Reply
-reply_of (Ok r) = r
-reply_of (Err e) = reply e
+reply (TooShort e) = nine e
 
 -- the reply of the fault of this number
 abbrev pub told : ℕ → Reply

@@ -13,9 +13,9 @@ ghost use Rattle.std.specs.Prelude.{◌≡◌, true};
 ghost use Rattle.masks.specs.Limits.{all_patterns};
 ghost use Rattle.masks.specs.Constraint.{in_range, choice, joint};
 ghost use Rattle.masks.specs.Set.{members};
-ghost use Rattle.masks.specs.Outcome.{Answers};
+ghost use Rattle.masks.specs.Outcome.{Answers, reply_of};
 ghost use Rattle.masks.specs.Joining.{list_fault, fault, combined, joining};
-ghost use Rattle.masks.specs.Unjoined.{Finds, reply_of};
+ghost use Rattle.masks.specs.Unjoined.{Finds, reply};
 
 use crate::limits::{MAX_ARITY, MAX_MASKS};
 use crate::reply::{Reply, TooShort};
@@ -89,7 +89,7 @@ fn joined(
     second: &[u8],
     out: &mut [u8],
 ) -> Result<Reply, Unjoined>
-    ensures { Answers (joining way arity first.now second.now) out.old (reply_of result) out.new }
+    ensures { Answers (joining way arity first.now second.now) out.old (reply_of reply result) out.new }
 {
     first_fault(arity, first, second)?;
     let c = combine(way, first, second);

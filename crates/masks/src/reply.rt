@@ -46,8 +46,9 @@ impl Reply {
 
 impl From<TooShort> for Reply {
     ghost use Rattle.std.specs.Prelude.{◌≡◌};
+    ghost use Rattle.masks.specs.Outcome.{nine};
 
-    ghost from_gives = { λ e r. r ≡ record { number = 9; value = e.needed; rounds = 0 } };
+    ghost from_gives = { λ e r. r ≡ nine e };
 
     fn from(e: TooShort) -> Reply {
         Reply::refused(9, e.needed as u64)

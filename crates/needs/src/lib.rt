@@ -17,7 +17,28 @@ use crate::round::{renew, round};
 use book::limits::{MAX_PREDICATES, MODES_SIZE, NO_CALL, RULES_SIZE};
 use masks::reply::Reply;
 use reading::read_book;
-use tables::{first_table, image_length, put_image};
+use tables::{Table, first_table, image_length, put_image};
+
+// What the analysis finds: the clauses of each predicate, as sets, and the final table.
+#[derive(Drop)]
+pub struct Needs {
+    pub own: [u64; MAX_PREDICATES],
+    pub table: Table,
+}
+
+impl Needs {
+    // Room for them.
+    pub fn new() -> Needs
+        ensures own { Cleared result.own }
+        ensures masks { Cleared result.table.masks }
+        ensures admits { Cleared result.table.admits }
+    {
+        Needs {
+            own: [0; MAX_PREDICATES],
+            table: Table::new(),
+        }
+    }
+}
 
 // The analysis of a book: its final table as an image, written into the output, and its rounds.
 pub fn analyse(book: &[u8], out: &mut [u8]) -> Reply

@@ -22,6 +22,26 @@ use writing::put::{put_byte, put_constraint, put_mark};
 // The set of the mask 0 alone: a constraint that asks for nothing.
 const TRIVIAL: u64 = 1;
 
+// A constraint for each predicate: the set of its masks, and the patterns that it admits.
+#[derive(Drop)]
+pub struct Table {
+    pub masks: [u64; MAX_PREDICATES],
+    pub admits: [u64; MAX_PREDICATES],
+}
+
+impl Table {
+    // Room for a table.
+    pub fn new() -> Table
+        ensures masks { Cleared result.masks }
+        ensures admits { Cleared result.admits }
+    {
+        Table {
+            masks: [0; MAX_PREDICATES],
+            admits: [0; MAX_PREDICATES],
+        }
+    }
+}
+
 // "Table 0: each `MO` as given and minimised, all others trivial", of predicates with clauses and without. Having no `MO` is not having one with no
 // alternative.
 pub fn first_table(

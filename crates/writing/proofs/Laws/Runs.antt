@@ -70,19 +70,18 @@ predicates_chunks arities n {k} e h =
     elements_chunks enc_predicate (take k arities) 0 (omega arith)
     (ap (run enc_predicate) (take-length (take k arities) ∙ (front n arities z).is))
 
-module _ (rules : List ℕ) (k : ℕ) where
+module _ (body : List Call) where
   abbrev pub subgoals_to : ℕ → List ℕ
-  subgoals_to i = run enc_subgoal (take i (clause_at rules k).body)
+  subgoals_to i = run enc_subgoal (take i body)
 
   abbrev pub call_at : ℕ → Call
-  call_at i = get_or (clause_at rules k).body i no_call
+  call_at i = get_or body i no_call
 
   abbrev pub subgoal_at : ℕ → List ℕ
   subgoal_at i = enc_subgoal (call_at i)
 
-  pub subgoals_chunks : {n : ℕ} → n ≡ length (clause_at rules k).body → Chunks n subgoals_to subgoal_at (run enc_subgoal (clause_at rules k).body)
-  subgoals_chunks e =
-      elements_chunks enc_subgoal (clause_at rules k).body no_call (omega arith) (ap subgoals_to e ∙ ap (run enc_subgoal) (take-length (clause_at rules k).body))
+  pub subgoals_chunks : {n : ℕ} → n ≡ length body → Chunks n subgoals_to subgoal_at (run enc_subgoal body)
+  subgoals_chunks e = elements_chunks enc_subgoal body no_call (omega arith) (ap subgoals_to e ∙ ap (run enc_subgoal) (take-length body))
 
 module _ (rules : List ℕ) where
   abbrev pub clauses_to : ℕ → List ℕ

@@ -9,22 +9,19 @@ use Rattle.writing.proofs.Laws.Chunks.{writing_start, writing_length, writing_ro
 use Rattle.writing.proofs.Laws.Runs.{subgoals_chunks}
 use Rattle.writing.proofs.put_body.Goals as goal
 
-pub subgoals_at-j-end-requires : goal.subgoals_at-j-end-requires
-subgoals_at-j-end-requires c = c.requires.0
-
 pub loop-j-init : goal.loop-j-init
 loop-j-init c =
-    writing_start (subgoals_chunks c.args.rules.now c.args.k c.subgoals_at-j-end.ensures) c.requires.1
+    writing_start (subgoals_chunks c.args.clause.now.body c.subgoals-j-end.ensures.value) c.requires
 
-pub subgoal_at-requires : goal.subgoal_at-requires
-subgoal_at-requires c = let e = c.subgoals_at-j-end.ensures in (c.requires.0, omega arith)
+pub subgoal-requires : goal.subgoal-requires
+subgoal-requires c = let e = c.subgoals-j-end.ensures.value in omega arith
 
 pub put_subgoal-p-requires : goal.put_subgoal-p-requires
-put_subgoal-p-requires c = let e = ap (λ (s : Call). length (enc_subgoal s)) c.subgoal_at.ensures in let r = writing_room c.loop-j.invariant (omega arith) in omega arith
+put_subgoal-p-requires c = let e = ap (λ (s : Call). length (enc_subgoal s)) c.subgoal.ensures in let r = writing_room c.loop-j.invariant (omega arith) in omega arith
 
 pub loop-j-preserved : goal.loop-j-preserved
 loop-j-preserved c =
-    let one = wrote_as (ap enc_subgoal c.subgoal_at.ensures) c.put_subgoal-p.ensures in
+    let one = wrote_as (ap enc_subgoal c.subgoal.ensures) c.put_subgoal-p.ensures in
     writing_next c.loop-j.invariant (omega arith) one
 
 pub shape_of-out : goal.shape_of-out

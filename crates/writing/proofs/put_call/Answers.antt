@@ -14,7 +14,7 @@ put_byte-p-requires c = omega (arith, c.requires)
 
 pub loop-i-init : goal.loop-i-init
 loop-i-init c =
-    let args = (call_in c.args.call).args in
+    let args = (call_in c.args.call.word).args in
     writing_start (bytes_chunks args c.arguments-i-end.ensures.value) (room_second args c.put_byte-p.ensures c.requires)
 
 pub argument-requires : goal.argument-requires
@@ -33,6 +33,6 @@ shape_of-out c = writing_length c.loop-i.invariant ∙ wrote_length c.put_byte-p
 
 pub returns : goal.returns
 returns c =
-    let args = (call_in c.args.call).args in
+    let args = (call_in c.args.call.word).args in
     let pred = ap (λ (x : ℕ). x ∷ args) c.predicate.ensures in
     wrote_as pred (wrote_append c.put_byte-p.ensures (writing_end c.loop-i.invariant (omega arith)))

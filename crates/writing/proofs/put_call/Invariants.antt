@@ -5,4 +5,4 @@ use Rattle.writing.proofs.Laws.Runs.{bytes_to, byte_at}
 use Rattle.writing.proofs.put_call.Given as goal
 
 abbrev pub invariant-loop-i : goal.invariant-loop-i
-invariant-loop-i l = Writing l.i-end (bytes_to (call_in l.call).args) (byte_at (call_in l.call).args) (call_in l.call).args l.initial.out l.initial.p l.i l.out l.p
+invariant-loop-i l = Writing l.i-end (bytes_to (call_in l.call.word).args) (byte_at (call_in l.call.word).args) (call_in l.call.word).args l.initial.out l.initial.p l.i l.out l.p

@@ -1,18 +1,19 @@
 -- `writing::write_given` meets its contract. The book's length decides between the two answers of an outcome that is done. Assumes nothing.
 use native.Mathlib.Omega.{arith}
-use Rattle.masks.proofs.Laws.Outcome.{room_enough, answers_short, answers_done}
+use Rattle.std.proofs.lemmas.Result.{err_from_is_err_and}
+use Rattle.masks.proofs.Laws.Outcome.{answers_short, answers_done}
 use Rattle.writing.proofs.write_given.Goals as goal
 
 pub put_book-requires : goal.put_book-requires
-put_book-requires c =
-    let size = c.book_length-n.ensures in
-    let h = room_enough _ _ _ c.in_room-r.ensures (λ z. omega arith) in
-    (c.requires, omega arith)
+put_book-requires c = (c.requires, omega (arith, c.book_length.ensures, c.in_ok-r.ensures.done.1))
 
-pub returns-then-r-eq0 : goal.returns-then-r-eq0
-returns-then-r-eq0 c =
-    let k = c.before.before.before.before.before.before.before in
-    answers_done _ _ _ k.in_room-r.ensures _ k.book_length-n.ensures (omega arith) (λ z. omega arith) c.put_book.ensures.is
+pub returns-in_err-r : goal.returns-in_err-r
+returns-in_err-r c =
+    let p = err_from_is_err_and c.from_residual.result c.from_residual.ensures.1 in
+    let h = c.in_err-r.ensures.short in
+    rw (p.1, p.2, h.0) (answers_short c.book_length.ensures h.1)
 
-pub returns-else-r-eq0 : goal.returns-else-r-eq0
-returns-else-r-eq0 c = let k = c.before.before.before in answers_short _ _ _ k.in_room-r.ensures _ k.book_length-n.ensures (omega arith) c.if-r-eq0.false
+pub returns : goal.returns
+returns c =
+    let h = c.in_ok-r.ensures.done in
+    answers_done c.book_length.ensures h.1 h.0 c.put_book.ensures.is

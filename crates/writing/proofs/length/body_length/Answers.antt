@@ -4,35 +4,34 @@ use native.Mathlib.Omega.{arith}
 use lib.ListN.{length}
 use Rattle.book.specs.Book.{Call}
 use Rattle.book.proofs.Laws.Bound.{subgoal_size}
-use Rattle.book.proofs.Laws.Held.{clause_at_few}
 use Rattle.writing.proofs.Laws.Chunks.{measuring_start, measuring_next, measuring_end}
 use Rattle.writing.proofs.Laws.Runs.{call_at, subgoals_chunks}
 use Rattle.writing.proofs.length.body_length.Goals as goal
 
 pub loop-j-init : goal.loop-j-init
-loop-j-init c = measuring_start (subgoals_chunks c.args.rules.now c.args.k c.subgoals_at-j-end.ensures)
+loop-j-init c = measuring_start (subgoals_chunks c.args.clause.now.body c.subgoals-j-end.ensures.value)
 
-pub subgoal_at-requires : goal.subgoal_at-requires
-subgoal_at-requires c = let e = c.subgoals_at-j-end.ensures in (c.requires, omega arith)
+pub subgoal-requires : goal.subgoal-requires
+subgoal-requires c = let e = c.subgoals-j-end.ensures.value in omega arith
 
 pub overflow_add-total : goal.overflow_add-total
 overflow_add-total c = omega arith
 
 pub overflow_add-total-in-loop-j : goal.overflow_add-total-in-loop-j
 overflow_add-total-in-loop-j c =
-    let e = c.subgoals_at-j-end.ensures in
-    let f = clause_at_few c.args.rules.now c.args.k in
+    let e = c.subgoals-j-end.ensures.value in
+    let f = c.subgoals-j-end.ensures.upper_bound in
     omega arith
 
 pub loop-j-preserved : goal.loop-j-preserved
 loop-j-preserved c =
     let e = c.arguments.ensures.value in
-    let f = ap (λ (x : Call). length x.args) c.subgoal_at.ensures in
+    let f = ap (λ (x : Call). length x.args) c.subgoal.ensures in
     let s = c.args in
-    let g = subgoal_size (call_at s.rules.now s.k c.loop-j.j) in
+    let g = subgoal_size (call_at s.clause.now.body c.loop-j.j) in
     measuring_next c.loop-j.invariant (omega arith) (omega arith) (omega arith)
 
 pub returns : goal.returns
 returns c =
-    let e = c.subgoals_at-j-end.ensures in
-    let f = clause_at_few c.args.rules.now c.args.k in record { value = measuring_end c.loop-j.invariant (omega arith); upper_bound = omega arith }
+    let e = c.subgoals-j-end.ensures.value in
+    let f = c.subgoals-j-end.ensures.upper_bound in record { value = measuring_end c.loop-j.invariant (omega arith); upper_bound = omega arith }

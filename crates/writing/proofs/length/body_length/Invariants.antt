@@ -2,10 +2,9 @@
 use Prim.Native.Nat.{◌+◌}
 use Rattle.masks.specs.Limits.{max_arity}
 use Rattle.book.specs.Encode.{run, enc_subgoal}
-use Rattle.book.specs.Held.{clause_at}
 use Rattle.writing.proofs.Laws.Chunks.{Measuring}
 use Rattle.writing.proofs.Laws.Runs.{subgoals_to, subgoal_at}
 use Rattle.writing.proofs.length.body_length.Given as goal
 
 abbrev pub invariant-loop-j : goal.invariant-loop-j
-invariant-loop-j l = Measuring l.j-end (subgoals_to l.rules l.k) (subgoal_at l.rules l.k) (run enc_subgoal (clause_at l.rules l.k).body) (3 + max_arity) l.j l.total
+invariant-loop-j l = Measuring l.j-end (subgoals_to l.clause.body) (subgoal_at l.clause.body) (run enc_subgoal l.clause.body) (3 + max_arity) l.j l.total

@@ -7,4 +7,4 @@ use Rattle.writing.proofs.Laws.Runs.{clauses_to, clause_bytes_at}
 use Rattle.writing.proofs.length.clauses_length.Given as goal
 
 abbrev pub invariant-loop-k : goal.invariant-loop-k
-invariant-loop-k l = Measuring l.n (clauses_to l.rules) (clause_bytes_at l.rules) (clauses_to l.rules (min l.clauses max_clauses)) (3 + max_arity + max_subgoals * (3 + max_arity)) l.k l.total
+invariant-loop-k l = Measuring l.n (clauses_to l.book.rules) (clause_bytes_at l.book.rules) (clauses_to l.book.rules (min l.book.clauses max_clauses)) (3 + max_arity + max_subgoals * (3 + max_arity)) l.k l.total

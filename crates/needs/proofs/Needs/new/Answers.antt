@@ -1,0 +1,6 @@
+-- `needs::Needs::new` meets its contract. Assumes nothing.
+use Rattle.book.proofs.Laws.Sets.{cleared_zeros}
+use Rattle.needs.proofs.Needs.new.Goals as goal
+
+pub returns : goal.returns
+returns c = ?
