@@ -26,10 +26,7 @@ pub fn is_subgoal(s: &[u8], at: usize) -> bool
     requires { at ≤ length s.now }
     ensures { result ≡ leads_subgoal (drop at s.now) }
 {
-    if is_mark(s, at, b"SG") {
-        return true;
-    }
-    is_mark(s, at, b"NG")
+    is_mark(s, at, b"SG") || is_mark(s, at, b"NG")
 }
 
 // What comes of a run where none of its records follows: its end, or a fault.
@@ -79,6 +76,7 @@ fn column(m: Mark, pr: Turn, mo: Turn, cl: Turn, sg: Turn, qu: Turn, end: Turn) 
 }
 
 // What stands at a place.
+#[tactic(auto, unfolding(book::specs::Format::mark_at))]
 fn mark_at(s: &[u8], at: usize) -> Mark
     requires { at ≤ length s.now }
     ensures { result ≡ format.mark_at (drop at s.now) }
@@ -109,12 +107,9 @@ fn unmarked(s: &[u8], at: usize) -> Mark
     requires { at ≤ length s.now }
     ensures { result ≡ format.unmarked (drop at s.now) }
 {
-    let left = s.len() - at;
-    if left == 0 {
-        return Mark::End;
+    match s.len() - at {
+        0 => Mark::End,
+        1 => Mark::Half,
+        _ => Mark::Other,
     }
-    if left == 1 {
-        return Mark::Half;
-    }
-    Mark::Other
 }
