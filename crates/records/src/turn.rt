@@ -1,8 +1,8 @@
 // Marks, and whose turn it is where a record may begin: "all `PR`, then all `MO`, then clauses, then one `QU`; `SG` only after `CL`, `QU` or `SG`",
 // and `NG`, which "has the fields and turn of `SG`". In the run of a page, "a run of `QU` records with their subgoals".
-ghost use Rattle.std.specs.Prelude.{◌≡◌, ℕ, ◌≤◌, length, drop};
+ghost use Rattle.std.specs.Prelude.{◌≡◌, ◌≤◌, length, drop};
 ghost use Rattle.book.specs.Format as format;
-ghost use Rattle.records.specs.Read.{Reads, alone, stops, leads_subgoal};
+ghost use Rattle.records.specs.Read.{RunEnds, leads_subgoal};
 
 use book::fault::{Fault, FaultAt};
 use book::mark::{Mark, Phase, Turn};
@@ -32,7 +32,7 @@ pub fn is_subgoal(s: &[u8], at: usize) -> bool
 // What comes of a run where none of its records follows: its end, or a fault.
 pub fn run_end(s: &[u8], at: usize, p: Phase) -> Result<usize, FaultAt>
     requires { at ≤ length s.now }
-    ensures { Reads {A = ℕ} alone s.now result (λ k. 0) (stops p 0 (drop at s.now)) }
+    ensures { RunEnds p s.now at result }
 {
     match turn(p, mark_at(s, at)) {
         Turn::No(f) => Err(f.at(f.place(s.len(), at))),
