@@ -91,8 +91,7 @@ fn read_rules<'a>(
     requires { (from ≤ length s.now) × (preds ≤ max_predicates) × Arities (take preds arities.now) × NoModes modes.old }
     ensures { ReadsRules preds arities.now s.now from result modes.old rules.old modes.new rules.new }
 {
-    let bytes: &[u8] = arities;
-    let ar = &bytes[..preds as usize];
+    let ar = &arities[..preds as usize];
     let (at, with_mode) = read_modes(s, ar, from, modes)?;
     let (end, n) = read_clauses(s, ar, at, rules)?;
     read_query(s, ar, end, rules)?;
@@ -108,7 +107,6 @@ fn read_rules<'a>(
 fn read_predicates(s: &[u8], arities: &mut [u8; MAX_PREDICATES]) -> Result<(usize, usize), FaultAt>
     ensures { ReadsPredicates s.now result arities.new }
 {
-    let bytes: &mut [u8] = arities;
     let mut at: usize = 0;
     let mut n: usize = 0;
     while is_mark(s, at, b"PR") {
@@ -116,7 +114,7 @@ fn read_predicates(s: &[u8], arities: &mut [u8; MAX_PREDICATES]) -> Result<(usiz
             return Err(Fault::TooMany.at(at));
         }
         let (next, arity) = read_predicate(s, at)?;
-        bytes[n] = arity;
+        arities[n] = arity;
         n += 1;
         at = next;
     }
