@@ -47,10 +47,10 @@ pub fn analyse(book: &[u8], out: &mut [u8]) -> Reply
     let mut arities = [0u8; MAX_PREDICATES];
     let mut modes = [0u8; MODES_SIZE];
     let mut rules = [NO_CALL; RULES_SIZE];
-    let b = read_book(book, &mut arities, &mut modes, &mut rules);
-    if b.reply.number != 0 {
-        return b.reply;
-    }
+    let b = match read_book(book, &mut arities, &mut modes, &mut rules) {
+        Ok(b) => b,
+        Err(f) => return f.into(),
+    };
     let mut own = [0u64; MAX_PREDICATES];
     let mut table = [0u64; MAX_PREDICATES];
     let mut admits = [0u64; MAX_PREDICATES];

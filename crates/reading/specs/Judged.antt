@@ -1,13 +1,12 @@
 -- What reading a book comes to, and what the check answers. Assumes nothing.
-use Rattle.std.specs.Prelude.{◌≡◌, List, [], ℕ, ◌≤◌, length, take}
+use Rattle.std.specs.Prelude.{◌≡◌, List, [], ℕ, ◌≤◌, length, take, Result, Ok, Err}
 use Rattle.masks.specs.Set.{Holds}
 use Rattle.masks.specs.declared.reply.Reply.{Reply}
 use Rattle.book.specs.Limits.{max_predicates, max_clauses}
 use Rattle.book.specs.Book.{Book}
 use Rattle.book.specs.Format.{number, Judged, fault, book, judge}
 use Rattle.book.specs.Held.{has_mode, mode_at, modes_of, book_in}
-use Rattle.records.specs.declared.field.Found.{Found}
-use Rattle.records.specs.declared.field.Found.TheVariants.{Next, Bad}
+use Rattle.book.specs.declared.fault.FaultAt.{FaultAt}
 use Rattle.reading.specs.declared.Reading.{Reading}
 
 -- no predicate has MO
@@ -19,29 +18,24 @@ pub record Listed (n : ℕ) (arities : List ℕ) : Type 0 where
   pub few : n ≤ max_predicates
   pub each : length (take n arities) ≡ n
 
--- what reading a book comes to
-abbrev pub judgement : Found → Book → Judged
-judgement (Next at n) b = book b
-judgement (Bad f at) b = fault f at
-
 -- "The check writes nothing and answers a valid book with 0 and the value 0"; a fault with its number and its place
 abbrev pub checked : Judged → Reply
 checked (fault f at) = record { number = number f; value = at; rounds = 0 }
 checked (book b) = record { number = 0; value = 0; rounds = 0 }
 
--- what the check answers once reading came to g, whatever the book then is
-abbrev pub AnswerTo : Found → Reply → Type 0
-AnswerTo g r = (b : Book) → r ≡ checked (judgement g b)
+-- the bytes s are read, whatever is stored: they are a book with so many predicates, or the fault is their first
+abbrev pub Judges : List ℕ → Result Reading FaultAt → Type 0
+Judges s (Ok r) = (B : Book) × (judge s ≡ book B) × (length B.arities ≡ r.preds)
+Judges s (Err e) = judge s ≡ fault e.fault e.at
 
--- the bytes s are read, whatever is stored: the reply is the check's, and where they are a book, it has so many predicates
-pub record Judges (s : List ℕ) (r : Reading) : Type 0 where
-  pub replies : r.reply ≡ checked (judge s)
-  pub preds· : (B : Book) → judge s ≡ book B → length B.arities ≡ r.preds
-
--- and into the arrays lent: where the reply is 0 they hold the book that the bytes are, and the set has the predicates that have MO
-pub record BookRead (s : List ℕ) (r : Reading) (arities modes rules : List ℕ) : Type 0 where
-  pub judges : Judges s r
-  pub holds : r.reply.number ≡ 0 → judge s ≡ book (book_in r.preds arities modes r.clauses rules)
+-- the bytes s are the book that the arrays hold, and the set has the predicates that have MO
+pub record BookHeld (s : List ℕ) (r : Reading) (arities modes rules : List ℕ) : Type 0 where
+  pub is : judge s ≡ book (book_in r.preds arities modes r.clauses rules)
   pub listed : Listed r.preds arities
   pub few : r.clauses ≤ max_clauses
-  pub given : r.reply.number ≡ 0 → Holds r.with_mode (has_mode (modes_of modes max_predicates))
+  pub given : Holds r.with_mode (has_mode (modes_of modes max_predicates))
+
+-- the bytes s are read into the arrays lent
+abbrev pub BookRead : List ℕ → Result Reading FaultAt → (arities modes rules : List ℕ) → Type 0
+BookRead s (Ok r) arities modes rules = BookHeld s r arities modes rules
+BookRead s (Err e) arities modes rules = judge s ≡ fault e.fault e.at

@@ -37,6 +37,10 @@ pub record Reads {V A : Type 0} (after : V → ℕ) (s : List ℕ) (r : Result V
 abbrev pub stops : {A : Type 0} → Phase → A → List ℕ → Got A
 stops p a s = on_turn (turn p (mark_at s)) (got a s) a s
 
+-- the end of the run p is judged, at a place where none of its records follows
+abbrev pub RunEnds : Phase → List ℕ → ℕ → Result ℕ FaultAt → Type 0
+RunEnds p s at r = Reads {A = ℕ} alone s r (λ end. 0) (stops p 0 (drop at s))
+
 -- a subgoal begins here, of either kind
 abbrev pub leads_subgoal : List ℕ → Bool
 leads_subgoal s = leads (spelling Sg) s || leads (spelling Ng) s

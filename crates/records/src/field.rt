@@ -57,9 +57,10 @@ pub fn read_subgoal(s: &[u8], ar: &[u8], at: usize) -> Result<(usize, u64), Faul
     ensures { Reads next s.now result (λ v. call_in (value v)) (subgoal ar.now [] (drop at s.now)) }
 {
     if is_mark(s, at, b"NG") {
-        return read_call(s, ar, at + 2, LITERAL, true);
+        read_call(s, ar, at + 2, LITERAL, true)
+    } else {
+        read_call(s, ar, at + 2, WILDCARD, false)
     }
-    read_call(s, ar, at + 2, WILDCARD, false)
 }
 
 // "n, n masks", each one of so many patterns, stored as the mode of predicate p: the place after them.
@@ -198,8 +199,5 @@ fn in_range(range: Range, x: u8) -> bool
 fn is_argument(x: u8, from: u8) -> bool
     ensures { result ≡ (leb x 15 || leb from x) }
 {
-    if x <= LAST_VARIABLE {
-        return true;
-    }
-    from <= x
+    x <= LAST_VARIABLE || from <= x
 }

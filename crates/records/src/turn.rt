@@ -1,8 +1,8 @@
 // Marks, and whose turn it is where a record may begin: "all `PR`, then all `MO`, then clauses, then one `QU`; `SG` only after `CL`, `QU` or `SG`",
 // and `NG`, which "has the fields and turn of `SG`". In the run of a page, "a run of `QU` records with their subgoals".
-ghost use Rattle.std.specs.Prelude.{◌≡◌, ℕ, ◌≤◌, length, drop};
+ghost use Rattle.std.specs.Prelude.{◌≡◌, ◌≤◌, length, drop};
 ghost use Rattle.book.specs.Format as format;
-ghost use Rattle.records.specs.Read.{Reads, alone, stops, leads_subgoal};
+ghost use Rattle.records.specs.Read.{RunEnds, leads_subgoal};
 
 use book::fault::{Fault, FaultAt};
 use book::mark::{Mark, Phase, Turn};
@@ -26,16 +26,13 @@ pub fn is_subgoal(s: &[u8], at: usize) -> bool
     requires { at ≤ length s.now }
     ensures { result ≡ leads_subgoal (drop at s.now) }
 {
-    if is_mark(s, at, b"SG") {
-        return true;
-    }
-    is_mark(s, at, b"NG")
+    is_mark(s, at, b"SG") || is_mark(s, at, b"NG")
 }
 
 // What comes of a run where none of its records follows: its end, or a fault.
 pub fn run_end(s: &[u8], at: usize, p: Phase) -> Result<usize, FaultAt>
     requires { at ≤ length s.now }
-    ensures { Reads {A = ℕ} alone s.now result (λ k. 0) (stops p 0 (drop at s.now)) }
+    ensures { RunEnds p s.now at result }
 {
     match turn(p, mark_at(s, at)) {
         Turn::No(f) => Err(f.at(f.place(s.len(), at))),
@@ -79,6 +76,7 @@ fn column(m: Mark, pr: Turn, mo: Turn, cl: Turn, sg: Turn, qu: Turn, end: Turn) 
 }
 
 // What stands at a place.
+#[tactic(auto, unfolding(book::specs::Format::mark_at))]
 fn mark_at(s: &[u8], at: usize) -> Mark
     requires { at ≤ length s.now }
     ensures { result ≡ format.mark_at (drop at s.now) }
@@ -109,12 +107,9 @@ fn unmarked(s: &[u8], at: usize) -> Mark
     requires { at ≤ length s.now }
     ensures { result ≡ format.unmarked (drop at s.now) }
 {
-    let left = s.len() - at;
-    if left == 0 {
-        return Mark::End;
+    match s.len() - at {
+        0 => Mark::End,
+        1 => Mark::Half,
+        _ => Mark::Other,
     }
-    if left == 1 {
-        return Mark::Half;
-    }
-    Mark::Other
 }

@@ -15,7 +15,8 @@ use Rattle.book.specs.Limits.{max_clauses, max_subgoals}
 use Rattle.book.specs.Book.{Head, Call}
 use Rattle.book.specs.Format.{spelling, leads, turn, Bodied, mark_at, many, subgoal}
 use Rattle.book.specs.Held.{head_in, call_in, clause_size, rules_size, clause_at, StoredClause}
-use Rattle.book.specs.declared.fault.Fault.{Fault}
+use Rattle.std.specs.Prelude.{Result, Ok, Err}
+use Rattle.book.specs.declared.fault.FaultAt.{FaultAt}
 use Rattle.book.specs.declared.fault.Fault.TheVariants.{TooMany}
 use Rattle.book.specs.declared.mark.Mark.{Mark}
 use Rattle.book.specs.declared.mark.Mark.TheVariants.{Sg, Ng}
@@ -23,10 +24,8 @@ use Rattle.book.specs.declared.mark.Phase.{Phase}
 use Rattle.book.specs.declared.mark.Phase.TheVariants.{Body}
 use Rattle.book.specs.declared.mark.Turn.TheVariants.{Mine}
 use Rattle.book.proofs.Laws.Marks.{in_body, unled}
-use Rattle.records.specs.declared.field.Found.{Found}
-use Rattle.records.specs.declared.field.Found.TheVariants.{Next, Bad}
-use Rattle.records.specs.Found.{means, Reads, stops, leads_subgoal}
-use Rattle.records.proofs.Laws.Reads.{bad_next}
+use Rattle.records.specs.Read.{RunEnds, next, value, alone, Reads, leads_subgoal}
+use Rattle.records.proofs.Laws.Reads.{err_ok}
 use Rattle.records.proofs.Laws.Stores.{sets_last}
 use Rattle.reading.specs.Stored.{onward, ReadsBody}
 use Rattle.reading.proofs.Laws.Runs.{Going, mine_at, mark_there, stops_reads, going_start, going_full, going_bad, going_next, going_stops}
@@ -72,78 +71,75 @@ module _ (ar s : List ℕ) (from k : ℕ) (before : List ℕ) where
     bodying_size = ap length l.stored ∙ length-sets before (k * clause_size + 2) l.words
 
     -- a fault, of the run or of a subgoal
-    faulty : {g : Found} {v : Fault} {q : ℕ} → g ≡ Bad v q
-        → ((p : Phase) → Bodied p → Reads s g (λ j. map call_in l.words) (many p (subgoal ar) max_subgoals [] (drop from s)))
-        → ReadsBody ar s from k g before now
-    faulty {g} {v} {q} e w =
+    faulty : {e : FaultAt}
+        → ((p : Phase) → Bodied p → Reads alone s (Err e) (λ j. map call_in l.words) (many p (subgoal ar) max_subgoals [] (drop from s)))
+        → ReadsBody ar s from k (Err e) before now
+    faulty {e} w =
         record {
           words = l.words;
           few = let c = count in let t = bodying_few in omega arith;
           inside = (w Body in_body).inside;
-          reads = λ p b. same g e p ∙ (w p b).is;
-          stored = λ a m d. bad_next e d;
+          reads = λ p b. (w p b).is;
+          stored = λ a d. err_ok refl d;
         }
-      where
-        same : (h : Found) → h ≡ Bad v q → (p : Phase) → onward p s h (map call_in l.words) ≡ means s h (λ j. map call_in l.words)
-        same (Next a m) d p = bad_next d refl
-        same (Bad u a) d p = refl
 
     module _ (t : leads_subgoal (drop at s) ≡ true) where
       pub bodying_there : at + 2 ≤ length s
       bodying_there = mark_there Body s at (subgoal_at_lem Body in_body s at t)
 
-      pub bodying_full : max_subgoals ≤ n → ReadsBody ar s from k (Bad TooMany at) before now
-      bodying_full h = faulty refl (λ p b. going_full p (subgoal ar) s max_subgoals from (l.going p b) (subgoal_at_lem p b s at t) h)
+      pub bodying_full : max_subgoals ≤ n → ReadsBody ar s from k (Err (record { fault = TooMany; at = at })) before now
+      bodying_full h = faulty (λ p b. going_full p (subgoal ar) s max_subgoals from (l.going p b) (subgoal_at_lem p b s at t) h)
 
-      module _ (h : n < max_subgoals) (w : ℕ) {g : Found} (r : Reads s g (λ j. call_in w) (subgoal ar [] (drop at s))) where
-        pub bodying_bad : {v : Fault} {q : ℕ} → g ≡ Bad v q → ReadsBody ar s from k g before now
+      module _ (h : n < max_subgoals) {g : Result (ℕ × ℕ) FaultAt} (r : Reads next s g (λ v. call_in (value v)) (subgoal ar [] (drop at s))) where
+        pub bodying_bad : {e : FaultAt} → g ≡ Err e → ReadsBody ar s from k (Err e) before now
         unfolding subgoal
-        bodying_bad e = faulty e (λ p b. going_bad p (subgoal ar) s max_subgoals from (l.going p b) (subgoal_at_lem p b s at t) h r e)
+        bodying_bad e = faulty (λ p b. going_bad p (subgoal ar) s max_subgoals from (l.going p b) (subgoal_at_lem p b s at t) h r e)
 
-        pub bodying_next : {next m : ℕ} → g ≡ Next next m → {after : List ℕ} → after ≡ set now (k * clause_size + 2 + n) w
-            → Bodying ar s from next (n + 1) (k * clause_size) before after
+        pub bodying_next : {v : ℕ × ℕ} → g ≡ Ok v → {after : List ℕ} → after ≡ set now (k * clause_size + 2 + n) (value v)
+            → Bodying ar s from (next v) (n + 1) (k * clause_size) before after
         unfolding subgoal
-        bodying_next e d =
+        bodying_next {v} e d =
             record {
-              words = l.words ++ (w ∷ []);
+              words = l.words ++ (value v ∷ []);
               going =
                   λ p b.
                   going_next p (subgoal ar) s max_subgoals from (l.going p b) (subgoal_at_lem p b s at t) h r e
-                  (map-append call_in l.words (w ∷ []));
+                  (map-append call_in l.words (value v ∷ []));
               stored =
                   d
-                  ∙ ap (λ (x : List ℕ). set x (k * clause_size + 2 + n) w) l.stored
-                  ∙ sets_last before (k * clause_size + 2) n l.words w count;
+                  ∙ ap (λ (x : List ℕ). set x (k * clause_size + 2 + n) (value v)) l.stored
+                  ∙ sets_last before (k * clause_size + 2) n l.words (value v) count;
             }
 
-    pub bodying_end : leads_subgoal (drop at s) ≡ false → (m : ℕ) {after : List ℕ} → after ≡ set now (k * clause_size) n
-        → ReadsBody ar s from k (Next at m) before after
-    bodying_end t m d =
+    pub bodying_end : leads_subgoal (drop at s) ≡ false → {after : List ℕ} → after ≡ set now (k * clause_size) n
+        → ReadsBody ar s from k (Ok at) before after
+    bodying_end t d =
         record {
           words = l.words;
           few = let c = count in let u = bodying_few in omega arith;
           inside = bodying_inside;
           reads = λ p b. going_stops p (subgoal ar) s max_subgoals from (l.going p b) (no_subgoal_at p b s at t);
           stored =
-              λ a j e.
+              λ a e.
               d ∙ ap₂ (λ (x : List ℕ) (y : ℕ). set x (k * clause_size) y) l.stored (sym count);
         }
 
 -- ---- what was read, once its end is judged
 
-module _ {ar s : List ℕ} {from k : ℕ} {g : Found} {before after : List ℕ} (w : ReadsBody ar s from k g before after) (p : Phase) (b : Bodied p) where
-  pub body_bad : {f : ℕ → List Call} {v : Fault} {q : ℕ} → g ≡ Bad v q → Reads s g f (many p (subgoal ar) max_subgoals [] (drop from s))
-  body_bad {f} {v} {q} e = record { inside = w.inside; is = same g e ∙ w.reads p b }
-    where
-      same : (h : Found) → h ≡ Bad v q → means s h f ≡ onward p s h (map call_in w.words)
-      same (Next a m) d = bad_next d refl
-      same (Bad u a) d = refl
+module _ {ar s : List ℕ} {from k : ℕ} {g : Result ℕ FaultAt} {before after : List ℕ} (w : ReadsBody ar s from k g before after) where
+  pub body_inside : {end : ℕ} → g ≡ Ok end → end ≤ length s
+  body_inside e = rw e at w.inside
 
-  pub body_next : {end n : ℕ} → g ≡ Next end n → {r : Found} → Reads s r (λ j. j) (stops p 0 (drop end s))
-      → Reads s r (λ j. map call_in w.words) (many p (subgoal ar) max_subgoals [] (drop from s))
-  body_next {end} {n} e v =
-      let u = stops_reads p s end (map call_in w.words) v in
-      record { inside = u.inside; is = u.is ∙ ap (λ (h : Found). onward p s h (map call_in w.words)) (sym e) ∙ w.reads p b }
+  module _ (p : Phase) (b : Bodied p) where
+    pub body_bad : {W : Type 0} {then : W → ℕ} {f : W → List Call} {e : FaultAt} → g ≡ Err e → Reads then s (Err e) f (many p (subgoal ar) max_subgoals [] (drop from s))
+    body_bad e =
+        record { inside = rw e at w.inside; is = ap (λ (h : Result ℕ FaultAt). onward p s h (map call_in w.words)) (sym e) ∙ w.reads p b }
+
+    pub body_next : {end : ℕ} → g ≡ Ok end → {r : Result ℕ FaultAt} → RunEnds p s end r
+        → Reads alone s r (λ j. map call_in w.words) (many p (subgoal ar) max_subgoals [] (drop from s))
+    body_next {end} e v =
+        let u = stops_reads p s end (map call_in w.words) v in
+        record { inside = u.inside; is = u.is ∙ ap (λ (h : Result ℕ FaultAt). onward p s h (map call_in w.words)) (sym e) ∙ w.reads p b }
 
 -- ---- the words of a clause
 

@@ -8,9 +8,10 @@ use native.Mathlib.Omega.{arith}
 use lib.ListN.{length, drop, set}
 use Rattle.book.specs.Limits.{max_clauses}
 use Rattle.book.specs.Book.{Call, Clause, no_clause}
-use Rattle.book.specs.Format.{spelling, leads, mark_at, turn, Bodied, fields, clause, query}
+use Rattle.book.specs.Format.{spelling, leads, mark_at, turn, Bodied, many, fields, clause, query}
 use Rattle.book.specs.Held.{head_in, call_in, clause_size, rules_size, clauses_of}
-use Rattle.book.specs.declared.fault.Fault.{Fault}
+use Rattle.std.specs.Prelude.{Result, Ok, Err}
+use Rattle.book.specs.declared.fault.FaultAt.{FaultAt}
 use Rattle.book.specs.declared.fault.Fault.TheVariants.{TooMany}
 use Rattle.book.specs.declared.mark.Mark.TheVariants.{Cl}
 use Rattle.book.specs.declared.mark.Phase.{Phase}
@@ -19,46 +20,44 @@ use Rattle.book.specs.declared.mark.Turn.TheVariants.{Mine}
 use Rattle.book.specs.declared.range.Range.TheVariants.{NoWildcard}
 use Rattle.book.proofs.Laws.Marks.{sole_clauses, in_body}
 use Rattle.book.proofs.Laws.Held.{clauses_of_stored}
-use Rattle.records.specs.declared.field.Found.{Found}
-use Rattle.records.specs.declared.field.Found.TheVariants.{Next, Bad}
-use Rattle.records.specs.Found.{Reads, stops}
-use Rattle.records.proofs.Laws.Reads.{bad_next, then_bad, then_next, reads_map, next_inside, after_mark}
+use Rattle.records.specs.Read.{RunEnds, next, value, alone, Reads}
+use Rattle.records.proofs.Laws.Reads.{err_ok, reads_ok, reads_fault, reads_as, then_bad, then_next, reads_map, after_mark}
 use Rattle.reading.specs.Stored.{ReadsBody, ReadsClause, ReadsClauses, ReadsQuery}
 use Rattle.reading.proofs.Laws.Runs.{Going, mine_at, not_mine_at, mark_there, going_start, going_full, going_bad, going_next, going_end}
 use Rattle.reading.proofs.Laws.Bodies.{body_bad, body_next, body_stored, clause_stored}
 
 -- ---- a clause
 
-module _ (ar s : List ℕ) (at k word : ℕ) {h : Found} (w : Reads s h (λ n. head_in word) (fields NoWildcard ar (drop (at + 2) s))) (before : List ℕ) where
+module _ (ar s : List ℕ) (at k : ℕ) {h : Result (ℕ × ℕ) FaultAt} (w : Reads next s h (λ v. head_in (value v)) (fields NoWildcard ar (drop (at + 2) s))) (before : List ℕ) where
   -- its head, behind the mark
-  head : Reads s h (λ n. head_in word) (fields NoWildcard ar (drop 2 (drop at s)))
+  head : Reads next s h (λ v. head_in (value v)) (fields NoWildcard ar (drop 2 (drop at s)))
   head = rw after_mark w
 
   -- the head has a fault
-  pub clause_headless : {v : Fault} {q : ℕ} → h ≡ Bad v q → ReadsClause ar s at k h before before
+  pub clause_headless : {e : FaultAt} → h ≡ Err e → ReadsClause ar s at k (Err e) before before
   unfolding clause
-  clause_headless e = record { clause = no_clause; reads = then_bad _ head e; stored = λ a n d. bad_next e d }
+  clause_headless e = record { clause = no_clause; reads = then_bad head _ e; stored = λ a d. err_ok refl d }
 
-  module _ {next n : ℕ} (e : h ≡ Next next n) {one after : List ℕ} {g : Found} (b : ReadsBody ar s next k g one after) where
+  module _ {v : ℕ × ℕ} (e : h ≡ Ok v) {one after : List ℕ} {g : Result ℕ FaultAt} (b : ReadsBody ar s (next v) k g one after) where
     -- the subgoals have one
-    pub clause_unbodied : {v : Fault} {q : ℕ} → g ≡ Bad v q → ReadsClause ar s at k g before after
+    pub clause_unbodied : {f : FaultAt} → g ≡ Err f → ReadsClause ar s at k (Err f) before after
     unfolding clause
     clause_unbodied d =
         record {
           clause = no_clause;
-          reads = then_next _ head e (then_bad _ (body_bad b Body in_body {f = λ j. []} d) d);
-          stored = λ a m f. bad_next d f;
+          reads = then_next head _ e (then_bad (body_bad b Body in_body {then = alone} {f = λ j. []} d) _ refl);
+          stored = λ a f. err_ok refl f;
         }
 
     -- what stands behind them decides
-    pub clause_ended : k < max_clauses → one ≡ set before (k * clause_size + 1) word → {end m : ℕ} → g ≡ Next end m → {r : Found}
-        → Reads s r (λ j. j) (stops Body 0 (drop end s)) → ReadsClause ar s at k r before after
+    pub clause_ended : k < max_clauses → one ≡ set before (k * clause_size + 1) (value v) → {end : ℕ} → g ≡ Ok end → {r : Result ℕ FaultAt}
+        → RunEnds Body s end r → ReadsClause ar s at k r before after
     unfolding clause
-    clause_ended low first {end} {m} d v =
+    clause_ended low first {end} d x =
         record {
-          clause = record { head = head_in word; body = map call_in b.words };
-          reads = then_next _ head e (reads_map (λ (l : List Call). record { head = head_in word; body = l }) (body_next b Body in_body d v));
-          stored = λ a j f room. clause_stored before k word b.words room low b.few first (b.stored end m d);
+          clause = record { head = head_in (value v); body = map call_in b.words };
+          reads = then_next head _ e (reads_map (body_next b Body in_body d x) (λ (l : List Call). record { head = head_in (value v); body = l }));
+          stored = λ a f room. clause_stored before k (value v) b.words room low b.few first (b.stored end d);
         }
 
 -- ---- the loop over clauses
@@ -93,62 +92,72 @@ module _ (ar s : List ℕ) (from : ℕ) (before : List ℕ) where
       pub clausing_there : at + 2 ≤ length s
       clausing_there = mark_there Clauses s at t
 
-      pub clausing_full : max_clauses ≤ n → ReadsClauses ar s from (record { found = Bad TooMany at; n = n }) before now
+      pub clausing_full : max_clauses ≤ n → ReadsClauses ar s from (Err (record { fault = TooMany; at = at })) before now
       clausing_full h =
           record {
             clauses = l.clauses;
-            few = l.few;
             reads = going_full Clauses (clause ar) s max_clauses from l.going t h;
-            stored = λ a m e. bad_next refl e;
+            few = λ v e. err_ok refl e;
+            stored = λ v e. err_ok refl e;
           }
 
-      module _ (h : n < max_clauses) {g : Found} {after : List ℕ} (w : ReadsClause ar s at n g now after) where
-        pub clausing_bad : {v : Fault} {q : ℕ} → g ≡ Bad v q → ReadsClauses ar s from (record { found = g; n = n }) before after
+      module _ (h : n < max_clauses) {g : Result ℕ FaultAt} {after : List ℕ} (w : ReadsClause ar s at n g now after) where
+        pub clausing_bad : {e : FaultAt} → g ≡ Err e → ReadsClauses ar s from (Err e) before after
         unfolding clause
         clausing_bad e =
             record {
               clauses = l.clauses;
-              few = l.few;
               reads = going_bad Clauses (clause ar) s max_clauses from l.going t h w.reads e;
-              stored = λ a m d. bad_next e d;
+              few = λ v d. err_ok refl d;
+              stored = λ v d. err_ok refl d;
             }
 
-        pub clausing_next : {next m : ℕ} → g ≡ Next next m → length after ≡ length now → Clausing ar s from next (n + 1) before after
+        pub clausing_next : {end : ℕ} → g ≡ Ok end → length after ≡ length now → Clausing ar s from end (n + 1) before after
         unfolding clause
-        clausing_next {next} {m} e same =
+        clausing_next {end} e same =
             record {
               clauses = l.clauses ++ (w.clause ∷ []);
-              inside = next_inside w.reads e;
+              inside = (reads_ok w.reads e).0;
               few = omega arith;
               going = going_next Clauses (clause ar) s max_clauses from l.going t h w.reads e refl;
               size = same ∙ l.size;
               stored =
                   λ r.
-                  clauses_of_stored (w.stored next m e (l.size ∙ r)) ∙ ap (λ (x : List Clause). x ++ (w.clause ∷ [])) (l.stored r);
+                  clauses_of_stored (w.stored end e (l.size ∙ r)) ∙ ap (λ (x : List Clause). x ++ (w.clause ∷ [])) (l.stored r);
             }
 
-    pub clausing_end : leads (spelling Cl) (drop at s) ≡ false → {r : Found} → Reads s r (λ k. k) (stops Clauses 0 (drop at s))
-        → ReadsClauses ar s from (record { found = r; n = n }) before now
-    clausing_end mark w =
-        record {
-          clauses = l.clauses;
-          few = l.few;
-          reads = going_end Clauses (clause ar) s max_clauses from l.going (not_mine_at Clauses Cl s at sole_clauses mark) w;
-          stored = λ a m e r. l.stored r;
-        }
+    module _ (mark : leads (spelling Cl) (drop at s) ≡ false) {g : Result ℕ FaultAt} (w : RunEnds Clauses s at g) where
+      read : Reads alone s g (λ k. l.clauses) (many Clauses (clause ar) max_clauses [] (drop from s))
+      read = going_end Clauses (clause ar) s max_clauses from l.going (not_mine_at Clauses Cl s at sole_clauses mark) w
+
+      pub clausing_end_bad : {e : FaultAt} → g ≡ Err e → ReadsClauses ar s from (Err e) before now
+      clausing_end_bad e =
+          record { clauses = l.clauses; reads = reads_fault read e; few = λ v d. err_ok refl d; stored = λ v d. err_ok refl d }
+
+      pub clausing_end : {end : ℕ} → g ≡ Ok end → ReadsClauses ar s from (Ok (end, n)) before now
+      clausing_end {end} e =
+          record {
+            clauses = l.clauses;
+            reads = reads_as read e refl refl;
+            few = λ v d. rw (same v d) l.few;
+            stored = λ v d r. rw (same v d) (l.stored r);
+          }
+        where
+          same : (v : ℕ × ℕ) → ◌≡◌ {A = Result (ℕ × ℕ) FaultAt} (Ok (end, n)) (Ok v) → value v ≡ n
+          same v d = cc
 
 -- ---- the query
 
-module _ (p : Phase) (is : Bodied p) (ar s : List ℕ) (at : ℕ) {g : Found} {before after : List ℕ} (b : ReadsBody ar s (at + 2) max_clauses g before after) where
-  pub query_bad : {v : Fault} {q : ℕ} → g ≡ Bad v q → ReadsQuery p ar s at g before after
+module _ (p : Phase) (is : Bodied p) (ar s : List ℕ) (at : ℕ) {g : Result ℕ FaultAt} {before after : List ℕ} (b : ReadsBody ar s (at + 2) max_clauses g before after) where
+  pub query_bad : {e : FaultAt} → g ≡ Err e → ReadsQuery p ar s at (Err e) before after
   unfolding query
-  query_bad e = record { goals = []; reads = rw after_mark (body_bad b p is e); stored = λ a n d. bad_next e d }
+  query_bad e = record { goals = []; reads = rw after_mark (body_bad b p is e); stored = λ a d. err_ok refl d }
 
-  pub query_ended : {end m : ℕ} → g ≡ Next end m → {r : Found} → Reads s r (λ j. j) (stops p 0 (drop end s)) → ReadsQuery p ar s at r before after
+  pub query_ended : {end : ℕ} → g ≡ Ok end → {r : Result ℕ FaultAt} → RunEnds p s end r → ReadsQuery p ar s at r before after
   unfolding query
-  query_ended {end} {m} e v =
+  query_ended {end} e v =
       record {
         goals = map call_in b.words;
         reads = rw after_mark (body_next b p is e v);
-        stored = λ a n d room. body_stored before max_clauses b.words room (omega arith) b.few (b.stored end m e);
+        stored = λ a d room. body_stored before max_clauses b.words room (omega arith) b.few (b.stored end e);
       }

@@ -1,5 +1,5 @@
 -- The loop over MO records: the modes of the predicates below low are those read so far, and no predicate from low on has any. Assumes nothing.
-use mathlib.Core.Path.{◌≡◌, refl, sym, ap, ◌∙◌, subst}
+use mathlib.Core.Path.{◌≡◌, refl, sym, ap, ◌∙◌}
 use mathlib.Core.Bool.{Bool, true, false, ◌||◌, or-false}
 use mathlib.Core.List.{List, [], ◌∷◌, ◌++◌}
 use Prim.Native.Nat.{ℕ, suc, ◌+◌, ◌-◌, ◌^◌, ◌≤◌, ◌<◌}
@@ -15,21 +15,20 @@ use Rattle.masks.proofs.Laws.Lists.{any_append}
 use Rattle.masks.proofs.Laws.Set.{bit_at_zero, bit_at_more}
 use Rattle.book.specs.Limits.{max_predicates}
 use Rattle.book.specs.Book.{Mode}
-use Rattle.book.specs.Format.{allows, spelling, leads, low, low_from, mark_at, turn, mode, mode_fields}
+use Rattle.book.specs.Format.{allows, spelling, leads, low, low_from, mark_at, turn, many, mode, mode_fields}
 use Rattle.book.specs.Encode.{enc_mode}
 use Rattle.book.specs.Held.{modes_size, mode_at, modes_of, has_mode}
-use Rattle.book.specs.declared.fault.Fault.{Fault}
+use Rattle.std.specs.Prelude.{Result, Ok, Err}
+use Rattle.book.specs.declared.fault.FaultAt.{FaultAt}
 use Rattle.book.specs.declared.mark.Mark.TheVariants.{Mo}
 use Rattle.book.specs.declared.mark.Phase.TheVariants.{Modes}
 use Rattle.book.specs.declared.mark.Turn.TheVariants.{Mine}
 use Rattle.book.proofs.Laws.Marks.{sole_modes}
 use Rattle.book.proofs.Laws.Trip.{ModeFits, mode_inv, mode_known, low_last}
 use Rattle.book.proofs.Laws.Held.{mode_at_others, modes_of_stored, modes_of_rest}
-use Rattle.records.specs.declared.field.Found.{Found}
-use Rattle.records.specs.declared.field.Found.TheVariants.{Next, Bad}
-use Rattle.records.specs.Found.{Reads, Arities, stops}
+use Rattle.records.specs.Read.{RunEnds, next, value, alone, Reads, Arities}
 use Rattle.records.specs.Stored.{ReadsMode}
-use Rattle.records.proofs.Laws.Reads.{bad_next, after_mark}
+use Rattle.records.proofs.Laws.Reads.{err_ok, reads_ok, reads_fault, reads_as, after_mark}
 use Rattle.reading.specs.Judged.{NoModes}
 use Rattle.reading.specs.Stored.{ReadsModes}
 use Rattle.reading.proofs.Laws.Runs.{Going, mine_at, not_mine_at, mark_there, going_start, going_bad, going_next, going_end}
@@ -81,30 +80,33 @@ module _ (ar s : List ℕ) (arities : Arities ar) (from : ℕ) (before : List �
       pub moding_there : at + 2 ≤ length s
       moding_there = mark_there Modes s at t
 
-      module _ {g : Found} {after : List ℕ} (w : ReadsMode s g now after (mode_fields ar b (drop (at + 2) s))) where
-        reads : Reads s g (λ p. record { pred = p; masks = w.masks }) (mode ar l.modes (drop at s))
+      module _ {g : Result (ℕ × ℕ) FaultAt} {after : List ℕ} (w : ReadsMode s g now after (mode_fields ar b (drop (at + 2) s))) where
+        reads : Reads next s g (λ v. record { pred = value v; masks = w.masks }) (mode ar l.modes (drop at s))
         unfolding mode
         reads = rw (l.least, after_mark) w.reads
 
-        pub moding_bad : {v : Fault} {q : ℕ} → g ≡ Bad v q → ReadsModes ar s from (record { found = g; with_mode = set }) before after
+        pub moding_bad : {e : FaultAt} → g ≡ Err e → ReadsModes ar s from (Err e) before after
         moding_bad e =
             record {
               modes = l.modes;
               reads = going_bad Modes (mode ar) s (suc max_predicates) from l.going t room reads e;
-              given = l.given;
-              stored = λ a n d. bad_next e d;
+              given = λ v d. err_ok refl d;
+              stored = λ v d. err_ok refl d;
             }
 
-        module _ {next p : ℕ} (e : g ≡ Next next p) where
+        module _ {v : ℕ × ℕ} (e : g ≡ Ok v) where
+          abbrev p : ℕ
+          p = value v
+
           -- the mode that was read
           abbrev m : Mode
           m = record { pred = p; masks = w.masks }
 
-          read : (drop at s ≡ enc_mode m ++ drop next s) × ModeFits ar l.modes m
-          read =
-              let u : Reads s (Next next p) (λ k. record { pred = k; masks = w.masks }) (mode ar l.modes (drop at s)) =
-              subst (λ (q : Found). Reads s q (λ k. record { pred = k; masks = w.masks }) (mode ar l.modes (drop at s))) e reads in
-              mode_inv ar l.modes (drop at s) m (drop next s) t (sym u.is)
+          pub moding_inside : next v ≤ length s
+          moding_inside = (reads_ok w.reads e).0
+
+          read : (drop at s ≡ enc_mode m ++ drop (next v) s) × ModeFits ar l.modes m
+          read = mode_inv ar l.modes (drop at s) m (drop (next v) s) t (sym (reads_ok reads e).1)
 
           fits : (p < length ar) × (b ≤ p)
           unfolding allows
@@ -115,19 +117,19 @@ module _ (ar s : List ℕ) (arities : Arities ar) (from : ℕ) (before : List �
               (k, omega arith)
 
           -- the record has some bytes
-          pub moding_on : at < next
+          pub moding_on : at < next v
           moding_on =
               let d = ap length read.0 in
-              let f = length-append (enc_mode m) (drop next s) in
+              let f = length-append (enc_mode m) (drop (next v) s) in
               let x : length (drop at s) ≡ length s - at = length-drop at s in
-              let y : length (drop next s) ≡ length s - next = length-drop next s in
+              let y : length (drop (next v) s) ≡ length s - next v = length-drop (next v) s in
               let i = l.going.inside in
               omega arith
 
           pub moding_below : p < max_predicates
           moding_below = let k = fits.0 in let d = arities.few in omega arith
 
-          pub moding_next : {more : ℕ} → more ≡ bit_or set (2 ^ p) → length after ≡ length now → Moding ar s from next (p + 1) more before after
+          pub moding_next : {more : ℕ} → more ≡ bit_or set (2 ^ p) → length after ≡ length now → Moding ar s from (next v) (p + 1) more before after
           moding_next {more} d same =
               let k = fits.0 in
               let r = fits.1 in
@@ -148,20 +150,29 @@ module _ (ar s : List ℕ) (arities : Arities ar) (from : ℕ) (before : List �
                 size = same ∙ l.size;
                 stored =
                     λ r·.
-                    modes_of_stored (w.stored next p e (l.size ∙ r·)) b r (l.above r·) ∙ ap (λ (x : List Mode). x ++ (m ∷ [])) (l.stored r·);
+                    modes_of_stored (w.stored v e (l.size ∙ r·)) b r (l.above r·) ∙ ap (λ (x : List Mode). x ++ (m ∷ [])) (l.stored r·);
                 above =
                     λ r· i h.
-                    mode_at_others (w.stored next p e (l.size ∙ r·)) i (λ q. absurd (omega arith)) ∙ l.above r· i (omega arith);
+                    mode_at_others (w.stored v e (l.size ∙ r·)) i (λ q. absurd (omega arith)) ∙ l.above r· i (omega arith);
               }
 
-    pub moding_end : leads (spelling Mo) (drop at s) ≡ false → {r : Found} → Reads s r (λ k. k) (stops Modes 0 (drop at s))
-        → ReadsModes ar s from (record { found = r; with_mode = set }) before now
-    moding_end mark w =
-        let a = l.most in
-        let d = arities.few in
-        record {
-          modes = l.modes;
-          reads = going_end Modes (mode ar) s (suc max_predicates) from l.going (not_mine_at Modes Mo s at sole_modes mark) w;
-          given = l.given;
-          stored = λ i n e r. modes_of_rest now b max_predicates (omega arith) (l.above r) ∙ l.stored r;
-        }
+    module _ (mark : leads (spelling Mo) (drop at s) ≡ false) {g : Result ℕ FaultAt} (w : RunEnds Modes s at g) where
+      all : Reads alone s g (λ k. l.modes) (many Modes (mode ar) (suc max_predicates) [] (drop from s))
+      all = going_end Modes (mode ar) s (suc max_predicates) from l.going (not_mine_at Modes Mo s at sole_modes mark) w
+
+      pub moding_end_bad : {e : FaultAt} → g ≡ Err e → ReadsModes ar s from (Err e) before now
+      moding_end_bad e = record { modes = l.modes; reads = reads_fault all e; given = λ v d. err_ok refl d; stored = λ v d. err_ok refl d }
+
+      pub moding_end : {end : ℕ} → g ≡ Ok end → ReadsModes ar s from (Ok (end, set)) before now
+      moding_end {end} e =
+          let a = l.most in
+          let d = arities.few in
+          record {
+            modes = l.modes;
+            reads = reads_as all e refl refl;
+            given = λ v q. rw (same v q) l.given;
+            stored = λ v q r. modes_of_rest now b max_predicates (omega arith) (l.above r) ∙ l.stored r;
+          }
+        where
+          same : (v : ℕ × ℕ) → ◌≡◌ {A = Result (ℕ × ℕ) FaultAt} (Ok (end, set)) (Ok v) → value v ≡ set
+          same v d = cc

@@ -1,27 +1,24 @@
 -- A loop over the records of a run: what is still to be read, after the records acc, comes to what the whole run comes to. Assumes nothing.
-use mathlib.Core.Path.{◌≡◌, refl, sym, ap, ◌∙◌, subst}
+use mathlib.Core.Path.{◌≡◌, refl, sym, ap, ◌∙◌}
 use mathlib.Core.Bool.{true, false}
 use mathlib.Core.List.{List, [], ◌∷◌, ◌++◌}
 use Prim.Native.Nat.{ℕ, zero, suc, ◌+◌, ◌-◌, ◌≤◌, ◌<◌}
 use native.Mathlib.Omega.{arith}
 use native.Mathlib.Numerals.{add-one}
 use lib.ListN.{length, take, drop, set, length-drop, length-append}
-use lib.Seq.{take-suc-set, length-take-le}
-use Rattle.book.specs.Limits.{max_predicates}
+use lib.Seq.{take-suc-set}
 use Rattle.book.specs.Format.{spelling, leads, mark_at, turn, Got, got, and_then, on_turn, many}
-use Rattle.book.specs.declared.fault.Fault.{Fault}
+use Rattle.std.specs.Prelude.{Result, Ok, Err}
+use Rattle.book.specs.declared.fault.FaultAt.{FaultAt}
 use Rattle.book.specs.declared.fault.Fault.TheVariants.{TooMany}
 use Rattle.book.specs.declared.mark.Mark.{Mark}
 use Rattle.book.specs.declared.mark.Phase.{Phase}
 use Rattle.book.specs.declared.mark.Turn.{Turn}
 use Rattle.book.specs.declared.mark.Turn.TheVariants.{Mine, Over, No}
 use Rattle.book.proofs.Laws.Marks.{Sole, leads_two, leads_own, unled, own_two}
-use Rattle.records.specs.declared.field.Found.{Found}
-use Rattle.records.specs.declared.field.Found.TheVariants.{Next, Bad}
-use Rattle.records.specs.Found.{Reads, stops}
-use Rattle.reading.specs.Judged.{Listed}
+use Rattle.records.specs.Read.{RunEnds, alone, Reads, stops}
 use Rattle.reading.specs.Stored.{Ends}
-use Rattle.records.proofs.Laws.Reads.{then_bad, reads_map}
+use Rattle.records.proofs.Laws.Reads.{reads_ok, then_bad, reads_map}
 
 -- so far the n records acc were read, up to a place
 pub record Going {A : Type 0} (p : Phase) (item : List A → List ℕ → Got A) (s : List ℕ) (room from at n : ℕ) (acc : List A) : Type 0 where
@@ -46,8 +43,8 @@ mark_there p s at t =
     omega arith
 
 -- the end of a run, with whatever value it has
-pub stops_reads : {A : Type 0} (p : Phase) (s : List ℕ) (at : ℕ) (a : A) {r : Found} → Reads s r (λ k. k) (stops p 0 (drop at s)) → Reads s r (λ k. a) (stops p a (drop at s))
-stops_reads {A} p s at a {r} w = let u = reads_map (λ (k : ℕ). a) w in record { inside = u.inside; is = u.is ∙ go (turn p (mark_at (drop at s))) }
+pub stops_reads : {A : Type 0} (p : Phase) (s : List ℕ) (at : ℕ) (a : A) {r : Result ℕ FaultAt} → RunEnds p s at r → Reads alone s r (λ k. a) (stops p a (drop at s))
+stops_reads {A} p s at a {r} w = let u = reads_map w (λ (k : ℕ). a) in record { inside = u.inside; is = u.is ∙ go (turn p (mark_at (drop at s))) }
   where
     go : (t : Turn) → and_then (on_turn {A = ℕ} t (got 0 (drop at s)) 0 (drop at s)) (λ k u. got a u) ≡ on_turn t (got a (drop at s)) a (drop at s)
     go Mine = refl
@@ -64,7 +61,8 @@ module _ {A : Type 0} (p : Phase) (item : List A → List ℕ → Got A) (s : Li
 
   module _ {at n : ℕ} {acc : List A} (l : Going p item s room from at n acc) where
     -- "not one too many (5)"
-    pub going_full : {f : ℕ → List A} → turn p (mark_at (drop at s)) ≡ Mine → room ≤ n → Reads s (Bad TooMany at) f (many p item room [] (drop from s))
+    pub going_full : {W : Type 0} {then : W → ℕ} {h : W → List A} → turn p (mark_at (drop at s)) ≡ Mine → room ≤ n
+        → Reads then s (Err (record { fault = TooMany; at = at })) h (many p item room [] (drop from s))
     unfolding many
     going_full t h =
         let z : room - n ≡ 0 = omega arith in
@@ -75,23 +73,24 @@ module _ {A : Type 0} (p : Phase) (item : List A → List ℕ → Got A) (s : Li
     unfolding many
     one t h = let e : room - n ≡ suc (room - (n + 1)) = omega arith in rw (e, t)
 
-    module _ (t : turn p (mark_at (drop at s)) ≡ Mine) (h : n < room) {g : Found} {f : ℕ → A} (w : Reads s g f (item acc (drop at s))) where
-      pub going_bad : {k : ℕ → List A} {v : Fault} {q : ℕ} → g ≡ Bad v q → Reads s g k (many p item room [] (drop from s))
-      going_bad {k} e =
-          let u = then_bad (λ x r. many p item (room - (n + 1)) (acc ++ (x ∷ [])) r) w {h = k} e in
+    module _ {V : Type 0} {after : V → ℕ} (t : turn p (mark_at (drop at s)) ≡ Mine) (h : n < room) {g : Result V FaultAt} {f : V → A}
+        (w : Reads after s g f (item acc (drop at s))) where
+      pub going_bad : {W : Type 0} {then : W → ℕ} {k : W → List A} {e : FaultAt} → g ≡ Err e → Reads then s (Err e) k (many p item room [] (drop from s))
+      going_bad {W} {then} {k} e =
+          let u = then_bad w (λ x r. many p item (room - (n + 1)) (acc ++ (x ∷ [])) r) {then = then} {h = k} e in
           record { inside = u.inside; is = u.is ∙ (sym (one t h) ∙ l.kept) }
 
-      pub going_next : {next m : ℕ} {more : List A} → g ≡ Next next m → more ≡ acc ++ (f m ∷ []) → Going p item s room from next (n + 1) more
-      going_next {next} {m} {more} e d =
-          let u : Reads s (Next next m) f (item acc (drop at s)) = subst (λ (q : Found). Reads s q f (item acc (drop at s))) e w in
-          let step : many p item (room - (n + 1)) (acc ++ (f m ∷ [])) (drop next s) ≡ many p item (room - n) acc (drop at s) =
-          ap (λ (q : Got A). and_then q (λ x r. many p item (room - (n + 1)) (acc ++ (x ∷ [])) r)) u.is ∙ sym (one t h) in
-          let long : length (acc ++ (f m ∷ [])) ≡ n + 1 = length-append acc (f m ∷ []) ∙ ap (λ (k : ℕ). k + 1) l.size in
+      pub going_next : {v : V} {more : List A} → g ≡ Ok v → more ≡ acc ++ (f v ∷ []) → Going p item s room from (after v) (n + 1) more
+      going_next {v} {more} e d =
+          let u = reads_ok w e in
+          let step : many p item (room - (n + 1)) (acc ++ (f v ∷ [])) (drop (after v) s) ≡ many p item (room - n) acc (drop at s) =
+          ap (λ (q : Got A). and_then q (λ x r. many p item (room - (n + 1)) (acc ++ (x ∷ [])) r)) u.1 ∙ sym (one t h) in
+          let long : length (acc ++ (f v ∷ [])) ≡ n + 1 = length-append acc (f v ∷ []) ∙ ap (λ (k : ℕ). k + 1) l.size in
           record {
-            inside = u.inside;
+            inside = u.0;
             turns = omega arith;
             size = ap length d ∙ long;
-            kept = ap (λ (k : List A). many p item (room - (n + 1)) k (drop next s)) d ∙ (step ∙ l.kept);
+            kept = ap (λ (k : List A). many p item (room - (n + 1)) k (drop (after v) s)) d ∙ (step ∙ l.kept);
           }
 
     -- none of its records follows: the end of the run, or a fault
@@ -109,12 +108,8 @@ module _ {A : Type 0} (p : Phase) (item : List A → List ℕ → Got A) (s : Li
           all zero = same (turn p (mark_at (drop at s))) other _ _
           all (suc k) = same (turn p (mark_at (drop at s))) other _ _
 
-      pub going_end : {r : Found} → Reads s r (λ k. k) (stops p 0 (drop at s)) → Reads s r (λ k. acc) (many p item room [] (drop from s))
+      pub going_end : {r : Result ℕ FaultAt} → RunEnds p s at r → Reads alone s r (λ k. acc) (many p item room [] (drop from s))
       going_end w = let u = stops_reads p s at acc w in record { inside = u.inside; is = u.is ∙ going_stops }
 
 pub take_more : (l : List ℕ) (n x : ℕ) → n < length l → take (n + 1) (set l n x) ≡ take n l ++ (x ∷ [])
 take_more l n x h = rw (add-one, take-suc-set l n x h)
-
--- the predicates of an array with room for all
-pub listed : {l : List ℕ} (n : ℕ) → length l ≡ max_predicates → n ≤ max_predicates → Listed n l
-listed {l} n e h = record { few = h; each = length-take-le n l (rw e h) }

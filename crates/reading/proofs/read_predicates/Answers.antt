@@ -5,68 +5,55 @@ use lib.ListN.{length-set}
 use Rattle.book.specs.Format.{mark_at, predicate}
 use Rattle.book.specs.declared.mark.Mark.TheVariants.{Pr, Mo}
 use Rattle.book.specs.declared.mark.Phase.TheVariants.{Predicates}
-use Rattle.book.proofs.Laws.Marks.{sole_predicates}
-use Rattle.reading.proofs.Laws.Runs.{mine_at, not_mine_at, mark_there, ends_at, going_start, going_full, going_bad, going_next, going_end, take_more, listed}
+use Rattle.records.proofs.Laws.Reads.{passed}
+use Rattle.reading.proofs.Laws.Runs.{mine_at, mark_there, ends_at, going_start, going_full, going_bad, going_next, take_more}
+use Rattle.reading.proofs.Laws.Whole.{predicates_bad, predicates_end_bad, predicates_end}
 use Rattle.reading.proofs.read_predicates.Goals as goal
 
-pub loop-bytes-init : goal.loop-bytes-init
-loop-bytes-init c = (c.bytes-1.given.0.1, going_start _ _ _ _ _ (omega arith))
+pub loop-at-init : goal.loop-at-init
+loop-at-init c = (c.told-arities, going_start _ _ _ _ _ (omega arith))
 
 pub is_mark-requires : goal.is_mark-requires
-is_mark-requires c = c.loop-bytes.invariant.1.inside
+is_mark-requires c = c.loop-at.invariant.1.inside
 
 pub returns-then-n-ge-MAX_PREDICATES : goal.returns-then-n-ge-MAX_PREDICATES
 returns-then-n-ge-MAX_PREDICATES c =
-    let args = c.args in
-    let loop = c.loop-bytes in
-    let is-mark = c.is_mark in
-    (going_full _ _ _ _ _ loop.invariant.1 (mine_at Predicates Pr args.s.now loop.at refl (sym is-mark.ensures ∙ c.loop-bytes-test.true)) (omega arith), listed _ loop.invariant.0 loop.invariant.1.turns)
+    rw c.at.ensures
+    (predicates_bad _
+    (going_full _ _ _ _ _ c.loop-at.invariant.1 (mine_at Predicates Pr c.args.s.now c.loop-at.at refl (sym c.is_mark.ensures ∙ c.loop-at-test.true))
+    c.if-n-ge-MAX_PREDICATES.true))
 
-pub read_predicate-g-requires : goal.read_predicate-g-requires
-read_predicate-g-requires c =
-    let args = c.args in
-    let loop = c.loop-bytes in
-    let is-mark = c.is_mark in
-    mark_there Predicates args.s.now _ (mine_at Predicates Pr args.s.now loop.at refl (sym is-mark.ensures ∙ c.loop-bytes-test.true))
+pub read_predicate-requires : goal.read_predicate-requires
+read_predicate-requires c =
+    mark_there Predicates c.args.s.now _ (mine_at Predicates Pr c.args.s.now c.loop-at.at refl (sym c.is_mark.ensures ∙ c.loop-at-test.true))
 
-pub returns-in-Bad : goal.returns-in-Bad
+pub returns-in_err-next : goal.returns-in_err-next
 unfolding predicate
-returns-in-Bad c =
-    let args = c.args in
-    let loop = c.loop-bytes in
-    let is-mark = c.is_mark in
-    let if1 = c.loop-bytes-test in
-    let read-predicate = c.read_predicate-g in
-    (going_bad _ _ _ _ _ loop.invariant.1 (mine_at Predicates Pr args.s.now loop.at refl (sym is-mark.ensures ∙ if1.true)) (omega arith) read-predicate.ensures c.in-Bad.is, listed _ loop.invariant.0 loop.invariant.1.turns)
+returns-in_err-next c =
+    rw (passed _ c.from_residual.ensures.1)
+    (predicates_bad _
+    (going_bad _ _ _ _ _ c.loop-at.invariant.1 (mine_at Predicates Pr c.args.s.now c.loop-at.at refl (sym c.is_mark.ensures ∙ c.loop-at-test.true))
+    (omega arith) c.read_predicate.ensures c.in_err-next.was))
 
-pub bounds-bytes-n : goal.bounds-bytes-n
-bounds-bytes-n c =
-    let loop = c.loop-bytes in
-    let e = loop.invariant.0 in omega arith
+pub bounds-arities-n : goal.bounds-arities-n
+bounds-arities-n c = let e = c.loop-at.invariant.0 in omega arith
 
-pub loop-bytes-smaller : goal.loop-bytes-smaller
-loop-bytes-smaller c = omega arith
-
-pub loop-bytes-preserved : goal.loop-bytes-preserved
+pub loop-at-preserved : goal.loop-at-preserved
 unfolding predicate
-loop-bytes-preserved c =
-    let args = c.args in
-    let loop = c.loop-bytes in
-    let is-mark = c.is_mark in
-    let if1 = c.loop-bytes-test in
-    let read-predicate = c.read_predicate-g in
-    (simp length-set loop.invariant.0, going_next _ _ _ _ _ loop.invariant.1 (mine_at Predicates Pr args.s.now loop.at refl (sym is-mark.ensures ∙ if1.true)) (omega arith) read-predicate.ensures c.in-Next.is (take_more loop.bytes loop.n _ (let e = loop.invariant.0 in omega arith)))
+loop-at-preserved c =
+    let loop = c.loop-at in
+    (simp length-set loop.invariant.0,
+    going_next _ _ _ _ _ loop.invariant.1 (mine_at Predicates Pr c.args.s.now loop.at refl (sym c.is_mark.ensures ∙ c.loop-at-test.true))
+    (omega arith) c.read_predicate.ensures c.in_ok-next.was (take_more loop.arities loop.n _ (let e = loop.invariant.0 in omega arith)))
 
 pub ended-requires : goal.ended-requires
 unfolding mark_at
-ended-requires c =
-    let loop = c.loop-bytes in
-    (loop.invariant.1.inside, ends_at Predicates _ _ Mo (λ t. refl) refl)
+ended-requires c = (c.loop-at.invariant.1.inside, ends_at Predicates _ _ Mo (λ t. refl) refl)
+
+pub returns-in_err-end : goal.returns-in_err-end
+returns-in_err-end c =
+    rw (passed _ c.from_residual-in_err-end.ensures.1)
+    (predicates_end_bad _ _ c.loop-at.invariant (sym c.is_mark.ensures ∙ c.loop-at-test.false) c.ended.ensures c.in_err-end.was)
 
 pub returns : goal.returns
-returns c =
-    let args = c.args in
-    let loop = c.loop-bytes in
-    let is-mark = c.is_mark in
-    let if1 = c.loop-bytes-test in
-    (going_end _ _ _ _ _ loop.invariant.1 (not_mine_at Predicates Pr args.s.now loop.at sole_predicates (sym is-mark.ensures ∙ if1.false)) c.ended.ensures, listed _ loop.invariant.0 loop.invariant.1.turns)
+returns c = predicates_end _ _ c.loop-at.invariant (sym c.is_mark.ensures ∙ c.loop-at-test.false) c.ended.ensures c.in_ok-end.was

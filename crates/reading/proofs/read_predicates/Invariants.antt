@@ -7,8 +7,8 @@ use Rattle.book.specs.declared.mark.Phase.TheVariants.{Predicates}
 use Rattle.reading.proofs.Laws.Runs.{Going}
 use Rattle.reading.proofs.read_predicates.Given as goal
 
-abbrev pub invariant-loop-bytes : goal.invariant-loop-bytes
-invariant-loop-bytes l = (length l.bytes ≡ 64) × Going Predicates predicate l.s 64 0 l.at l.n (take l.n l.bytes)
+abbrev pub invariant-loop-at : goal.invariant-loop-at
+invariant-loop-at l = (length l.arities ≡ 64) × Going Predicates predicate l.s 64 0 l.at l.n (take l.n l.arities)
 
-abbrev pub decreases-loop-bytes : goal.decreases-loop-bytes
-decreases-loop-bytes l = 64 - l.n
+abbrev pub decreases-loop-at : goal.decreases-loop-at
+decreases-loop-at l = 64 - l.n

@@ -2,26 +2,19 @@
 use native.Mathlib.Omega.{arith}
 use Rattle.book.specs.declared.mark.Phase.TheVariants.{Query}
 use Rattle.book.proofs.Laws.Marks.{in_query}
+use Rattle.records.proofs.Laws.Reads.{passed}
+use Rattle.reading.proofs.Laws.Bodies.{body_inside}
 use Rattle.reading.proofs.Laws.Clauses.{query_bad, query_ended}
 use Rattle.reading.proofs.read_query.Goals as goal
 
-pub read_body-b-requires : goal.read_body-b-requires
-read_body-b-requires c =
-    let pre = c.requires in
-    (pre.0, pre.1, omega arith)
+pub read_body-requires : goal.read_body-requires
+read_body-requires c = (c.requires.0, c.requires.1, omega arith)
 
 pub run_end-requires : goal.run_end-requires
-run_end-requires c =
-    let read-body = c.read_body-b in
-    rw c.in-Next.is at read-body.ensures.inside
+run_end-requires c = body_inside c.read_body.ensures c.in_ok-end.was
 
-pub returns-in-Bad : goal.returns-in-Bad
-returns-in-Bad c =
-    let read-body = c.read_body-b in
-    query_bad Query in_query _ _ _ read-body.ensures c.in-Bad.is
+pub returns-in_err-end : goal.returns-in_err-end
+returns-in_err-end c = rw (passed _ c.from_residual.ensures.1) (query_bad Query in_query _ _ _ c.read_body.ensures c.in_err-end.was)
 
-pub returns-in-Next : goal.returns-in-Next
-returns-in-Next c =
-    let read-body = c.read_body-b in
-    let b = c.in-Next in
-    query_ended Query in_query _ _ _ read-body.ensures b.is c.run_end.ensures
+pub returns : goal.returns
+returns c = query_ended Query in_query _ _ _ c.read_body.ensures c.in_ok-end.was c.run_end.ensures

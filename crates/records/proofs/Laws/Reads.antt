@@ -77,6 +77,13 @@ module _ {V A : Type 0} {after : V → ℕ} {s : List ℕ} {r : Result V FaultAt
   pub reads_err : {e : FaultAt} → r ≡ Err e → (e.at ≤ length s) × (bad e.fault (length s - e.at) ≡ g)
   reads_err {e} d = let u : Reads after s (Err e) f g = subst (λ (q : Result V FaultAt). Reads after s q f g) d w in (u.inside, u.is)
 
+  -- a fault is one whatever is read; and the value may come with another place
+  pub reads_fault : {W : Type 0} {then : W → ℕ} {h : W → A} {e : FaultAt} → r ≡ Err e → Reads then s (Err e) h g
+  reads_fault d = let u = reads_err d in record { inside = u.0; is = u.1 }
+
+  pub reads_as : {W : Type 0} {then : W → ℕ} {h : W → A} {v : V} {u : W} → r ≡ Ok v → then u ≡ after v → h u ≡ f v → Reads then s (Ok u) h g
+  reads_as d p q = let x = reads_ok d in record { inside = let i = x.0 in omega arith; is = rw (p, q) x.1 }
+
   pub then_bad : {W B : Type 0} (k : A → List ℕ → Got B) {then : W → ℕ} {h : W → B} {e : FaultAt} → r ≡ Err e → Reads then s (Err e) h (and_then g k)
   then_bad k d = let u = reads_err d in record { inside = u.0; is = ap (λ (q : Got A). and_then q k) u.1 }
 

@@ -7,5 +7,5 @@ use Rattle.records.proofs.field.read_subgoal.Goals as goal
 pub returns-then-is_mark : goal.returns-then-is_mark
 returns-then-is_mark c = subgoal_reads _ c.args.at _ true (sym c.is_mark.ensures ∙ c.if-is_mark.true) c.read_call.ensures
 
-pub returns : goal.returns
-returns c = subgoal_reads _ c.args.at _ false (sym c.is_mark.ensures ∙ c.if-is_mark.false) c.read_call-2.ensures
+pub returns-else-is_mark : goal.returns-else-is_mark
+returns-else-is_mark c = subgoal_reads _ c.args.at _ false (sym c.is_mark.ensures ∙ c.if-is_mark.false) c.read_call-else-is_mark.ensures
