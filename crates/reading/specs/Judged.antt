@@ -5,13 +5,10 @@ use Rattle.masks.specs.declared.reply.Reply.{Reply}
 use Rattle.book.specs.Limits.{max_predicates, max_clauses}
 use Rattle.book.specs.Book.{Book}
 use Rattle.book.specs.Format.{number, Judged, fault, book, judge}
-use Rattle.book.specs.Held.{has_mode, mode_at, modes_of, book_in}
+use Rattle.book.specs.Held.{has_mode, modes_of, book_in, book_of}
+use Rattle.book.specs.declared.held.RuleBook.{RuleBook}
 use Rattle.book.specs.declared.fault.FaultAt.{FaultAt}
 use Rattle.reading.specs.declared.Reading.{Reading}
-
--- no predicate has MO
-abbrev pub NoModes : List ℕ → Type 0
-NoModes modes = (p : ℕ) → mode_at modes p ≡ []
 
 -- so many predicates are within the limits, and each has its place in an array of arities
 pub record Listed (n : ℕ) (arities : List ℕ) : Type 0 where
@@ -29,13 +26,25 @@ Judges s (Ok r) = (B : Book) × (judge s ≡ book B) × (length B.arities ≡ r.
 Judges s (Err e) = judge s ≡ fault e.fault e.at
 
 -- the bytes s are the book that the arrays hold, and the set has the predicates that have MO
-pub record BookHeld (s : List ℕ) (r : Reading) (arities modes rules : List ℕ) : Type 0 where
+pub record InArrays (s : List ℕ) (r : Reading) (arities modes rules : List ℕ) : Type 0 where
   pub is : judge s ≡ book (book_in r.preds arities modes r.clauses rules)
   pub listed : Listed r.preds arities
   pub few : r.clauses ≤ max_clauses
   pub given : Holds r.with_mode (has_mode (modes_of modes max_predicates))
 
 -- the bytes s are read into the arrays lent
-abbrev pub BookRead : List ℕ → Result Reading FaultAt → (arities modes rules : List ℕ) → Type 0
-BookRead s (Ok r) arities modes rules = BookHeld s r arities modes rules
-BookRead s (Err e) arities modes rules = judge s ≡ fault e.fault e.at
+abbrev pub ReadsInto : List ℕ → Result Reading FaultAt → (arities modes rules : List ℕ) → Type 0
+ReadsInto s (Ok r) arities modes rules = InArrays s r arities modes rules
+ReadsInto s (Err e) arities modes rules = judge s ≡ fault e.fault e.at
+
+-- the bytes s are the book that is held, and the set has the predicates that have MO
+pub record BookHeld (s : List ℕ) (given· : ℕ) (b : RuleBook) : Type 0 where
+  pub is : judge s ≡ book (book_of b)
+  pub listed : Listed b.preds b.arities
+  pub few : b.clauses ≤ max_clauses
+  pub given : Holds given· (has_mode (modes_of b.modes max_predicates))
+
+-- the bytes s are read into the room lent
+abbrev pub BookRead : List ℕ → Result ℕ FaultAt → RuleBook → Type 0
+BookRead s (Ok given) b = BookHeld s given b
+BookRead s (Err e) b = judge s ≡ fault e.fault e.at

@@ -13,7 +13,7 @@ use Rattle.book.specs.declared.mark.Phase.TheVariants.{Predicates, Modes, Clause
 use Rattle.book.specs.declared.mark.Turn.TheVariants.{Over}
 use Rattle.records.specs.Read.{next, value, alone, place_of, Reads, stops}
 use Rattle.reading.specs.declared.Reading.{Reading}
-use Rattle.reading.specs.Judged.{Listed, Judges, BookRead}
+use Rattle.reading.specs.Judged.{Listed, Judges, ReadsInto}
 
 -- ---- the end of a run
 
@@ -96,4 +96,4 @@ pub record ReadsRules (preds : ℕ) (arities s : List ℕ) (from : ℕ) (r : Res
 -- the bytes s are read, and where there was room the arrays hold the book
 pub record ReadsBook (s : List ℕ) (r : Result Reading FaultAt) (modes rules arities· modes· rules· : List ℕ) : Type 0 where
   pub judges : Judges s r
-  pub holds : Roomy modes rules → BookRead s r arities· modes· rules·
+  pub holds : Roomy modes rules → ReadsInto s r arities· modes· rules·

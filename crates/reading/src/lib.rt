@@ -6,14 +6,14 @@
 ghost use Rattle.std.specs.Prelude.{◌≡◌, ◌+◌, ◌≤◌, ◌<◌, length, take, drop};
 ghost use Rattle.book.specs.Limits.{max_predicates, max_clauses};
 ghost use Rattle.book.specs.Format as format;
+ghost use Rattle.book.specs.Held.{NoModes};
 ghost use Rattle.records.specs.Read.{RunEnds, Arities};
-ghost use Rattle.reading.specs.Judged.{NoModes, checked, Judges, BookRead};
+ghost use Rattle.reading.specs.Judged.{checked, Judges, BookRead};
 ghost use Rattle.reading.specs.Stored.{Ends, ReadsPredicates, ReadsModes, ReadsBody, ReadsClause, ReadsClauses, ReadsQuery, ReadsRules, ReadsBook};
 
 use book::fault::{Fault, FaultAt};
-use book::limits::{
-    CLAUSE_SIZE, MAX_CLAUSES, MAX_PREDICATES, MAX_SUBGOALS, MODES_SIZE, RULES_SIZE,
-};
+use book::held::RuleBook;
+use book::limits::{CLAUSE_SIZE, MAX_CLAUSES, MAX_PREDICATES, MAX_SUBGOALS};
 use book::mark::Phase;
 use masks::constraint::with_member;
 use masks::reply::Reply;
@@ -52,17 +52,16 @@ pub fn read_only(s: &[u8]) -> Result<Reading, FaultAt>
     read_into(s, &mut arities, &mut modes, &mut rules)
 }
 
-// The book that the bytes are, or their first fault. The book is then in the arrays lent, whose modes must be none.
-pub fn read_book(
-    s: &[u8],
-    arities: &mut [u8; MAX_PREDICATES],
-    modes: &mut [u8; MODES_SIZE],
-    rules: &mut [u64; RULES_SIZE],
-) -> Result<Reading, FaultAt>
-    requires { NoModes modes.old }
-    ensures { BookRead s.now result arities.new modes.new rules.new }
+// The book that the bytes are, or their first fault. The book is then held in the room lent, whose modes must be none; the set has the predicates that have
+// `MO`.
+pub fn read_book(s: &[u8], book: &mut RuleBook) -> Result<u64, FaultAt>
+    requires { NoModes book.old.modes }
+    ensures { BookRead s.now result book.new }
 {
-    read_into(s, arities, modes, rules)
+    let r = read_into(s, &mut book.arities, &mut book.modes, &mut book.rules)?;
+    book.preds = r.preds;
+    book.clauses = r.clauses;
+    Ok(r.with_mode)
 }
 
 // The same, where there may be no room for modes and clauses: what has none is judged and not stored.

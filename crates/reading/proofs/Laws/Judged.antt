@@ -15,7 +15,7 @@ use Rattle.book.specs.Held.{has_mode, book_in}
 use Rattle.std.specs.Prelude.{Result, Ok, Err}
 use Rattle.book.specs.declared.fault.FaultAt.{FaultAt}
 use Rattle.reading.specs.declared.Reading.{Reading}
-use Rattle.reading.specs.Judged.{Listed, checked, BookHeld}
+use Rattle.reading.specs.Judged.{Listed, checked, InArrays}
 use Rattle.records.specs.Read.{next, value, Reads}
 use Rattle.reading.specs.Stored.{ReadsPredicates, ReadsRules, ReadsBook}
 use Rattle.masks.proofs.Laws.Outcome.{answers_refused}
@@ -73,7 +73,7 @@ pub read_refused : (made : Book → Outcome) (s out : List ℕ) (e : FaultAt) �
     → {r : Reply} → r ≡ record { number = number e.fault; value = e.at; rounds = 0 } → Answers (on_book made s) out r out
 read_refused made s out e j d = rw (← on_fault made s e.fault e.at (sym j)) (answers_refused (number e.fault) e.at out d)
 
-module _ {s : List ℕ} {r : Reading} {arities modes rules : List ℕ} (b : BookHeld s r arities modes rules) where
+module _ {s : List ℕ} {r : Reading} {arities modes rules : List ℕ} (b : InArrays s r arities modes rules) where
   -- a book that is held is well formed, and gets what the operation makes of it
   pub read_well : WellFormed (book_in r.preds arities modes r.clauses rules)
   read_well = (judge_inv s _ b.is).1

@@ -17,7 +17,7 @@ use Rattle.book.specs.Limits.{max_predicates}
 use Rattle.book.specs.Book.{Mode}
 use Rattle.book.specs.Format.{allows, spelling, leads, low, low_from, mark_at, turn, many, mode, mode_fields}
 use Rattle.book.specs.Encode.{enc_mode}
-use Rattle.book.specs.Held.{modes_size, mode_at, modes_of, has_mode}
+use Rattle.book.specs.Held.{NoModes, modes_size, mode_at, modes_of, has_mode}
 use Rattle.std.specs.Prelude.{Result, Ok, Err}
 use Rattle.book.specs.declared.fault.FaultAt.{FaultAt}
 use Rattle.book.specs.declared.mark.Mark.TheVariants.{Mo}
@@ -29,7 +29,6 @@ use Rattle.book.proofs.Laws.Held.{mode_at_others, modes_of_stored, modes_of_rest
 use Rattle.records.specs.Read.{RunEnds, next, value, alone, Reads, Arities}
 use Rattle.records.specs.Stored.{ReadsMode}
 use Rattle.records.proofs.Laws.Reads.{err_ok, reads_ok, reads_fault, reads_as, after_mark}
-use Rattle.reading.specs.Judged.{NoModes}
 use Rattle.reading.specs.Stored.{ReadsModes}
 use Rattle.reading.proofs.Laws.Runs.{Going, mine_at, not_mine_at, mark_there, going_start, going_bad, going_next, going_end}
 

@@ -41,10 +41,11 @@ bounds-arities-n c = let e = c.loop-at.invariant.0 in omega arith
 pub loop-at-preserved : goal.loop-at-preserved
 unfolding predicate
 loop-at-preserved c =
-    let loop = c.loop-at in
-    (simp length-set loop.invariant.0,
-    going_next _ _ _ _ _ loop.invariant.1 (mine_at Predicates Pr c.args.s.now loop.at refl (sym c.is_mark.ensures ∙ c.loop-at-test.true))
-    (omega arith) c.read_predicate.ensures c.in_ok-next.was (take_more loop.arities loop.n _ (let e = loop.invariant.0 in omega arith)))
+    let loop = c.loop-at in (
+      simp length-set loop.invariant.0,
+      going_next _ _ _ _ _ loop.invariant.1 (mine_at Predicates Pr c.args.s.now loop.at refl (sym c.is_mark.ensures ∙ c.loop-at-test.true))
+          (omega arith) c.read_predicate.ensures c.in_ok-next.was (take_more loop.arities loop.n _ (let e = loop.invariant.0 in omega arith)),
+    )
 
 pub ended-requires : goal.ended-requires
 unfolding mark_at
