@@ -1,6 +1,6 @@
 // Tables: a constraint for each predicate of a book. Here are table 0 and the image of a table, and in `specs/` and `proofs/Laws` the definition of
-// the rounds and what is known of them; a round itself is in the crate `needs`. A table is held in two arrays of 64 words: in one the masks of each
-// constraint, in the other the patterns that it admits.
+// the rounds and what is known of them; a round itself is in the crate `needs`. A `Table` has two words for each predicate: the masks of its
+// constraint, and the patterns that it admits.
 #![tactic(auto)]
 
 ghost use Rattle.std.specs.Prelude.{◌≡◌, ◌≤◌};
@@ -13,7 +13,8 @@ ghost use Rattle.tables.specs.Table.{first_needs};
 ghost use Rattle.tables.specs.Image.{row, rows, LengthOf};
 ghost use Rattle.writing.specs.Wrote.{Room, Wrote};
 
-use book::limits::{MAX_PREDICATES, MODES_SIZE};
+use book::held::RuleBook;
+use book::limits::MAX_PREDICATES;
 use book::mode::{has_mode, masks_at};
 use masks::constraint::{count, fitting, minimised};
 use masks::patterns::{ALL, admitted};
@@ -44,57 +45,46 @@ impl Table {
 
 // "Table 0: each `MO` as given and minimised, all others trivial", of predicates with clauses and without. Having no `MO` is not having one with no
 // alternative.
-pub fn first_table(
-    preds: u8,
-    modes: &[u8; MODES_SIZE],
-    table: &mut [u64; MAX_PREDICATES],
-    admits: &mut [u64; MAX_PREDICATES],
-)
-    requires { (preds ≤ max_predicates) × LowModes modes.now × Cleared table.old × Cleared admits.old }
-    ensures preds_after { table_in table.new preds ≡ first_needs (modes_of modes.now max_predicates) preds }
-    ensures admitted { Admitted table.new admits.new }
+pub fn first_table(book: &RuleBook, table: &mut Table)
+    requires { (book.now.preds ≤ max_predicates) × LowModes book.now.modes × Cleared table.old.masks × Cleared table.old.admits }
+    ensures masks { table_in table.new.masks book.now.preds ≡ first_needs (modes_of book.now.modes max_predicates) book.now.preds }
+    ensures admitted { Admitted table.new.masks table.new.admits }
 {
-    for p in 0..preds {
+    for p in 0..book.preds {
         let q = p as usize;
-        if has_mode(modes, p) {
-            let c = minimised(masks_at(modes, p));
-            table[q] = c;
-            admits[q] = admitted(c);
+        if has_mode(&book.modes, p) {
+            let c = minimised(masks_at(&book.modes, p));
+            table.masks[q] = c;
+            table.admits[q] = admitted(c);
         } else {
-            table[q] = TRIVIAL;
-            admits[q] = ALL;
+            table.masks[q] = TRIVIAL;
+            table.admits[q] = ALL;
         }
     }
 }
 
 // How many bytes the image of a table has.
-pub fn image_length(preds: u8, table: &[u64; MAX_PREDICATES]) -> usize
-    requires { preds ≤ max_predicates }
-    ensures { LengthOf preds table.now result }
+pub fn image_length(book: &RuleBook, table: &Table) -> usize
+    requires { book.now.preds ≤ max_predicates }
+    ensures { LengthOf book.now.preds table.now.masks result }
 {
     let mut total = 0;
-    for &masks in &table[..preds as usize] {
+    for &masks in &table.masks[..book.preds as usize] {
         total += 5 + count(masks);
     }
     total
 }
 
 // "Its image: for each predicate in turn `CN`, predicate, n, n masks", and W5's count at the end of each, from the output's start.
-pub fn put_image<'a>(
-    out: &mut [u8],
-    preds: u8,
-    arities: &'a [u8; MAX_PREDICATES],
-    table: &'a [u64; MAX_PREDICATES],
-    admits: &'a [u64; MAX_PREDICATES],
-) -> usize
-    requires { (preds ≤ max_predicates) × LowArities preds arities.now × Admitted table.now admits.now × Room out.old 0 (rows arities.now (table_in table.now preds) preds) }
-    ensures { Wrote out.old out.new 0 result (rows arities.now (table_in table.now preds) preds) }
+pub fn put_image(out: &mut [u8], book: &RuleBook, table: &Table) -> usize
+    requires { (book.now.preds ≤ max_predicates) × LowArities book.now.preds book.now.arities × Admitted table.now.masks table.now.admits × Room out.old 0 (rows book.now.arities (table_in table.now.masks book.now.preds) book.now.preds) }
+    ensures { Wrote out.old out.new 0 result (rows book.now.arities (table_in table.now.masks book.now.preds) book.now.preds) }
 {
     let mut at = 0;
-    for p in 0..preds {
+    for p in 0..book.preds {
         let i = p as usize;
-        let fit = fitting(admits[i], arities[i]);
-        at = put_row(out, at, p, table[i], fit);
+        let fit = fitting(table.admits[i], book.arities[i]);
+        at = put_row(out, at, p, table.masks[i], fit);
     }
     at
 }

@@ -17,7 +17,7 @@ pub loop-p-init : goal.loop-p-init
 loop-p-init c =
     let s = c.args in
     let p = c.requires in
-    filling_start s.modes.now s.table.now s.admits.now (omega arith) (omega arith) p.2 p.3
+    filling_start s.book.now.modes s.table.now.masks s.table.now.admits (omega arith) (omega arith) p.2 p.3
 
 pub has_mode-requires : goal.has_mode-requires
 has_mode-requires c = let h = c.requires.0 in omega arith
@@ -32,30 +32,6 @@ minimised-c-requires c =
     ap (in_range all_patterns) c.masks_at.ensures
     ∙ p.1 c.loop-p.p (omega arith) (sym c.has_mode.ensures ∙ c.if-has_mode.true)
 
-pub offset_bounds-table-q : goal.offset_bounds-table-q
-offset_bounds-table-q c = let h = c.requires.0 in omega arith
-
-pub bounds-table-q : goal.bounds-table-q
-bounds-table-q c = let h = c.requires.0 in let s = c.loop-p.invariant.size in omega arith
-
-pub offset_bounds-admits-q : goal.offset_bounds-admits-q
-offset_bounds-admits-q c = let h = c.requires.0 in omega arith
-
-pub bounds-admits-q : goal.bounds-admits-q
-bounds-admits-q c = let h = c.requires.0 in let s = c.loop-p.invariant.room in omega arith
-
-pub offset_bounds-table-q-else-has_mode : goal.offset_bounds-table-q-else-has_mode
-offset_bounds-table-q-else-has_mode c = let h = c.requires.0 in omega arith
-
-pub bounds-table-q-else-has_mode : goal.bounds-table-q-else-has_mode
-bounds-table-q-else-has_mode c = let h = c.requires.0 in let s = c.loop-p.invariant.size in omega arith
-
-pub offset_bounds-admits-q-else-has_mode : goal.offset_bounds-admits-q-else-has_mode
-offset_bounds-admits-q-else-has_mode c = let h = c.requires.0 in omega arith
-
-pub bounds-admits-q-else-has_mode : goal.bounds-admits-q-else-has_mode
-bounds-admits-q-else-has_mode c = let h = c.requires.0 in let s = c.loop-p.invariant.room in omega arith
-
 pub loop-p-preserved : goal.loop-p-preserved
 loop-p-preserved c =
     let l = c.loop-p in
@@ -64,13 +40,13 @@ loop-p-preserved c =
     let has = sym c.has_mode.ensures in
     elim c.if-has_mode.branch [
       | then-has_mode u ↦
-          rw (u.table-is, u.admits-is)
-          (filling_next s.modes.now l.p u.minimised-c.result u.admitted.result (omega arith)
-          (u.minimised-c.ensures ∙ ap minimise u.masks_at.ensures ∙ first_some s.modes.now l.p (omega arith) (has ∙ u.if-has_mode.true)) u.admitted.ensures
+          rw u.table-is
+          (filling_next s.book.now.modes l.p u.minimised-c.result u.admitted.result (omega arith)
+          (u.minimised-c.ensures ∙ ap minimise u.masks_at.ensures ∙ first_some s.book.now.modes l.p (omega arith) (has ∙ u.if-has_mode.true)) u.admitted.ensures
           l.invariant)
       | else-has_mode u ↦
-          rw (u.table-is, u.admits-is)
-          (filling_next s.modes.now l.p 1 ones (omega arith) (trivial_held ∙ first_none s.modes.now l.p (omega arith) (has ∙ u.if-has_mode.false)) trivial_full
+          rw u.table-is
+          (filling_next s.book.now.modes l.p 1 ones (omega arith) (trivial_held ∙ first_none s.book.now.modes l.p (omega arith) (has ∙ u.if-has_mode.false)) trivial_full
           l.invariant)
     ]
 
@@ -78,4 +54,4 @@ pub returns : goal.returns
 returns c =
     let l = c.loop-p in
     let s = c.args in
-    let e : l.p ≡ s.preds = omega arith in record { preds_after = subst (λ (n : ℕ). table_in l.table n ≡ first_needs (modes_of s.modes.now 64) n) e l.invariant.is; admitted = l.invariant.admitted }
+    let e : l.p ≡ s.book.now.preds = omega arith in record { masks = subst (λ (n : ℕ). table_in l.table.masks n ≡ first_needs (modes_of s.book.now.modes 64) n) e l.invariant.is; admitted = l.invariant.admitted }

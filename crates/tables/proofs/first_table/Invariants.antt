@@ -4,4 +4,4 @@ use Rattle.tables.proofs.Laws.Held.{Filling}
 use Rattle.tables.proofs.first_table.Given as goal
 
 abbrev pub invariant-loop-p : goal.invariant-loop-p
-invariant-loop-p l = Filling l.modes l.p l.table l.admits
+invariant-loop-p l = Filling l.book.modes l.p l.table.masks l.table.admits

@@ -5,4 +5,4 @@ use Rattle.tables.proofs.Laws.Held.{rows_to, row_held}
 use Rattle.tables.proofs.image_length.Given as goal
 
 abbrev pub invariant-loop-masks : goal.invariant-loop-masks
-invariant-loop-masks l = Measuring l.preds (rows_to [] l.table l.preds) (row_held [] l.table l.preds) (rows_to [] l.table l.preds l.preds) 69 l.masks-index l.total
+invariant-loop-masks l = Measuring l.book.preds (rows_to [] l.table.masks l.book.preds) (row_held [] l.table.masks l.book.preds) (rows_to [] l.table.masks l.book.preds l.book.preds) 69 l.masks-index l.total

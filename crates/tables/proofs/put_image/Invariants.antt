@@ -5,4 +5,4 @@ use Rattle.tables.proofs.put_image.Given as goal
 
 abbrev pub invariant-loop-p : goal.invariant-loop-p
 invariant-loop-p l =
-    Writing l.preds (rows_to l.arities l.table l.preds) (row_held l.arities l.table l.preds) (rows_to l.arities l.table l.preds l.preds) l.initial.out 0 l.p l.out l.at
+    Writing l.book.preds (rows_to l.book.arities l.table.masks l.book.preds) (row_held l.book.arities l.table.masks l.book.preds) (rows_to l.book.arities l.table.masks l.book.preds l.book.preds) l.initial.out 0 l.p l.out l.at
