@@ -24,6 +24,7 @@ ghost use Rattle.ordering.specs.Held.{order_of, places_of, patterns_of, bound_of
 use crate::order::Order;
 use book::clause::{argument, arguments, negated, predicate, subgoal_at, subgoals_at};
 use book::limits::{LAST_VARIABLE, MAX_PREDICATES, MAX_SUBGOALS, RULES_SIZE};
+use masks::constraint::has_member;
 use masks::members::Members;
 
 // A place, and the pattern of the subgoal there.
@@ -101,13 +102,7 @@ fn can_run(set: u64, s: u64, a: u8) -> bool
     requires { a < 64 }
     ensures { result ≡ can_run set (call_in s) a }
 {
-    if (set >> a) % 2 == 0 {
-        return false;
-    }
-    if !negated(s) {
-        return true;
-    }
-    a as u32 + 1 == power(arguments(s) as u64)
+    has_member(set, a) && (!negated(s) || a as u32 + 1 == power(arguments(s) as u64))
 }
 
 // What is bound under a head pattern: "variables at bound head positions start as bound". Bit i of the pattern is that of position i.
