@@ -56,16 +56,14 @@ fn body_lanes<'a>(
     ensures each_lane { EachLane (λ a. bit_at result a ≡ is_some (first_good (table_in table.now max_predicates) (clause_at rules.now k).body (lane a vars.old))) }
     ensures each_lane_2 { EachLane (λ a. bit_at result a ≡ true → RanIn a (clause_at rules.now k).body vars.old vars.new) }
 {
-    let n = subgoals_at(rules, k);
     let mut placed = [0u64; MAX_SUBGOALS];
-    let mut passes: usize = 1;
-    loop {
+    for _ in 1..subgoals_at(rules, k) {
         let p = one_pass(rules, k, table, vars, &mut placed);
-        if p.good == ALL || !p.moved || n <= passes {
+        if p.good == ALL || !p.moved {
             return p.good;
         }
-        passes += 1;
     }
+    one_pass(rules, k, table, vars, &mut placed).good
 }
 
 // One pass over the subgoals of clause k. Those that are placed in every lane are passed over.
@@ -80,25 +78,21 @@ fn one_pass<'a>(
     ensures passed { Passed (table_in table.now max_predicates) (clause_at rules.now k).body vars.old vars.new result }
     ensures placed { Placed (table_in table.now max_predicates) (clause_at rules.now k).body vars.new placed.new }
 {
-    let words: &mut [u64] = placed;
-    let n = subgoals_at(rules, k);
     let mut good = ALL;
     let mut moved = false;
-    let mut j: usize = 0;
-    while j < n {
-        let before = words[j];
+    for j in 0..subgoals_at(rules, k) {
+        let before = placed[j];
         if before != ALL {
             let s = subgoal_at(rules, k, j);
             let r = ready_lanes(s, table, vars);
             let now = before | r;
-            good = good & now;
+            good &= now;
             if now != before {
-                words[j] = now;
+                placed[j] = now;
                 bind_lanes(s, r, vars);
                 moved = true;
             }
         }
-        j += 1;
     }
     Pass { good, moved }
 }
@@ -107,16 +101,12 @@ fn one_pass<'a>(
 fn head_lanes(head: u64) -> [u64; VARIABLES]
     ensures { EachLane (λ a. lane a result ≡ head_bound (head_in head).args a) }
 {
-    let n = arguments(head);
     let mut vars = [0u64; VARIABLES];
-    let mut i: usize = 0;
-    while i < n {
+    for i in 0..arguments(head) {
         let v = argument(head, i);
         if v <= LAST_VARIABLE {
-            let w = v as usize;
-            vars[w] = vars[w] | COLUMNS[i];
+            vars[v as usize] |= COLUMNS[i];
         }
-        i += 1;
     }
     vars
 }
@@ -127,8 +117,7 @@ fn ready_lanes(s: u64, table: &[u64; MAX_PREDICATES], vars: &[u64; VARIABLES]) -
     ensures { EachLane (λ a. bit_at result a ≡ ready (table_in table.now max_predicates) (lane a vars.now) (call_in s)) }
 {
     let words = pattern_lanes(s, vars);
-    let p = predicate(s) as usize;
-    let fits = fit_lanes(table[p], &words);
+    let fits = fit_lanes(table[predicate(s) as usize], &words);
     if negated(s) {
         return fits & filled_lanes(s, vars);
     }
@@ -139,12 +128,9 @@ fn ready_lanes(s: u64, table: &[u64; MAX_PREDICATES], vars: &[u64; VARIABLES]) -
 fn pattern_lanes(s: u64, vars: &[u64; VARIABLES]) -> [u64; MAX_ARGUMENTS]
     ensures { EachLane (λ a. Agrees result a (pattern_of (lane a vars.now) (call_in s).args)) }
 {
-    let n = arguments(s);
     let mut words = [0u64; MAX_ARGUMENTS];
-    let mut i: usize = 0;
-    while i < n {
+    for i in 0..arguments(s) {
         words[i] = arg_lanes(argument(s, i), vars);
-        i += 1;
     }
     words
 }
@@ -157,8 +143,7 @@ fn arg_lanes(v: u8, vars: &[u64; VARIABLES]) -> u64
         return ALL;
     }
     if v <= LAST_VARIABLE {
-        let w = v as usize;
-        return vars[w];
+        return vars[v as usize];
     }
     0
 }
@@ -167,12 +152,9 @@ fn arg_lanes(v: u8, vars: &[u64; VARIABLES]) -> u64
 fn filled_lanes(call: u64, vars: &[u64; VARIABLES]) -> u64
     ensures { EachLane (λ a. bit_at result a ≡ all (is_bound (lane a vars.now)) (head_in call).args) }
 {
-    let n = arguments(call);
     let mut filled = ALL;
-    let mut i: usize = 0;
-    while i < n {
-        filled = filled & arg_lanes(argument(call, i), vars);
-        i += 1;
+    for i in 0..arguments(call) {
+        filled &= arg_lanes(argument(call, i), vars);
     }
     filled
 }
@@ -184,14 +166,10 @@ fn bind_lanes(s: u64, r: u64, vars: &mut [u64; VARIABLES])
     if negated(s) {
         return;
     }
-    let n = arguments(s);
-    let mut i: usize = 0;
-    while i < n {
+    for i in 0..arguments(s) {
         let v = argument(s, i);
         if v <= LAST_VARIABLE {
-            let w = v as usize;
-            vars[w] = vars[w] | r;
+            vars[v as usize] |= r;
         }
-        i += 1;
     }
 }

@@ -1,5 +1,7 @@
 -- How the code holds an order, and what is bound. Assumes nothing.
-use Rattle.std.specs.Prelude.{◌≡◌, Bool, true, false, not, cond, ◌&&◌, ◌||◌, List, [], ◌∷◌, ℕ, ◌+◌, ◌*◌, ◌%◌, ◌^◌, ◌<◌, eqb, length, take}
+use Rattle.std.specs.Prelude.{◌≡◌, Bool, true, false, not, ◌&&◌, ◌||◌, List, [], ◌∷◌, ℕ, ◌+◌, ◌*◌, ◌%◌, ◌^◌, eqb, length, take}
+use Rattle.std.specs.declared.option.Option as std
+use Rattle.std.specs.declared.option.Option.TheVariants.{Some, None}
 use Rattle.std.proofs.Math.Option.{Option, none, some}
 use Rattle.std.specs.Int.Bits.{bit_or}
 use Rattle.masks.specs.Lists.{values}
@@ -9,25 +11,28 @@ use Rattle.book.specs.Book.{Call}
 use Rattle.ordering.specs.Adorn.{variables, Bound, bit, pattern_of}
 use Rattle.ordering.specs.Orders.{find, count}
 use Rattle.ordering.specs.Good.{at}
-use Rattle.ordering.specs.declared.Order.{Order}
+use Rattle.ordering.specs.declared.order.Order.{Order}
+use Rattle.ordering.specs.declared.Pick.{Pick}
 
 -- ---- an order
 
--- an order, if one was found: the first n of its places
-abbrev pub order_of : Order → Option (List ℕ)
-order_of o = cond o.found (some (take o.n o.places)) none
+-- the places of an order: the first n that it holds
+abbrev pub places_of : Order → List ℕ
+places_of o = take o.n o.places
+
+-- the patterns beside them
+abbrev pub patterns_of : Order → List ℕ
+patterns_of o = take o.n o.patterns
+
+-- an order, if one was found
+abbrev pub order_of : std.Option Order → Option (List ℕ)
+order_of None = none
+order_of (Some o) = some (places_of o)
 
 -- the places of an order, if there is one
 abbrev pub or_none : Option (List ℕ) → List ℕ
 or_none none = []
 or_none (some σ) = σ
-
-abbrev pub places_of : Order → List ℕ
-places_of o = or_none (order_of o)
-
--- the patterns beside them
-abbrev pub patterns_of : Order → List ℕ
-patterns_of o = take (length (places_of o)) o.patterns
 
 -- ---- what is bound, in a word
 
@@ -52,18 +57,19 @@ with_marks word (x ∷ xs) = with_marks (bit_or word (2 ^ (x % 32))) xs
 
 -- ---- a turn
 
--- the first place of a word that passes, or the most that there can be
-abbrev pub found_or : ℕ → Option ℕ → ℕ
-found_or n none = n
-found_or n (some p) = p
+-- the first place of a word that passes, if there is one
+unfoldable pub picked : ℕ → (ℕ → Bool) → Option ℕ
+picked left passes = find (λ p. bit_at left p && passes p) (count 0 max_subgoals)
 
-unfoldable pub picked : ℕ → (ℕ → Bool) → ℕ
-picked left passes = found_or max_subgoals (find (λ p. bit_at left p && passes p) (count 0 max_subgoals))
+-- the place that was picked, if there is one
+abbrev pub place_of : std.Option Pick → Option ℕ
+place_of None = none
+place_of (Some t) = some t.place
 
 -- a subgoal whose pattern is a member of its predicate's set can run; a negated one where that is the greatest, with every argument bound
 abbrev pub can_run : ℕ → Call → ℕ → Bool
 can_run word s a = bit_at word a && (not s.negated || eqb (a + 1) (2 ^ length s.args))
 
--- the pattern is that of the subgoal at the place, where there is one
-abbrev pub PatternAt : List Call → Bound → ℕ → ℕ → Type 0
-PatternAt body b p a = p < length body → a ≡ pattern_of b (at body p).args
+-- the pattern is that of the subgoal at the place
+abbrev pub PatternAt : List Call → Bound → Pick → Type 0
+PatternAt body b t = t.pattern ≡ pattern_of b (at body t.place).args

@@ -5,11 +5,12 @@
 // an argument is looked up and bound by a shift, with no test of what it is.
 #![tactic(auto)]
 
-ghost use Rattle.std.specs.Prelude.{◌≡◌, true, ◌≤◌, ◌<◌, ◌^◌, ◌%◌, length};
-ghost use Rattle.std.proofs.Math.Option.{none};
+pub mod order;
+
+ghost use Rattle.std.specs.Prelude.{◌≡◌, true, ◌≤◌, ◌<◌, ◌^◌, ◌%◌, length, IfSome};
 ghost use Rattle.masks.specs.Lists.{all, values};
 ghost use Rattle.masks.specs.Set.{bit_at};
-ghost use Rattle.book.specs.Limits.{max_predicates, max_clauses, max_subgoals};
+ghost use Rattle.book.specs.Limits.{max_predicates, max_clauses};
 ghost use Rattle.book.specs.Format.{allows};
 ghost use Rattle.book.specs.declared.range.Range.TheVariants.{Argument};
 ghost use Rattle.book.specs.Held.{byte_of, head_in, call_in, clause_at};
@@ -18,24 +19,18 @@ ghost use Rattle.book.specs.Sets.{callable};
 ghost use Rattle.ordering.specs.Adorn.{bit, pattern_of, bind_var, head_bound, after};
 ghost use Rattle.ordering.specs.Good.{ready_at, first_good};
 ghost use Rattle.ordering.specs.Asks.{patterns_in};
-ghost use Rattle.ordering.specs.Held.{order_of, places_of, patterns_of, bound_of, Marked, marks, with_marks, picked, can_run, PatternAt};
+ghost use Rattle.ordering.specs.Held.{order_of, places_of, patterns_of, bound_of, Marked, marks, with_marks, picked, place_of, can_run, PatternAt};
 
+use crate::order::Order;
 use book::clause::{argument, arguments, negated, predicate, subgoal_at, subgoals_at};
 use book::limits::{LAST_VARIABLE, MAX_PREDICATES, MAX_SUBGOALS, RULES_SIZE};
-
-// An order of the subgoals of a body, if one was found: the first n places of the array, and beside each the pattern that its subgoal has in its turn.
-#[derive(Clone, Copy)]
-pub struct Order {
-    pub found: bool,
-    pub n: u8,
-    pub places: [u8; MAX_SUBGOALS],
-    pub patterns: [u8; MAX_SUBGOALS],
-}
+use masks::constraint::has_member;
+use masks::members::Members;
 
 // A place, and the pattern of the subgoal there.
 #[derive(Clone, Copy)]
 struct Pick {
-    place: usize,
+    place: u8,
     pattern: u8,
 }
 
@@ -50,84 +45,56 @@ const ARGUMENTS: u64 = 0xFFFF_FFFF_FFFF_0000;
 
 // "the smallest list of subgoal places .. among the orders good against" a table, of the subgoals of clause k with these variables bound at the
 // start: at each turn the first place that is ready. Where none is, no order is good.
-pub fn first_order<'a>(
-    rules: &'a [u64; RULES_SIZE],
+pub fn first_order(
+    rules: &[u64; RULES_SIZE],
     k: usize,
-    table: &'a [u64; MAX_PREDICATES],
+    table: &[u64; MAX_PREDICATES],
     bound: u16,
-) -> Order
+) -> Option<Order>
     requires { (k ≤ max_clauses) × (callable (clause_at rules.now k).body ≡ true) × Full table.now }
-    ensures result_value { order_of result ≡ first_good (table_in table.now max_predicates) (clause_at rules.now k).body (bound_of bound) }
-    ensures result_value_2 { patterns_of result ≡ patterns_in (clause_at rules.now k).body (bound_of bound) (places_of result) }
+    ensures order { order_of result ≡ first_good (table_in table.now max_predicates) (clause_at rules.now k).body (bound_of bound) }
+    ensures patterns { IfSome result (λ o. patterns_of o ≡ patterns_in (clause_at rules.now k).body (bound_of bound) (places_of o)) }
 {
     let n = subgoals_at(rules, k);
     let mut places = [0u8; MAX_SUBGOALS];
     let mut patterns = [0u8; MAX_SUBGOALS];
     let mut left = power(n as u64) - 1;
     let mut now = bound as u32 | LITERALS;
-    let mut i: usize = 0;
-    while i < n {
-        let t = first_ready(rules, k, table, now, left);
-        let p = t.place;
-        if n <= p {
-            return no_order();
-        }
-        places[i] = p as u8;
+    for i in 0..n {
+        let t = first_ready(rules, k, table, now, left)?;
+        places[i] = t.place;
         patterns[i] = t.pattern;
-        now = bind_all(now, subgoal_at(rules, k, p));
-        left = left ^ power(p as u64);
-        i += 1;
+        now = bind_all(now, subgoal_at(rules, k, t.place as usize));
+        left ^= power(t.place as u64);
     }
-    let count = n as u8;
-    Order {
-        found: true,
-        n: count,
+    let n = n as u8;
+    Some(Order {
+        n,
         places,
         patterns,
-    }
+    })
 }
 
-// What is answered where no order is good.
-fn no_order() -> Order
-    ensures { order_of result ≡ none }
-{
-    Order {
-        found: false,
-        n: 0,
-        places: [0u8; MAX_SUBGOALS],
-        patterns: [0u8; MAX_SUBGOALS],
-    }
-}
-
-// The first place of clause k that is left and ready, with its subgoal's pattern, or the most subgoals that there can be.
-fn first_ready<'a>(
-    rules: &'a [u64; RULES_SIZE],
+// The first place of clause k that is left and ready, with its subgoal's pattern.
+fn first_ready(
+    rules: &[u64; RULES_SIZE],
     k: usize,
-    table: &'a [u64; MAX_PREDICATES],
+    table: &[u64; MAX_PREDICATES],
     bound: u32,
     left: u32,
-) -> Pick
+) -> Option<Pick>
     requires { (k ≤ max_clauses) × (callable (clause_at rules.now k).body ≡ true) × Full table.now × Marked bound × (left < 2 ^ length (clause_at rules.now k).body) }
-    ensures place_value { result.place ≡ picked left (ready_at (table_in table.now max_predicates) (clause_at rules.now k).body (bound_of bound)) }
-    ensures pattern_at { PatternAt (clause_at rules.now k).body (bound_of bound) result.place result.pattern }
+    ensures place { place_of result ≡ picked left (ready_at (table_in table.now max_predicates) (clause_at rules.now k).body (bound_of bound)) }
+    ensures pattern { IfSome result (PatternAt (clause_at rules.now k).body (bound_of bound)) }
 {
-    let mut rest = left;
-    while rest != 0 {
-        let p = u32::trailing_zeros(rest) as usize;
-        rest = rest & (rest - 1);
-        let s = subgoal_at(rules, k, p);
-        let a = pattern(bound, s);
-        if can_run(table[predicate(s) as usize], s, a) {
-            return Pick {
-                place: p,
-                pattern: a,
-            };
+    for place in Members::of(left as u64) {
+        let s = subgoal_at(rules, k, place as usize);
+        let pattern = pattern(bound, s);
+        if can_run(table[predicate(s) as usize], s, pattern) {
+            return Some(Pick { place, pattern });
         }
     }
-    Pick {
-        place: MAX_SUBGOALS,
-        pattern: 0,
-    }
+    None
 }
 
 // A subgoal with this pattern is ready: the set of its predicate has the pattern and, where the subgoal is negated, every argument is bound.
@@ -135,41 +102,18 @@ fn can_run(set: u64, s: u64, a: u8) -> bool
     requires { a < 64 }
     ensures { result ≡ can_run set (call_in s) a }
 {
-    if (set >> a) % 2 == 0 {
-        return false;
-    }
-    if !negated(s) {
-        return true;
-    }
-    a as u32 + 1 == power(arguments(s) as u64)
-}
-
-// How many places an order has: none where no order was found.
-pub fn order_length(o: Order) -> usize
-    ensures value { result ≡ length (places_of o) }
-    ensures upper_bound { result ≤ max_subgoals }
-{
-    if !o.found {
-        return 0;
-    }
-    let n = o.n as usize;
-    if n < MAX_SUBGOALS { n } else { MAX_SUBGOALS }
+    has_member(set, a) && (!negated(s) || a as u32 + 1 == power(arguments(s) as u64))
 }
 
 // What is bound under a head pattern: "variables at bound head positions start as bound". Bit i of the pattern is that of position i.
 pub fn head_bound(head: u64, pattern: u8) -> u16
     ensures { bound_of result ≡ head_bound (head_in head).args pattern }
 {
-    let n = arguments(head);
     let mut b: u16 = 0;
-    let mut rest = pattern;
-    let mut i: usize = 0;
-    while i < n {
-        if rest % 2 == 1 {
+    for i in 0..arguments(head) {
+        if (pattern >> i) % 2 == 1 {
             b = bind_var(b, argument(head, i));
         }
-        rest = rest / 2;
-        i += 1;
     }
     b
 }

@@ -1,5 +1,6 @@
 -- Patterns marked in words, one for each predicate: a pattern is marked where its bit is set. Assumes nothing.
 use Rattle.std.specs.Prelude.{◌≡◌, Bool, true, cond, ◌||◌, ◌↔◌, List, [], ℕ, eqb, get_or}
+use Rattle.std.proofs.Math.Option.{some}
 use Rattle.masks.specs.Limits.{all_patterns}
 use Rattle.masks.specs.Lists.{any, joined}
 use Rattle.masks.specs.Set.{bit_at}
@@ -10,8 +11,8 @@ use Rattle.book.specs.Table.{Table, table_in}
 use Rattle.ordering.specs.Adorn.{Bound, nothing, head_bound}
 use Rattle.ordering.specs.Good.{first_good}
 use Rattle.ordering.specs.Asks.{Asked, asks, called, patterns_in}
-use Rattle.ordering.specs.Held.{or_none, order_of, places_of, patterns_of}
-use Rattle.ordering.specs.declared.Order.{Order}
+use Rattle.ordering.specs.Held.{or_none, places_of, patterns_of}
+use Rattle.ordering.specs.declared.order.Order.{Order}
 use Rattle.choices.specs.Choice.{clause, Choice, Reaches}
 
 -- pattern a of predicate p is marked
@@ -30,7 +31,7 @@ calls_by T body b = asks body b (or_none (first_good T body b))
 
 -- an order that is the body's first good one, with the pattern of each subgoal beside it
 pub record Found (T : Table) (body : List Call) (b : Bound) (o : Order) : Type 0 where
-  pub first : order_of o ≡ first_good T body b
+  pub first : some (places_of o) ≡ first_good T body b
   pub beside : patterns_of o ≡ patterns_in body b (places_of o)
 
 -- what is asked of an order: it is that, of some table and from something bound on; and what is given, whatever these are

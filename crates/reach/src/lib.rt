@@ -13,27 +13,30 @@ ghost use Rattle.reach.specs.Marked.{Found, SomeFound, Marked, Marks, clauses_by
 use book::clause::{head_at, predicate, subgoal_at};
 use book::limits::{MAX_CLAUSES, MAX_PREDICATES, RULES_SIZE};
 use masks::constraint::with_member;
-use ordering::{Order, first_order, head_bound, order_length};
+use masks::members::Members;
+use ordering::order::Order;
+use ordering::{first_order, head_bound};
 
 // "Patterns reached: those of the query's subgoals, and those of the subgoals of every clause of a reached predicate under a reached pattern", in the
 // first good orders against a table; the query's is given. They are marked in the words lent, which must be 0.
-pub fn reach<'a>(
-    rules: &'a [u64; RULES_SIZE],
-    table: &'a [u64; MAX_PREDICATES],
-    own: &'a [u64; MAX_PREDICATES],
+pub fn reach(
+    rules: &[u64; RULES_SIZE],
+    table: &[u64; MAX_PREDICATES],
+    own: &[u64; MAX_PREDICATES],
     clauses: u8,
-    query: Order,
+    query: &Order,
     reached: &mut [u64; MAX_PREDICATES],
 )
     requires clauses_le_max_clauses { (clauses ≤ max_clauses) × Known rules.now clauses × (callable (clause_at rules.now max_clauses).body ≡ true) × Owns rules.now clauses own.now }
-    requires full { Full table.now × Found (table_in table.now max_predicates) (clause_at rules.now max_clauses).body nothing query × Cleared reached.old }
+    requires full { Full table.now × Found (table_in table.now max_predicates) (clause_at rules.now max_clauses).body nothing query.now × Cleared reached.old }
     ensures { ReachedIn rules.now clauses table.now reached.new }
 {
     let mut gone = [0u64; MAX_PREDICATES];
     let mut work = mark_calls(rules, MAX_CLAUSES, query, reached);
+    // No `for` over its members: a turn may put work back.
     while work != 0 {
         let p = u64::trailing_zeros(work) as usize;
-        let all = word_at(reached, p);
+        let all = reached[p];
         let new = all ^ gone[p];
         gone[p] = all;
         let names = mark_patterns(rules, own[p], new, table, reached);
@@ -42,47 +45,41 @@ pub fn reach<'a>(
 }
 
 // Marks the calls of the clauses of a set under each pattern of a set; the predicates called.
-fn mark_patterns<'a>(
-    rules: &'a [u64; RULES_SIZE],
+fn mark_patterns(
+    rules: &[u64; RULES_SIZE],
     own: u64,
     patterns: u64,
-    table: &'a [u64; MAX_PREDICATES],
+    table: &[u64; MAX_PREDICATES],
     reached: &mut [u64; MAX_PREDICATES],
 ) -> u64
     requires { Callable rules.now own × Full table.now }
     ensures { Marked reached.old reached.new result (patterns_by rules.now table.now own patterns) }
 {
     let mut names: u64 = 0;
-    let mut rest = patterns;
-    while rest != 0 {
-        let a = u64::trailing_zeros(rest) as u8;
-        rest = rest & (rest - 1);
-        let more = mark_clauses(rules, own, a, table, reached);
-        names = names | more;
+    for a in Members::of(patterns) {
+        names |= mark_clauses(rules, own, a, table, reached);
     }
     names
 }
 
 // Marks the calls of the clauses of a set under a head pattern; the predicates called.
-fn mark_clauses<'a>(
-    rules: &'a [u64; RULES_SIZE],
+fn mark_clauses(
+    rules: &[u64; RULES_SIZE],
     own: u64,
     a: u8,
-    table: &'a [u64; MAX_PREDICATES],
+    table: &[u64; MAX_PREDICATES],
     reached: &mut [u64; MAX_PREDICATES],
 ) -> u64
     requires { Callable rules.now own × Full table.now }
     ensures { Marked reached.old reached.new result (clauses_by rules.now table.now own a) }
 {
     let mut names: u64 = 0;
-    let mut rest = own;
-    while rest != 0 {
-        let k = u64::trailing_zeros(rest) as usize;
-        rest = rest & (rest - 1);
+    for k in Members::of(own) {
+        let k = k as usize;
         let bound = head_bound(head_at(rules, k), a);
-        let o = first_order(rules, k, table, bound);
-        let more = mark_calls(rules, k, o, reached);
-        names = names | more;
+        if let Some(o) = first_order(rules, k, table, bound) {
+            names |= mark_calls(rules, k, &o, reached);
+        }
     }
     names
 }
@@ -91,33 +88,19 @@ fn mark_clauses<'a>(
 fn mark_calls(
     rules: &[u64; RULES_SIZE],
     k: usize,
-    o: Order,
+    o: &Order,
     reached: &mut [u64; MAX_PREDICATES],
 ) -> u64
-    requires { (k ≤ max_clauses) × (callable (clause_at rules.now k).body ≡ true) × SomeFound (clause_at rules.now k).body o }
-    ensures marks { Marks (clause_at rules.now k).body o reached.old reached.new result }
-    ensures reached_len { length reached.old ≡ max_predicates }
+    requires { (k ≤ max_clauses) × (callable (clause_at rules.now k).body ≡ true) × SomeFound (clause_at rules.now k).body o.now }
+    ensures { Marks (clause_at rules.now k).body o.now reached.old reached.new result }
 {
-    let words: &mut [u64] = reached;
-    let n = order_length(o);
     let mut names: u64 = 0;
-    let mut i: usize = 0;
-    while i < n {
+    for i in 0..o.n as usize {
         let s = subgoal_at(rules, k, o.places[i] as usize);
         let p = predicate(s);
         let q = p as usize;
-        words[q] = with_member(words[q], o.patterns[i]);
+        reached[q] = with_member(reached[q], o.patterns[i]);
         names = with_member(names, p);
-        i += 1;
     }
     names
-}
-
-// The patterns of predicate p that are marked.
-fn word_at(words: &[u64; MAX_PREDICATES], p: usize) -> u64
-    requires { p < max_predicates }
-    ensures { result ≡ get_or words.now p 0 }
-{
-    let all: &[u64] = words;
-    all[p]
 }

@@ -27,7 +27,7 @@ use Rattle.masks.proofs.Laws.Set.{bit_at_zero}
 use Rattle.masks.proofs.Laws.Members.{bit_at_and}
 use Rattle.masks.proofs.Laws.Patterns.{ones, bit_at_ones, column, bit_at_column}
 use Rattle.ordering.proofs.Laws.Adorn.{after_positive, after_negated, known_positive, known_negated}
-use Rattle.ordering.proofs.Laws.Steps.{var_set, var_skip}
+use Rattle.ordering.proofs.Laws.Steps.{var_set, var_skip, head_suc}
 use Rattle.ordering.proofs.Laws.Held.{ready_held}
 use Rattle.lanes.proofs.Laws.Words.{lane_at, lane_or, lane_zeros, pattern_at_lem, pattern_past}
 
@@ -161,13 +161,6 @@ module _ (pred : ℕ) (args : List ℕ) where
         rw k (subst (λ (l : List ℕ). Binds (record { negated = false; pred = pred; args = l }) r before now) (take_all i args (omega arith)) g)
 
 -- ---- the variables of a head: those of the first i positions are bound in the lanes that have its bit
-
-head_suc : (l : List ℕ) (i : ℕ) → i < length l → (b : Bound) (a : ℕ)
-    → bind_head b (take (suc i) l) a ≡ cond (bit_at a i) (bind_var (bind_head b (take i l) a) (get_or l i 0)) (bind_head b (take i l) a)
-unfolding bind_head bit_at
-head_suc [] i h b a = absurd (omega arith)
-head_suc (u ∷ l) zero h b a = refl
-head_suc (u ∷ l) (suc i) h b a = head_suc l i (omega arith) (cond (eqb (a % 2) 1) (bind_var b u) b) (a / 2)
 
 pub record Headed (args : List ℕ) (i : ℕ) (vars : List ℕ) : Type 0 where
   pub size : length vars ≡ variables

@@ -6,9 +6,6 @@ use Rattle.lanes.proofs.arg_lanes.Goals as goal
 pub returns-then-v-eq-LITERAL : goal.returns-then-v-eq-LITERAL
 returns-then-v-eq-LITERAL c = let args = c.args in arg_literal args.vars.now args.v (omega arith)
 
-pub bounds-vars-w : goal.bounds-vars-w
-bounds-vars-w c = omega arith
-
 pub returns-then-v-le-LAST_VARIABLE : goal.returns-then-v-le-LAST_VARIABLE
 returns-then-v-le-LAST_VARIABLE c =
     let args = c.args in

@@ -12,37 +12,23 @@ returns-then-negated c =
     binding_none (call_in s.s) s.r s.vars.now (sym c.negated.ensures ∙ c.if-negated.true)
 
 pub loop-i-init : goal.loop-i-init
-loop-i-init c =
-    let args = c.args in
-    (omega arith, binding_start (call_in args.s).pred (call_in args.s).args args.r args.vars.now)
-
-pub argument-v-requires : goal.argument-v-requires
-argument-v-requires c = let n = c.arguments-n.ensures.value in omega arith
-
-pub bounds-vars-w : goal.bounds-vars-w
-bounds-vars-w c = omega arith
-
-pub bounds-vars-w-then-v-le-LAST_VARIABLE : goal.bounds-vars-w-then-v-le-LAST_VARIABLE
-bounds-vars-w-then-v-le-LAST_VARIABLE c = omega arith
+loop-i-init c = let args = c.args in binding_start (call_in args.s).pred (call_in args.s).args args.r args.vars.now
 
 pub loop-i-preserved : goal.loop-i-preserved
 loop-i-preserved c =
     let l = c.loop-i in
     let args = c.args in
-    let n = c.arguments-n.ensures in
+    let n = c.arguments-i-end.ensures in
     let v = c.argument-v in
-    let next = binding_next (call_in args.s).pred (call_in args.s).args args.r args.vars.now l.i (omega arith) in (
-      omega arith,
-      elim c.if-v-le-LAST_VARIABLE.branch [
-        | then-v-le-LAST_VARIABLE u ↦ next (rw (← v.ensures) (one_var v.result args.r l.vars (omega arith) u.vars-is)) l.invariant.1
-        | else-v-le-LAST_VARIABLE u ↦ next (rw (← v.ensures) (one_other v.result args.r l.vars (omega arith) u.vars-is)) l.invariant.1
-      ],
-    )
+    let next = binding_next (call_in args.s).pred (call_in args.s).args args.r args.vars.now l.i (omega arith) in
+    elim c.if-v-le-LAST_VARIABLE.branch [
+      | then-v-le-LAST_VARIABLE u ↦ next (rw (← v.ensures) (one_var v.result args.r l.vars (omega arith) u.vars-is)) l.invariant
+      | else-v-le-LAST_VARIABLE u ↦ next (rw (← v.ensures) (one_other v.result args.r l.vars (omega arith) u.vars-is)) l.invariant
+    ]
 
 pub returns : goal.returns
 returns c =
     let l = c.loop-i in
-    let k = c.before.before.before in
-    let args = k.args in
-    let n = c.arguments-n.ensures.value in
-    binding_end (call_in args.s).pred (call_in args.s).args args.r args.vars.now l.i (sym k.negated.ensures ∙ k.if-negated.false) (omega arith) l.invariant.1
+    let args = c.args in
+    let n = c.arguments-i-end.ensures.value in
+    binding_end (call_in args.s).pred (call_in args.s).args args.r args.vars.now l.i (sym c.negated.ensures ∙ c.if-negated.false) (omega arith) l.invariant

@@ -1,12 +1,8 @@
 -- `lanes::bind_lanes` meets its contract. A negated subgoal binds nothing. The loop's invariant: the contract for the first i arguments. Assumes nothing.
-use Prim.Native.Nat.{◌-◌, ◌≤◌}
 use Rattle.book.specs.Held.{call_in}
 use Rattle.lanes.specs.Lanes.{Binds}
 use Rattle.lanes.proofs.Laws.Steps.{up_to}
 use Rattle.lanes.proofs.bind_lanes.Given as goal
 
 abbrev pub invariant-loop-i : goal.invariant-loop-i
-invariant-loop-i l = (l.i ≤ l.n) × Binds (up_to (call_in l.s).pred (call_in l.s).args l.i) l.r l.initial.vars l.vars
-
-abbrev pub decreases-loop-i : goal.decreases-loop-i
-decreases-loop-i l = l.n - l.i
+invariant-loop-i l = Binds (up_to (call_in l.s).pred (call_in l.s).args l.i) l.r l.initial.vars l.vars

@@ -1,5 +1,4 @@
 -- `lanes::one_pass` meets its contract. The loop's invariant: the first j subgoals are visited. Assumes nothing.
-use Prim.Native.Nat.{◌-◌}
 use Rattle.book.specs.Limits.{max_predicates}
 use Rattle.book.specs.Held.{clause_at}
 use Rattle.book.specs.Table.{table_in}
@@ -8,7 +7,4 @@ use Rattle.lanes.proofs.one_pass.Given as goal
 
 abbrev pub invariant-loop-j : goal.invariant-loop-j
 invariant-loop-j l =
-    Visiting (table_in l.table max_predicates) (clause_at l.rules l.k).body l.initial.vars l.j l.vars l.words l.good l.moved
-
-abbrev pub decreases-loop-j : goal.decreases-loop-j
-decreases-loop-j l = l.n - l.j
+    Visiting (table_in l.table max_predicates) (clause_at l.rules l.k).body l.initial.vars l.j l.vars l.placed l.good l.moved

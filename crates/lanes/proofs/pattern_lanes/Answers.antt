@@ -6,33 +6,16 @@ use Rattle.lanes.proofs.Laws.Steps.{words_start, words_next, words_end}
 use Rattle.lanes.proofs.pattern_lanes.Goals as goal
 
 pub loop-i-init : goal.loop-i-init
-loop-i-init c = (omega arith, words_start c.args.vars.now (call_in c.args.s).args)
-
-pub argument-requires : goal.argument-requires
-argument-requires c = let n = c.arguments-n.ensures.value in omega arith
-
-pub offset_bounds-words-i : goal.offset_bounds-words-i
-offset_bounds-words-i c = let n = c.arguments-n.ensures.upper_bound in omega arith
-
-pub bounds-words-i : goal.bounds-words-i
-bounds-words-i c = let n = c.arguments-n.ensures.upper_bound in omega arith
-
-pub overflow_add-i : goal.overflow_add-i
-overflow_add-i c = let n = c.arguments-n.ensures.upper_bound in omega arith
+loop-i-init c = words_start c.args.vars.now (call_in c.args.s).args
 
 pub loop-i-preserved : goal.loop-i-preserved
 loop-i-preserved c =
     let l = c.loop-i in
     let args = c.args in
-    let n = c.arguments-n.ensures.upper_bound in
-    let v = c.argument in (
-      omega arith,
-      words_next args.vars.now (call_in args.s).args l.i c.arg_lanes.result (omega arith) (rw (← v.ensures) c.arg_lanes.ensures) l.invariant.1,
-    )
+    let n = c.arguments-i-end.ensures.upper_bound in
+    words_next args.vars.now (call_in args.s).args l.i c.arg_lanes.result (omega arith) (rw (← c.argument.ensures) c.arg_lanes.ensures) l.invariant
 
 pub returns : goal.returns
 returns c =
-    let l = c.loop-i in
-    let args = c.args in
-    let n = c.arguments-n.ensures.value in
-    words_end args.vars.now (call_in args.s).args (omega arith) l.invariant.1
+    let n = c.arguments-i-end.ensures.value in
+    words_end c.args.vars.now (call_in c.args.s).args (omega arith) c.loop-i.invariant

@@ -2,7 +2,6 @@
 -- bound. Assumes nothing.
 use mathlib.Core.Path.{◌≡◌, sym, ap, ◌∙◌}
 use Prim.Native.Nat.{ℕ}
-use native.Mathlib.Omega.{arith}
 use Rattle.masks.specs.Constraint.{admits}
 use Rattle.masks.specs.Set.{bit_at}
 use Rattle.masks.specs.Patterns.{EachLane}
@@ -24,12 +23,6 @@ After-fit_lanes-fits = Lts.After-fit_lanes Tie.the-claims Reads.Pre Reads.Post
 abbrev Start : Type 0
 Start = Lts.Start Tie.the-claims Reads.Pre Reads.Post
 
-pub offset_bounds-table-p : goal.offset_bounds-table-p
-offset_bounds-table-p c = let e = c.predicate-p.ensures in let l = c.requires in omega arith
-
-pub bounds-table-p : goal.bounds-table-p
-bounds-table-p c = let e = c.predicate-p.ensures in let l = c.requires in omega arith
-
 -- the lanes in which the pattern fits
 module _ (c : After-fit_lanes-fits) where
   abbrev s : Start
@@ -42,7 +35,7 @@ module _ (c : After-fit_lanes-fits) where
   fits a h =
       let p = pattern_of (lane a s.args.vars.now) call.args in
       c.fit_lanes-fits.ensures a h p (c.pattern_lanes-words.ensures a h)
-      ∙ ap (λ (q : ℕ). admits (entry_in s.args.table.now q) p) c.predicate-p.ensures
+      ∙ ap (λ (q : ℕ). admits (entry_in s.args.table.now q) p) c.predicate.ensures
 
 pub returns-then-negated : goal.returns-then-negated
 returns-then-negated c =

@@ -1,13 +1,12 @@
 -- A table that goes on past the predicates that subgoals call, or that admits the same patterns; and the places of an order. Assumes nothing.
-use mathlib.Core.Path.{◌≡◌, refl, sym, ap, ◌∙◌, subst}
-use mathlib.Core.Bool.{Bool, true, false, not, cond, ◌&&◌}
+use mathlib.Core.Path.{◌≡◌, refl, sym, ap, ◌∙◌}
+use mathlib.Core.Bool.{Bool, true, false, not, ◌&&◌}
 use mathlib.Core.List.{List, [], ◌∷◌}
-use mathlib.Core.Option.{none, some}
 use Prim.Native.Nat.{ℕ, zero, suc, ◌+◌, ◌*◌, ◌<◌, ◌≤◌, min}
 use native.Mathlib.Omega.{arith}
 use lib.Dec.{leb, ltb}
-use lib.ListN.{length, get_or, take, length-take}
-use borrow.Author.Tests.{ltb-true, leb-true, le-leb, not-true, not-false}
+use lib.ListN.{length, get_or}
+use borrow.Author.Tests.{ltb-true, leb-true, le-leb, not-false}
 use Rattle.masks.specs.Limits.{max_arity}
 use Rattle.masks.specs.Lists.{any, all, values}
 use Rattle.masks.specs.Constraint.{admits}
@@ -22,8 +21,6 @@ use Rattle.book.specs.Held.{call_in, clause_size, clause_at}
 use Rattle.book.specs.declared.range.Range.TheVariants.{AtMost}
 use Rattle.ordering.specs.Adorn.{Bound, pattern_of, known, ready, after}
 use Rattle.ordering.specs.Good.{at, ready_at, after_at, first_good}
-use Rattle.ordering.specs.Held.{places_of, or_none}
-use Rattle.ordering.specs.declared.Order.{Order}
 use Rattle.masks.proofs.Laws.Logic.{and_intro, and_left, and_right}
 use Rattle.masks.proofs.Laws.Lists.{all_append, all_at, all_mono}
 use Rattle.masks.proofs.Laws.Sets.{admits_full}
@@ -34,7 +31,7 @@ use Rattle.book.proofs.Laws.Sets.{calls_below, callable_low}
 use Rattle.book.proofs.Laws.Held.{args_count}
 use Rattle.ordering.proofs.Laws.Good.{first_kept}
 use Rattle.ordering.proofs.Laws.Greedy as turns
-use Rattle.ordering.proofs.Laws.Steps.{first_at, pattern_small}
+use Rattle.ordering.proofs.Laws.Steps.{pattern_small}
 
 -- what a subgoal needs, for whoever computes it: that its pattern fits the constraint held at its predicate, and W9's rule
 pub ready_held : (table : List ℕ) (n : ℕ) (b : Bound) (s : Call) → s.pred < n
@@ -117,25 +114,3 @@ body_few rules k = go (min (get_or rules (k * clause_size) 0) max_subgoals)
         let l = args_count w in
         all_append few (values (λ j. call_in (get_or rules (k * clause_size + 2 + j) 0)) n) (call_in w ∷ [])
         ∙ and_intro (go n) (and_intro (le-leb (length (call_in w).args) max_arity (omega arith)) refl)
-
--- ---- how many places an order has
-
-pub order_length_none : (o : Order) → not o.found ≡ true → length (places_of o) ≡ 0
-order_length_none o e = rw (not-true o.found e)
-
-pub order_length_some : (o : Order) → not o.found ≡ false → length o.places ≡ max_subgoals → length (places_of o) ≡ min o.n max_subgoals
-order_length_some o e h = rw (not-false o.found e, sym h) (length-take o.n o.places)
-
--- the places are the first of its array
-pub places_of_take : (o : Order) → places_of o ≡ take (cond o.found o.n 0) o.places
-places_of_take o = go o.found
-  where
-    go : (b : Bool) → or_none (cond b (some (take o.n o.places)) none) ≡ take (cond b o.n 0) o.places
-    go true = refl
-    go false = refl
-
--- each as it is held
-pub order_length_at : (o : Order) (i : ℕ) → i < length (places_of o) → get_or o.places i 0 ≡ get_or (places_of o) i 0
-order_length_at o i h =
-    let e = places_of_take o in
-    sym (first_at (cond o.found o.n 0) o.places i (subst (λ (l : List ℕ). i < length l) e h)) ∙ ap (λ (l : List ℕ). get_or l i 0) (sym e)

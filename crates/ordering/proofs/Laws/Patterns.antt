@@ -8,7 +8,7 @@ use native.Mathlib.Numerals.{add-one}
 use native.Mathlib.Omega.{arith}
 use lib.Bits.{bit_xor}
 use lib.ListN.{length, get_or, set, take, length-set}
-use lib.Seq.{length-take-le, take-suc, take-suc-set}
+use lib.Seq.{take-suc, take-suc-set}
 use Rattle.masks.specs.Limits.{max_arity, all_patterns}
 use Rattle.masks.specs.Lists.{values}
 use Rattle.book.specs.Limits.{max_subgoals}
@@ -19,14 +19,14 @@ use Rattle.ordering.specs.Adorn.{Bound, pattern_of}
 use Rattle.ordering.specs.Turns.{all_after}
 use Rattle.ordering.specs.Good.{at, ready_at, after_at, ran, first_good}
 use Rattle.ordering.specs.Asks.{Asked, asks, patterns_in}
-use Rattle.ordering.specs.Held.{order_of, or_none, places_of, patterns_of, picked, PatternAt}
-use Rattle.ordering.specs.declared.Order.{Order}
+use Rattle.ordering.specs.Held.{or_none, places_of, patterns_of, picked, PatternAt}
+use Rattle.ordering.specs.declared.order.Order.{Order}
+use Rattle.ordering.specs.declared.Pick.{Pick}
 use Rattle.book.proofs.Laws.Held.{args_count}
 use Rattle.ordering.proofs.Laws.Good.{greedy_is_first, first_below}
 use Rattle.ordering.proofs.Laws.Asks.{asks_snoc, after_snoc}
-use Rattle.ordering.proofs.Laws.Run.{Run, run_start, run_next, run_stuck, run_end}
+use Rattle.ordering.proofs.Laws.Run.{Run, run_start, run_below, run_next, run_stuck, run_end}
 use Rattle.ordering.proofs.Laws.Steps.{first_at, pattern_small}
-use Rattle.ordering.proofs.Laws.Held.{order_length_at}
 
 -- ---- the patterns of an order, one place more
 
@@ -55,9 +55,11 @@ turns_start body b places patterns h k = record { room = (h, k); taken = refl; t
 
 module _ {body : List Call} {b₀ b : Bound} {i : ℕ} {places patterns : List ℕ} (w : Turns body b₀ i b places patterns) where
   -- a place is taken: it is stored behind the others, and its pattern beside it
-  turns_next : (p a : ℕ) → i < length body → p < length body → PatternAt body b p a → {b' : Bound} {places' patterns' : List ℕ} → b' ≡ after_at body b p
-      → places' ≡ set places i p → patterns' ≡ set patterns i a → Turns body b₀ (i + 1) b' places' patterns'
-  turns_next p a h k t eb ep ea =
+  turns_next : (t : Pick) → i < length body → PatternAt body b t → {b' : Bound} {places' patterns' : List ℕ} → b' ≡ after_at body b t.place
+      → places' ≡ set places i t.place → patterns' ≡ set patterns i t.pattern → Turns body b₀ (i + 1) b' places' patterns'
+  turns_next t h told eb ep ea =
+      let p = t.place in
+      let a = t.pattern in
       let l = w.room.0 in
       let m = w.room.1 in
       record {
@@ -67,12 +69,9 @@ module _ {body : List Call} {b₀ b : Bound} {i : ℕ} {places patterns : List �
             (ap (λ (c : Bound). after_at body c p) w.taken ∙ sym (after_snoc body b₀ (take i places) p));
         told =
             rw (ep, ea, add-one i, take-suc-set places i p (omega arith), take-suc-set patterns i a (omega arith))
-            (ap₂ (λ (l : List ℕ) (x : ℕ). l ++ (x ∷ [])) w.told (t k ∙ ap (λ (c : Bound). pattern_of c (at body p).args) w.taken)
+            (ap₂ (λ (l : List ℕ) (x : ℕ). l ++ (x ∷ [])) w.told (told ∙ ap (λ (c : Bound). pattern_of c (at body p).args) w.taken)
             ∙ sym (patterns_snoc body b₀ (take i places) p));
       }
-
-  turns_end : (n : ℕ) → i ≡ n → n ≤ length body → take (length (take n places)) patterns ≡ patterns_in body b₀ (take n places)
-  turns_end n e h = let l = w.room.0 in rw (length-take-le n places (omega arith), ← e) w.told
 
 -- ---- the loop
 
@@ -88,23 +87,21 @@ going_start T body b₀ places patterns eb el h k l =
 
 module _ {T : Table} {body : List Call} {b₀ b : Bound} {i left : ℕ} {places patterns : List ℕ} (w : Going T body b₀ i b left places patterns) where
   -- the first place that is ready is taken, with its subgoal's pattern
-  pub going_next : (p a : ℕ) → p ≡ picked left (ready_at T body b) → PatternAt body b p a → i < length body → p < length body
-      → {b' : Bound} {left' : ℕ} {places' patterns' : List ℕ} → b' ≡ after_at body b p → left' ≡ bit_xor left (2 ^ p) → places' ≡ set places i p → patterns' ≡ set patterns i a
-      → Going T body b₀ (i + 1) b' left' places' patterns'
-  going_next p a e t h k eb eu ep ea =
-      record { run = run_next w.run p e h k eb eu ep; turns = turns_next w.turns p a h k t eb ep ea }
+  pub going_next : (t : Pick) → some t.place ≡ picked left (ready_at T body b) → PatternAt body b t → i < length body
+      → {b' : Bound} {left' : ℕ} {places' patterns' : List ℕ} → b' ≡ after_at body b t.place → left' ≡ bit_xor left (2 ^ t.place)
+      → places' ≡ set places i t.place → patterns' ≡ set patterns i t.pattern → Going T body b₀ (i + 1) b' left' places' patterns'
+  going_next t e told h eb eu ep ea = record { run = run_next w.run e h eb eu ep; turns = turns_next w.turns t h told eb ep ea }
+
+  -- it is one of the body's
+  pub going_below : {p : ℕ} → some p ≡ picked left (ready_at T body b) → p < length body
+  going_below e = run_below w.run e
 
   -- where no place is ready, no order is good
-  pub going_stuck : (p : ℕ) → p ≡ picked left (ready_at T body b) → i < length body → length body ≤ p → none ≡ first_good T body b₀
-  going_stuck p e h k = sym (run_stuck w.run p e h k) ∙ greedy_is_first T body b₀
+  pub going_stuck : none ≡ picked left (ready_at T body b) → i < length body → none ≡ first_good T body b₀
+  going_stuck e h = run_stuck w.run e h ∙ greedy_is_first T body b₀
 
-  pub going_end : (n : ℕ) → n ≡ length body → n ≤ i
-      → (some (take n places) ≡ first_good T body b₀) × (take (length (take n places)) patterns ≡ patterns_in body b₀ (take n places))
-  going_end n e h =
-      let m = w.run.most in (
-        ap (λ (j : ℕ). some (take j places)) e ∙ sym (run_end w.run (omega arith)) ∙ greedy_is_first T body b₀,
-        turns_end w.turns n (omega arith) (omega arith),
-      )
+  pub going_end : (n : ℕ) → n ≡ length body → n ≡ i → (some (take n places) ≡ first_good T body b₀) × (take n patterns ≡ patterns_in body b₀ (take n places))
+  going_end n e h = (ap (λ (j : ℕ). some (take j places)) e ∙ sym (run_end w.run (omega arith)) ∙ greedy_is_first T body b₀, rw h w.turns.told)
 
 -- ---- the pattern beside a place
 
@@ -125,17 +122,11 @@ pub pattern_beside : (body : List Call) (b : Bound) (o : Order) → patterns_of 
     → get_or o.patterns i 0 ≡ pattern_of (ran body b (take i (places_of o))) (at body (get_or (places_of o) i 0)).args
 pattern_beside body b o e i h =
     let l = ap length e ∙ patterns_long body b (places_of o) in
-    sym (first_at (length (places_of o)) o.patterns i (omega arith)) ∙ ap (λ (l : List ℕ). get_or l i 0) e ∙ patterns_at body b (places_of o) i h
-
--- of no order
-pub patterns_none : (body : List Call) (b : Bound) (o : Order) → order_of o ≡ none → patterns_of o ≡ patterns_in body b (places_of o)
-patterns_none body b o e =
-    let n : places_of o ≡ [] = ap or_none e in
-    ap (λ (σ : List ℕ). take (length σ) o.patterns) n ∙ sym (patterns_nil body b) ∙ ap (patterns_in body b) (sym n)
+    sym (first_at o.n o.patterns i (omega arith)) ∙ ap (λ (l : List ℕ). get_or l i 0) e ∙ patterns_at body b (places_of o) i h
 
 -- ---- the places of the order that was found
 
-module _ (T : Table) (body : List Call) (b : Bound) (o : Order) (e : order_of o ≡ first_good T body b) where
+module _ (T : Table) (body : List Call) (b : Bound) (o : Order) (e : some (places_of o) ≡ first_good T body b) where
   abbrev pub order : List ℕ
   order = or_none (first_good T body b)
 
@@ -143,7 +134,7 @@ module _ (T : Table) (body : List Call) (b : Bound) (o : Order) (e : order_of o 
   order_long = ap (λ σ. length (or_none σ)) e
 
   pub order_at : (i : ℕ) → i < length (places_of o) → get_or o.places i 0 ≡ get_or order i 0
-  order_at i h = order_length_at o i h ∙ ap (λ σ. get_or (or_none σ) i 0) e
+  order_at i h = sym (first_at o.n o.places i h) ∙ ap (λ σ. get_or (or_none σ) i 0) e
 
   pub order_below : (i : ℕ) → i < length (places_of o) → get_or o.places i 0 < length body
   order_below i h = let q = order_at i h in let l = order_long in let r = first_below T body b i (omega arith) in omega arith

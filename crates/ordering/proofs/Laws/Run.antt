@@ -17,7 +17,7 @@ use lib.Seq.{take-suc-set}
 use borrow.Author.Tests.{eq-eqb, ne_eqb}
 use Rattle.masks.specs.Limits.{max_arity}
 use Rattle.masks.specs.Lists.{all}
-use Rattle.masks.specs.Set.{bit_at}
+use Rattle.masks.specs.Set.{bit_at, members}
 use Rattle.book.specs.Limits.{max_predicates, max_subgoals}
 use Rattle.book.specs.Book.{Call, no_call}
 use Rattle.book.specs.Format.{allows}
@@ -27,10 +27,11 @@ use Rattle.book.specs.declared.range.Range.TheVariants.{Argument}
 use Rattle.ordering.specs.Orders.{In, find, without, count}
 use Rattle.ordering.specs.Adorn.{Bound, pattern_of, ready, after}
 use Rattle.ordering.specs.Good.{at, ready_at, after_at}
-use Rattle.ordering.specs.Held.{found_or, picked, can_run, PatternAt}
+use Rattle.ordering.specs.Held.{picked, can_run, PatternAt}
 use Rattle.masks.proofs.Laws.Logic.{by_range, clash, and_left, and_right}
 use Rattle.masks.proofs.Laws.Set.{bit_at_power}
 use Rattle.masks.proofs.Laws.Members.{bit_at_xor}
+use Rattle.masks.proofs.Laws.Loops.{Over, over_start, over_end, over_member, over_here, over_next}
 use Rattle.masks.proofs.Laws.Patterns.{member_below}
 use Rattle.book.proofs.Laws.Sets.{callable_low, callable_args}
 use Rattle.ordering.proofs.Laws.Orders.{find_some, find_none, find_least, without_in, without_keeps, without_gone, Ascends, ascends_distinct, ascends_without, count_in_lem, in_count, count_ascends}
@@ -59,9 +60,9 @@ module _ (body : List Call) (p : ℕ) {s : Call} (e : s ≡ get_or body p no_cal
       (sym (full s.pred l (pattern_of b s.args) (pattern_small b max_arity s.args few)) ∙ ap₂ (λ (j x : ℕ). bit_at (get_or table j 0) x) (sym r) (sym i))
       (known_pattern b s ∙ ap (λ (x : ℕ). not s.negated || eqb (x + 1) (2 ^ length s.args)) (sym i))
 
-  pub pattern_read : (b : Bound) {a : ℕ} → a ≡ pattern_of b s.args → PatternAt body b p a
+  pub pattern_read : (b : Bound) {a : ℕ} → a ≡ pattern_of b s.args → PatternAt body b (record { place = p; pattern = a })
   unfolding at
-  pattern_read b r h = r ∙ ap (λ (c : Call). pattern_of b c.args) e
+  pattern_read b r = r ∙ ap (λ (c : Call). pattern_of b c.args) e
 
   pub after_read : (b : Bound) {b' : Bound} → b' ≡ after b s → b' ≡ after_at body b p
   unfolding at
@@ -74,13 +75,9 @@ free left passes p = bit_at left p && passes p
 
 -- the first that is left and passes is the first from p on
 abbrev pub Scan : ℕ → (ℕ → Bool) → ℕ → Type 0
-Scan left passes p = picked left passes ≡ found_or max_subgoals (find (free left passes) (count p (max_subgoals - p)))
+Scan left passes p = picked left passes ≡ find (free left passes) (count p (max_subgoals - p))
 
 module _ (left : ℕ) (passes : ℕ → Bool) where
-  pub scan_start : Scan left passes 0
-  unfolding picked
-  scan_start = refl
-
   scan_on : (p : ℕ) → free left passes p ≡ false → Scan left passes p → Scan left passes (suc p)
   unfolding find count
   scan_on p t s =
@@ -92,19 +89,36 @@ module _ (left : ℕ) (passes : ℕ → Bool) where
       s ∙ rw (e, f))
 
   -- a place that is not left
-  pub scan_skip : (p : ℕ) → bit_at left p ≡ false → Scan left passes p → Scan left passes (suc p)
+  scan_skip : (p : ℕ) → bit_at left p ≡ false → Scan left passes p → Scan left passes (suc p)
   scan_skip p t = scan_on p (rw t)
 
-  pub scan_waits : (p : ℕ) → passes p ≡ false → Scan left passes p → Scan left passes (suc p)
-  scan_waits p t = scan_on p (rw t (and-false (bit_at left p)))
+  -- the loop over those that are left: how far it has come
+  pub scan_start : Over (Scan left passes) left (members left)
+  unfolding picked
+  scan_start = over_start (Scan left passes) left refl
 
-  pub scan_here : (p : ℕ) → p < max_subgoals → bit_at left p ≡ true → passes p ≡ true → Scan left passes p → p ≡ picked left passes
-  unfolding find count
-  scan_here p h u t s = let e : max_subgoals - p ≡ suc (max_subgoals - suc p) = omega arith in sym (s ∙ rw (e, u, t))
+  module _ {rest : List ℕ} (g : Over (Scan left passes) left rest) where
+    -- none passes
+    pub scan_end : rest ≡ [] → none ≡ picked left passes
+    unfolding find count
+    scan_end e = sym (over_end (Scan left passes) left rest scan_skip g e)
 
-  pub scan_end : (p : ℕ) → max_subgoals ≤ p → Scan left passes p → max_subgoals ≡ picked left passes
-  unfolding find count
-  scan_end p h s = let e : max_subgoals - p ≡ 0 = omega arith in sym (s ∙ rw e)
+    -- at the first of the others
+    module _ {p : ℕ} {others : List ℕ} (e : rest ≡ p ∷ others) where
+      pub scan_below : (n : ℕ) → left < 2 ^ n → p < n
+      scan_below n h = member_below n left p h (over_member (Scan left passes) left rest scan_skip g p others e)
+
+      pub scan_waits : passes p ≡ false → Over (Scan left passes) left others
+      scan_waits t =
+          over_next (Scan left passes) left rest scan_skip g p others e (Scan left passes)
+          (scan_on p (rw t (and-false (bit_at left p))) (over_here (Scan left passes) left rest scan_skip g p others e))
+
+      pub scan_here : p < max_subgoals → passes p ≡ true → some p ≡ picked left passes
+      unfolding find count
+      scan_here h t =
+          let r : max_subgoals - p ≡ suc (max_subgoals - suc p) = omega arith in
+          let u = over_member (Scan left passes) left rest scan_skip g p others e in
+          sym (over_here (Scan left passes) left rest scan_skip g p others e ∙ rw (r, u, t))
 
 -- ---- the places that are left
 
@@ -177,16 +191,15 @@ module _ {n left : ℕ} {rem : List ℕ} (l : Left n left rem) where
       }
 
   -- what the scan finds is the first of them that passes
-  left_picked : (passes : ℕ → Bool) → n ≤ max_subgoals → picked left passes ≡ found_or max_subgoals (find passes rem)
+  left_picked : (passes : ℕ → Bool) → n ≤ max_subgoals → picked left passes ≡ find passes rem
   unfolding picked
   left_picked passes most =
-      ap (found_or max_subgoals)
-      (find_same (free left passes) passes (count 0 max_subgoals) rem (count_ascends 0 max_subgoals) l.rising
+      find_same (free left passes) passes (count 0 max_subgoals) rem (count_ascends 0 max_subgoals) l.rising
       (λ p m. (l.has p (and_left (bit_at left p) (passes p) m.1), and_right (bit_at left p) (passes p) m.1))
       (λ p m.
       let t = l.only p m.0 in
       let k = member_below n left p l.small t in
-      (in_count 0 max_subgoals p (omega arith) (omega arith), rw t m.1)))
+      (in_count 0 max_subgoals p (omega arith) (omega arith), rw t m.1))
 
 -- ---- the run
 
@@ -224,48 +237,42 @@ module _ {B : Type 0} {ready : B → ℕ → Bool} {after : B → ℕ → B} whe
         let q : i ≡ n = omega arith in
         sym w.rest ∙ rw (e, append-nil (take i places)) (ap (λ (j : ℕ). some (take j places)) q)
 
-    module _ (r : ℕ) (p : r ≡ picked left (ready b)) (h : i < n) where
-      found : r ≡ found_or max_subgoals (find (ready b) w.rem)
-      found = p ∙ left_picked w.remain (ready b) w.few
+    -- the first of those left that is ready
+    found : {o : Option ℕ} → o ≡ picked left (ready b) → find (ready b) w.rem ≡ o
+    found p = sym (p ∙ left_picked w.remain (ready b) w.few)
 
-      -- nothing that is left is ready
-      pub run_stuck : n ≤ r → greedy ready after b₀ n ≡ none
-      unfolding greedy_of
-      run_stuck k =
-          let s : n - i ≡ suc (n - (i + 1)) = omega arith in
-          let e : find (ready b) w.rem ≡ none = go (find (ready b) w.rem) refl found in
-          sym w.rest ∙ rw (s, e)
-        where
-          go : (o : Option ℕ) → find (ready b) w.rem ≡ o → r ≡ found_or max_subgoals o → o ≡ none
-          go none q e = refl
-          go (some x) q e =
-              let m = member_below n left x w.remain.small (w.remain.only x (find_some (ready b) w.rem x q).0) in
-              absurd (omega arith)
+    -- there is none
+    pub run_stuck : none ≡ picked left (ready b) → i < n → none ≡ greedy ready after b₀ n
+    unfolding greedy_of
+    run_stuck p h =
+        let s : n - i ≡ suc (n - (i + 1)) = omega arith in
+        rw (s, found p) at w.rest
+
+    module _ {r : ℕ} (p : some r ≡ picked left (ready b)) where
+      left_here : bit_at left r ≡ true
+      left_here = w.remain.only r (find_some (ready b) w.rem r (found p)).0
+
+      pub run_below : r < n
+      run_below = member_below n left r w.remain.small left_here
 
       -- it is taken: stored behind the others, and no longer left
-      pub run_next : {b' : B} {left' : ℕ} {places' : List ℕ} → r < n → b' ≡ after b r → left' ≡ bit_xor left (2 ^ r) → places' ≡ set places i r
+      pub run_next : i < n → {b' : B} {left' : ℕ} {places' : List ℕ} → b' ≡ after b r → left' ≡ bit_xor left (2 ^ r) → places' ≡ set places i r
           → Run ready after b₀ n (i + 1) b' left' places'
       unfolding greedy_of
-      run_next k eb eu ep =
-          let f = w.few in
+      run_next h eb eu ep =
           let t = w.room in
           let s : n - i ≡ suc (n - (i + 1)) = omega arith in
-          let e : find (ready b) w.rem ≡ some r = go (find (ready b) w.rem) found in
           record {
             most = omega arith;
-            few = f;
+            few = w.few;
             room = rw (ep, length-set places i r) t;
             rem = without r w.rem;
-            remain = rw eu (left_next w.remain r (w.remain.only r (find_some (ready b) w.rem r e).0));
+            remain = rw eu (left_next w.remain r left_here);
             rest =
                 rw (eb, ep, add-one i, take-suc-set places i r (omega arith))
-                (sym (joined (greedy_of ready after (n - suc i) (after b r) (without r w.rem))) ∙ rw (s, e, add-one i) at w.rest);
+                (sym (joined (greedy_of ready after (n - suc i) (after b r) (without r w.rem))) ∙ rw (s, found p, add-one i) at w.rest);
           }
         where
-          go : (o : Option ℕ) → r ≡ found_or max_subgoals o → o ≡ some r
-          go none e = let f = w.few in absurd (omega arith)
-          go (some x) e = ap some (sym e)
-
           joined : (o : Option (List ℕ)) → map (λ σ. take i places ++ σ) (map (λ σ. r ∷ σ) o) ≡ map (λ σ. (take i places ++ (r ∷ [])) ++ σ) o
           joined none = refl
           joined (some σ) = ap some (sym (append_assoc (take i places) (r ∷ []) σ))

@@ -1,5 +1,5 @@
--- The loop over the arguments of a head, one argument at a time: what is left of the list is its first argument and then the rest. And how large a
--- pattern is, and when it is the greatest. Assumes nothing.
+-- The loop over the arguments of a head, one argument at a time: what the first i of them bind. And how large a pattern is, and when it is the greatest.
+-- Assumes nothing.
 use mathlib.Core.Path.{◌≡◌, refl, sym, ap, ◌∙◌}
 use mathlib.Core.Bool.{Bool, true, false, not, cond, ◌&&◌, ◌||◌}
 use mathlib.Core.List.{List, [], ◌∷◌}
@@ -8,11 +8,12 @@ use native.Mathlib.Nat.{pow-suc}
 use native.Mathlib.Numerals.{add-one}
 use native.Mathlib.Omega.{arith}
 use lib.Dec.{eqb}
-use lib.ListN.{length, get_or, set, take, drop, drop_of_length-le, length-take}
+use lib.ListN.{length, get_or, set, take, length-take}
 use lib.Pow.{pow_pos}
-use lib.Seq.{drop-cons, get_or-take}
+use lib.Seq.{take_all, get_or-take}
 use borrow.Author.Tests.{lt-ltb, le-ltb, eqb-true, eqb-false, eq-eqb, ne_eqb}
 use Rattle.masks.specs.Lists.{all}
+use Rattle.masks.specs.Set.{bit_at}
 use Rattle.masks.proofs.Laws.Logic.{by_bool}
 use Rattle.book.specs.Book.{Call}
 use Rattle.ordering.specs.Adorn.{variables, Bound, nothing, is_bound, bit, pattern_of, bind_var, bind_head, head_bound, known}
@@ -32,39 +33,35 @@ var_skip b v h = rw (le-ltb v variables h)
 pub first_at : (n : ℕ) (l : List ℕ) (i : ℕ) → i < length (take n l) → get_or (take n l) i 0 ≡ get_or l i 0
 first_at n l i h = let e = length-take n l in get_or-take n l i 0 (omega arith)
 
--- ---- binding at the bound positions of a head, from the first argument up
+-- ---- binding at the bound positions of a head, one position more
 
-head_end : (b : Bound) (l : List ℕ) (i a : ℕ) → length l ≤ i → bind_head b (drop i l) a ≡ b
-unfolding bind_head
-head_end b l i a h = rw (drop_of_length-le l h)
+pub head_suc : (l : List ℕ) (i : ℕ) → i < length l → (b : Bound) (a : ℕ)
+    → bind_head b (take (suc i) l) a ≡ cond (bit_at a i) (bind_var (bind_head b (take i l) a) (get_or l i 0)) (bind_head b (take i l) a)
+unfolding bind_head bit_at
+head_suc [] i h b a = absurd (omega arith)
+head_suc (u ∷ l) zero h b a = refl
+head_suc (u ∷ l) (suc i) h b a = head_suc l i (omega arith) (cond (eqb (a % 2) 1) (bind_var b u) b) (a / 2)
 
-head_step : (l : List ℕ) (i : ℕ) → i < length l → (b : Bound) (a : ℕ) (c : Bool) → eqb (a % 2) 1 ≡ c
-    → bind_head b (drop i l) a ≡ bind_head (cond c (bind_var b (get_or l i 0)) b) (drop (i + 1) l) (a / 2)
-unfolding bind_head
-head_step l i h b a c e =
-    rw (add-one i, drop-cons l i 0 h) (ap (λ (t : Bool). bind_head (cond t (bind_var b (get_or l i 0)) b) (drop (suc i) l) (a / 2)) e)
+-- the loop that binds: what the first i positions bind is bound
+pub record Heading (pattern : ℕ) (args : List ℕ) (i : ℕ) (b : Bound) : Type 0 where
+  pub bound : b ≡ head_bound (take i args) pattern
 
--- the loop that binds: what is left, from argument i on by the bits that are left, comes to what all come to by the pattern
-pub record Heading (pattern : ℕ) (args : List ℕ) (i a : ℕ) (b : Bound) : Type 0 where
-  pub most : i ≤ length args
-  pub rest : bind_head b (drop i args) a ≡ head_bound args pattern
+pub heading_start : (pattern : ℕ) (args : List ℕ) → Heading pattern args 0 nothing
+unfolding head_bound bind_head
+heading_start pattern args = record { bound = refl }
 
-pub heading_start : (pattern : ℕ) (args : List ℕ) → Heading pattern args 0 pattern nothing
-unfolding head_bound
-heading_start pattern args = record { most = omega arith; rest = refl }
+module _ {pattern i : ℕ} {args : List ℕ} {b : Bound} (w : Heading pattern args i b) where
+  pub heading_next : i < length args → {b' : Bound} → b' ≡ cond (bit_at pattern i) (bind_var b (get_or args i 0)) b → Heading pattern args (i + 1) b'
+  unfolding head_bound
+  heading_next h e = record {
+    bound =
+        e
+        ∙ ap (λ (c : Bound). cond (bit_at pattern i) (bind_var c (get_or args i 0)) c) w.bound
+        ∙ rw add-one (sym (head_suc args i h nothing pattern));
+  }
 
-module _ {pattern a : ℕ} {b : Bound} {args : List ℕ} {i : ℕ} (w : Heading pattern args i a b) (h : i < length args) where
-  heading_next : (c : Bool) → eqb (a % 2) 1 ≡ c → Heading pattern args (i + 1) (a / 2) (cond c (bind_var b (get_or args i 0)) b)
-  heading_next c e = record { most = omega arith; rest = sym (head_step args i h b a c e) ∙ w.rest }
-
-  pub heading_bound : a % 2 ≡ 1 → Heading pattern args (i + 1) (a / 2) (bind_var b (get_or args i 0))
-  heading_bound e = heading_next true (eq-eqb (a % 2) 1 e)
-
-  pub heading_free : (a % 2 ≡ 1 → ⊥) → Heading pattern args (i + 1) (a / 2) b
-  heading_free e = heading_next false (ne_eqb (a % 2) 1 e)
-
-pub heading_end : {pattern a : ℕ} {b : Bound} {args : List ℕ} {i : ℕ} → Heading pattern args i a b → length args ≤ i → b ≡ head_bound args pattern
-heading_end {a = a} {b} {args} {i} w h = sym (head_end b args i a h) ∙ w.rest
+  pub heading_end : i ≡ length args → b ≡ head_bound args pattern
+  heading_end e = w.bound ∙ ap (λ (l : List ℕ). head_bound l pattern) (take_all i args (omega arith))
 
 -- ---- the pattern
 

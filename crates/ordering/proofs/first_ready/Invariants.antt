@@ -1,6 +1,7 @@
 -- `ordering::first_ready` meets its contract. The loop goes over the places that are left; its invariant: what the scan comes to is the first of those from
 -- here on. A subgoal is ready where it can run with its pattern, which is answered with its place. Assumes nothing.
-use Rattle.masks.proofs.Laws.Members.{Over}
+use Rattle.masks.specs.Set.{members}
+use Rattle.masks.proofs.Laws.Loops.{Over}
 use Rattle.book.specs.Limits.{max_predicates}
 use Rattle.book.specs.Held.{clause_at}
 use Rattle.book.specs.Table.{table_in}
@@ -9,9 +10,6 @@ use Rattle.ordering.specs.Held.{bound_of}
 use Rattle.ordering.proofs.Laws.Run.{Scan}
 use Rattle.ordering.proofs.first_ready.Given as goal
 
-abbrev pub invariant-loop-rest : goal.invariant-loop-rest
-invariant-loop-rest l =
-    Over (Scan l.left (ready_at (table_in l.table max_predicates) (clause_at l.rules l.k).body (bound_of l.bound))) 32 l.left l.rest
-
-abbrev pub decreases-loop-rest : goal.decreases-loop-rest
-decreases-loop-rest l = l.rest
+abbrev pub invariant-loop-place : goal.invariant-loop-place
+invariant-loop-place l =
+    Over (Scan l.left (ready_at (table_in l.table max_predicates) (clause_at l.rules l.k).body (bound_of l.bound))) l.left (members l.place-iterator.left)

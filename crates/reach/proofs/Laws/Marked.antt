@@ -1,7 +1,8 @@
 -- Marks and the calls that they are of: none, one, and those of one list after those of another. Assumes nothing.
-use mathlib.Core.Path.{◌≡◌, sym, ap, ap₂, ◌∙◌, subst}
+use mathlib.Core.Path.{◌≡◌, refl, sym, ap, ap₂, ◌∙◌, subst}
 use mathlib.Core.Bool.{Bool, ◌&&◌, ◌||◌, or_assoc, or-false}
 use mathlib.Core.List.{List, [], ◌∷◌, ◌++◌}
+use mathlib.Core.Option.{none}
 use Prim.Native.Nat.{ℕ, ◌^◌, ◌<◌}
 use lib.Bits.{bit_or}
 use lib.Dec.{eqb}
@@ -11,9 +12,11 @@ use Rattle.book.specs.Book.{Head}
 use Rattle.book.specs.Held.{head_in, clause_at}
 use Rattle.book.specs.Table.{table_in}
 use Rattle.ordering.specs.Adorn.{Bound, head_bound}
-use Rattle.ordering.specs.Asks.{Asked, called}
-use Rattle.ordering.specs.declared.Order.{Order}
-use Rattle.reach.specs.Marked.{marked_at, Marked, Found}
+use Rattle.ordering.specs.Good.{first_good}
+use Rattle.ordering.specs.Asks.{Asked, asks, called}
+use Rattle.ordering.specs.Held.{or_none}
+use Rattle.ordering.specs.declared.order.Order.{Order}
+use Rattle.reach.specs.Marked.{marked_at, Marked, Found, calls_by, clause_by}
 use Rattle.masks.proofs.Laws.Lists.{any_append}
 use Rattle.masks.proofs.Laws.Set.{bit_at_zero, bit_at_or, bit_at_power, eqb_comm}
 use Rattle.book.proofs.Laws.Sets.{stored_more}
@@ -52,3 +55,12 @@ pub found_clause : (rules table : List ℕ) (k a head : ℕ) {b : Bound} {o : Or
     → Found (table_in table max_predicates) (clause_at rules k).body (head_bound (clause_at rules k).head.args a) o
 found_clause rules table k a head {o = o} e f =
     subst (λ (c : Bound). Found (table_in table max_predicates) (clause_at rules k).body c o) (f ∙ ap (λ (c : Head). head_bound c.args a) e)
+
+-- where there is no such order, the clause has no calls
+pub found_none : (rules table : List ℕ) (k a head : ℕ) {b : Bound} → head_in head ≡ (clause_at rules k).head → b ≡ head_bound (head_in head).args a
+    → none ≡ first_good (table_in table max_predicates) (clause_at rules k).body b → clause_by rules table k a ≡ []
+unfolding calls_by asks
+found_none rules table k a head e f g =
+    ap (λ (c : Bound). asks (clause_at rules k).body c (or_none (first_good (table_in table max_predicates) (clause_at rules k).body c)))
+    (sym (f ∙ ap (λ (c : Head). head_bound c.args a) e))
+    ∙ rw (← g) refl

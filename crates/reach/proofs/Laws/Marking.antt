@@ -1,5 +1,6 @@
 -- The calls of a body in its first good order, marked one after the other. Assumes nothing.
 use mathlib.Core.Path.{◌≡◌, sym, ap, ap₂, ◌∙◌, subst}
+use mathlib.Core.Bool.{true}
 use mathlib.Core.List.{List}
 use Prim.Native.Nat.{ℕ, ◌+◌, ◌^◌, ◌≤◌, ◌<◌}
 use native.Mathlib.Numerals.{add-one}
@@ -12,15 +13,23 @@ use Rattle.book.specs.Limits.{max_predicates}
 use Rattle.book.specs.Book.{Call, no_call}
 use Rattle.book.specs.Held.{call_in}
 use Rattle.book.specs.Table.{Table}
+use Rattle.book.specs.Sets.{callable}
 use Rattle.ordering.specs.Adorn.{Bound, pattern_of}
 use Rattle.ordering.specs.Good.{at, ran}
 use Rattle.ordering.specs.Asks.{Asked, asks}
 use Rattle.ordering.specs.Held.{places_of}
-use Rattle.ordering.specs.declared.Order.{Order}
-use Rattle.reach.specs.Marked.{Found, Marked, calls_by}
+use Rattle.ordering.specs.declared.order.Order.{Order}
+use Rattle.reach.specs.Marked.{Found, SomeFound, Marked, calls_by}
 use Rattle.masks.proofs.Laws.Lists.{values_cong}
-use Rattle.ordering.proofs.Laws.Patterns.{asks_values, order, order_long, order_at, order_pattern}
+use Rattle.ordering.proofs.Laws.Run.{pred_read}
+use Rattle.ordering.proofs.Laws.Patterns.{asks_values, order, order_long, order_at, order_below, order_pattern}
 use Rattle.reach.proofs.Laws.Marked.{marked_nil, marked_append, marked_one}
+
+-- ---- a call that is read at a place of an order
+
+pub call_low : (body : List Call) (o : Order) → SomeFound body o → callable body ≡ true → (i : ℕ) → i < length (places_of o) → (s : ℕ) {p : ℕ}
+    → call_in s ≡ get_or body (get_or o.places i 0) no_call → p ≡ (call_in s).pred → p < max_predicates
+call_low body o f t i h s e d = let l = pred_read body _ e t (order_below f.0 body f.1 o f.2.first i h) in omega arith
 
 -- ---- the loop: the first i calls are marked
 

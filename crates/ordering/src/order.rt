@@ -1,0 +1,30 @@
+// An order, as it is held.
+ghost use Rattle.std.specs.Prelude.{◌≡◌, ◌≤◌, take};
+ghost use Rattle.book.specs.Limits.{max_subgoals};
+
+use book::limits::MAX_SUBGOALS;
+
+// An order of the subgoals of a body: the first n places of the array, and beside each the pattern that its subgoal has in its turn.
+#[derive(Clone, Copy)]
+pub struct Order {
+    pub n: u8,
+    pub places: [u8; MAX_SUBGOALS],
+    pub patterns: [u8; MAX_SUBGOALS],
+    ghost few: { n ≤ max_subgoals },
+}
+
+impl Order {
+    // The places of its subgoals.
+    pub fn places(&self) -> &[u8]
+        ensures { result.now ≡ take self.now.n self.now.places }
+    {
+        &self.places[..self.n as usize]
+    }
+
+    // The patterns beside them.
+    pub fn patterns(&self) -> &[u8]
+        ensures { result.now ≡ take self.now.n self.now.patterns }
+    {
+        &self.patterns[..self.n as usize]
+    }
+}
