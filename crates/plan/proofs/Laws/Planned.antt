@@ -22,7 +22,7 @@ use Rattle.book.specs.Encode.{run}
 use Rattle.book.specs.Held.{clause_at, clauses_of, book_in}
 use Rattle.book.specs.Table.{Table, table_in, Full}
 use Rattle.book.specs.Sets.{callable, Known}
-use Rattle.reading.specs.Judged.{BookRead}
+use Rattle.reading.specs.Judged.{BookHeld}
 use Rattle.reading.specs.declared.Reading.{Reading}
 use Rattle.ordering.specs.Adorn.{Bound, nothing, head_bound}
 use Rattle.ordering.specs.Good.{first_good, is_some}
@@ -297,15 +297,15 @@ module _ (B : Book) (preds clauses : ℕ) (rules own table : List ℕ) (l : Lent
 
 -- ---- a book that was read, and settled
 
-pub lent_read : {s : List ℕ} {r : Reading} {arities modes rules : List ℕ} (b : BookRead s r arities modes rules) {own masks table : List ℕ} {k : ℕ} → r.reply.number ≡ 0
+pub lent_read : {s : List ℕ} {r : Reading} {arities modes rules : List ℕ} (b : BookHeld s r arities modes rules) {own masks table : List ℕ} {k : ℕ}
     → Settled (book_in r.preds arities modes r.clauses rules) r.clauses rules own masks table k
     → Lent (book_in r.preds arities modes r.clauses rules) r.preds r.clauses rules own table
 unfolding book_in
-lent_read {s} {r} {arities} {modes} {rules} b {own} {masks} {table} z t =
+lent_read {s} {r} {arities} {modes} {rules} b {own} {masks} {table} t =
     let few = b.few in
     let e : min r.clauses max_clauses ≡ r.clauses = omega arith in
     record {
-      well = read_well b z;
+      well = read_well b;
       preds· = b.listed.each;
       few = few;
       clauses· = ap (clauses_of rules) e;

@@ -8,27 +8,22 @@ use Rattle.needs.proofs.Laws.Settling.{read_held}
 use Rattle.plan.proofs.Laws.Planned.{lent_read}
 use Rattle.plan.proofs.plan.Goals as goal
 
-pub read_book-b-requires : goal.read_book-b-requires
-read_book-b-requires c = mode_at_zeros modes_size
+pub read_book-requires : goal.read_book-requires
+read_book-requires c = mode_at_zeros modes_size
 
-pub returns-then-b-ne0 : goal.returns-then-b-ne0
-returns-then-b-ne0 c = read_refused c.read_book-b.ensures.judges planned c.args.out.now c.if-b-ne0.true
+pub returns-in-Err : goal.returns-in-Err
+returns-in-Err c = read_refused planned _ c.args.out.now c.in-Err.f c.in-Err.ensures c.into.ensures
 
 pub settle-requires : goal.settle-requires
 settle-requires c =
-    let b = c.read_book-b.ensures in
-    let z = c.if-b-ne0.false in
-    ((_, read_held _ _ _ _ _ b.listed.each b.few (read_well b z)), cleared_zeros, cleared_zeros, cleared_zeros)
+    let b = c.in-Ok.ensures in ((_, read_held _ _ _ _ _ b.listed.each b.few (read_well b)), cleared_zeros, cleared_zeros, cleared_zeros)
 
 pub give-requires : goal.give-requires
 give-requires c =
-    let b = c.read_book-b.ensures in
-    let z = c.if-b-ne0.false in
-    (_, lent_read b z (c.settle.ensures _ (read_held _ _ _ _ _ b.listed.each b.few (read_well b z))))
+    let b = c.in-Ok.ensures in (_, lent_read b (c.settle.ensures _ (read_held _ _ _ _ _ b.listed.each b.few (read_well b))))
 
 pub returns : goal.returns
 returns c =
-    let b = c.read_book-b.ensures in
-    let z = c.if-b-ne0.false in
-    rw (← read_made b z planned)
-    (c.give.ensures _ (lent_read b z (c.settle.ensures _ (read_held _ _ _ _ _ b.listed.each b.few (read_well b z)))))
+    let b = c.in-Ok.ensures in
+    rw (← read_made b planned)
+    (c.give.ensures _ (lent_read b (c.settle.ensures _ (read_held _ _ _ _ _ b.listed.each b.few (read_well b)))))
