@@ -12,7 +12,9 @@ use Rattle.book.specs.Table.{Table, entry, entry_in, table_in, Admitted}
 use Rattle.book.specs.Sets.{Owns}
 use Rattle.ordering.specs.Good.{good_clause}
 use Rattle.tables.specs.Table.{declared, defined, step, rounds, final}
+use Rattle.book.specs.declared.held.RuleBook.{RuleBook}
 use Rattle.needs.specs.Sets.{each_in}
+use Rattle.needs.specs.declared.Needs.{Needs}
 
 -- ---- a round
 
@@ -62,13 +64,16 @@ pub record Renewed (table words : List ℕ) (changed : ℕ) (after : List ℕ) :
 
 -- ---- all rounds
 
--- a book's predicates, modes and clauses, as they are lent
+-- a book's predicates, modes and clauses, as they are held
 pub record Held (B : Book) (preds : ℕ) (modes : List ℕ) (clauses : ℕ) (rules : List ℕ) : Type 0 where
   pub well : WellFormed B
   pub preds· : length B.arities ≡ preds
   pub modes· : B.modes ≡ modes_of modes max_predicates
   pub few : clauses ≤ max_clauses
   pub clauses· : B.clauses ≡ clauses_of rules clauses
+
+abbrev pub Holding : Book → RuleBook → Type 0
+Holding B b = Held B b.preds b.modes b.clauses b.rules
 
 -- its final table, the patterns that it admits, and its rounds; and the clauses of each predicate
 pub record Settled (B : Book) (clauses : ℕ) (rules own table words : List ℕ) (k : ℕ) : Type 0 where
@@ -77,9 +82,9 @@ pub record Settled (B : Book) (clauses : ℕ) (rules own table words : List ℕ)
   pub admitted : Admitted table words
   pub rounds· : k ≡ rounds B
 
--- what is asked: there is such a book; and what is given, whatever that book is
-abbrev pub SomeHeld : ℕ → List ℕ → ℕ → List ℕ → Type 0
-SomeHeld preds modes clauses rules = (B : Book) × Held B preds modes clauses rules
+-- what is asked: a book is held; and what is given, whatever that book is
+abbrev pub SomeHeld : RuleBook → Type 0
+SomeHeld b = (B : Book) × Holding B b
 
-abbrev pub Settles : ℕ → List ℕ → ℕ → List ℕ → List ℕ → List ℕ → List ℕ → ℕ → Type 0
-Settles preds modes clauses rules own table words k = (B : Book) → Held B preds modes clauses rules → Settled B clauses rules own table words k
+abbrev pub Settles : RuleBook → Needs → ℕ → Type 0
+Settles b needs k = (B : Book) → Holding B b → Settled B b.clauses b.rules needs.own needs.table.masks needs.table.admits k

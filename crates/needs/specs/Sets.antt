@@ -2,7 +2,8 @@
 use Rattle.std.specs.Prelude.{Bool, true, false, cond, ◌&&◌, ◌||◌, List, ℕ, zero, suc, ◌<◌, eqb, get_or}
 use Rattle.masks.specs.Set.{bit_at, Holds}
 use Rattle.book.specs.Limits.{max_predicates}
-use Rattle.book.specs.Held.{clause_at, clauses_of}
+use Rattle.book.specs.Book.{Clause}
+use Rattle.book.specs.Held.{clauses_of}
 use Rattle.tables.specs.Calls.{calls, touched}
 
 -- f holds of every member below n
@@ -20,7 +21,6 @@ pub record Calling (rules : List ℕ) (n : ℕ) (callers : List ℕ) : Type 0 wh
   pub each : (q : ℕ) → q < max_predicates → Holds (get_or callers q 0) (touched (eqb q) (clauses_of rules n))
 
 -- one clause more: its head's predicate calls those of its subgoals
-abbrev pub Added : List ℕ → ℕ → List ℕ → List ℕ → Type 0
-Added rules k before after =
-    (q : ℕ) → q < max_predicates
-    → Holds (get_or after q 0) (λ p. bit_at (get_or before q 0) p || (calls (eqb q) (clause_at rules k) && eqb (clause_at rules k).head.pred p))
+abbrev pub Added : Clause → List ℕ → List ℕ → Type 0
+Added c before after =
+    (q : ℕ) → q < max_predicates → Holds (get_or after q 0) (λ p. bit_at (get_or before q 0) p || (calls (eqb q) c && eqb c.head.pred p))

@@ -7,14 +7,17 @@
 pub mod calls;
 pub mod round;
 
-ghost use Rattle.masks.specs.Outcome.{Answers};
+ghost use Rattle.masks.specs.Outcome.{Answers, reply_of};
+ghost use Rattle.book.specs.Refusal.{reply};
 ghost use Rattle.book.specs.Sets.{Cleared};
 ghost use Rattle.tables.specs.Image.{analysis};
 ghost use Rattle.needs.specs.Round.{SomeHeld, Settles};
 
 use crate::calls::{calling, own_clauses, put_callers};
 use crate::round::{renew, round};
-use book::limits::{MAX_PREDICATES, MODES_SIZE, NO_CALL, RULES_SIZE};
+use book::held::RuleBook;
+use book::limits::MAX_PREDICATES;
+use book::refusal::Refusal;
 use masks::reply::Reply;
 use reading::read_book;
 use tables::{Table, first_table, image_length, put_image};
@@ -44,59 +47,41 @@ impl Needs {
 pub fn analyse(book: &[u8], out: &mut [u8]) -> Reply
     ensures { Answers (analysis book.now) out.old result out.new }
 {
-    let mut arities = [0u8; MAX_PREDICATES];
-    let mut modes = [0u8; MODES_SIZE];
-    let mut rules = [NO_CALL; RULES_SIZE];
-    let b = match read_book(book, &mut arities, &mut modes, &mut rules) {
-        Ok(b) => b,
-        Err(f) => return f.into(),
-    };
-    let mut own = [0u64; MAX_PREDICATES];
-    let mut table = [0u64; MAX_PREDICATES];
-    let mut admits = [0u64; MAX_PREDICATES];
-    let rounds = settle(
-        b.preds,
-        &modes,
-        b.clauses,
-        &rules,
-        &mut own,
-        &mut table,
-        &mut admits,
-    );
-    let n = image_length(b.preds, &table);
-    let r = Reply::in_room(n, rounds, out.len());
-    if r.number == 0 {
-        put_image(out, b.preds, &arities, &table, &admits);
-    }
-    r
+    analysed(book, out).unwrap_or_else(Reply::from)
 }
 
-// "The rounds reported are the least k at which table k+1 equals table k, and table k is the answer": the rounds. The final table, as the masks of each
-// constraint and as the patterns that it admits, and the clauses of each predicate are then in the words lent, which must be 0.
-pub fn settle<'a>(
-    preds: u8,
-    modes: &'a [u8; MODES_SIZE],
-    clauses: u8,
-    rules: &'a [u64; RULES_SIZE],
-    own: &mut [u64; MAX_PREDICATES],
-    table: &mut [u64; MAX_PREDICATES],
-    admits: &mut [u64; MAX_PREDICATES],
-) -> u64
-    requires { SomeHeld preds modes.now clauses rules.now × Cleared own.old × Cleared table.old × Cleared admits.old }
-    ensures { Settles preds modes.now clauses rules.now own.new table.new admits.new result }
+fn analysed(bytes: &[u8], out: &mut [u8]) -> Result<Reply, Refusal>
+    ensures { Answers (analysis bytes.now) out.old (reply_of reply result) out.new }
 {
-    let mut due = own_clauses(clauses, rules, own);
-    first_table(preds, modes, table, admits);
-    let mut callers = [0u64; MAX_PREDICATES];
-    put_callers(clauses, rules, &mut callers);
+    let mut book = RuleBook::new();
+    read_book(bytes, &mut book)?;
+    let mut needs = Needs::new();
+    let rounds = settle(&book, &mut needs);
+    let r = Reply::in_room(image_length(&book, &needs.table), rounds, out.len())?;
+    put_image(out, &book, &needs.table);
+    Ok(r)
+}
+
+// "The rounds reported are the least k at which table k+1 equals table k, and table k is the answer": the rounds. The final table, and the clauses of each
+// predicate, are then in the room lent, whose words must be 0.
+pub fn settle(book: &RuleBook, needs: &mut Needs) -> u64
+    requires { SomeHeld book.now × Cleared needs.old.own × Cleared needs.old.table.masks × Cleared needs.old.table.admits }
+    ensures { Settles book.now needs.new result }
+{
+    let Needs { own, table } = needs;
+    let mut due = own_clauses(book, own);
+    first_table(book, table);
+    let mut callers = [0; MAX_PREDICATES];
+    put_callers(book, &mut callers);
     let mut k = 0;
     // That this ends is a theorem and no count: a `for` over `0..` would ask for an `unreachable!` behind it.
-    loop {
-        let changed = round(rules, own, table, *admits, due, admits);
+    'rounds: loop {
+        let old = table.admits;
+        let changed = round(&book.rules, own, &table.masks, old, due, &mut table.admits);
         if changed == 0 {
             return k;
         }
-        renew(table, admits, changed);
+        renew(table, changed);
         due = calling(&callers, changed);
         k += 1;
     }

@@ -7,6 +7,7 @@ use book::limits::{MAX_PREDICATES, RULES_SIZE};
 use lanes::good_lanes;
 use masks::constraint::{least, with_member};
 use masks::members::Members;
+use tables::Table;
 
 // "A round reads only the table before it": it takes the table by value, as the patterns that each constraint admits, builds a new one in the room
 // lent, which holds the same, and compares both; the old one stays intact. Only the predicates due are looked at; the others have in the old table
@@ -57,11 +58,12 @@ fn good_patterns<'a>(
 }
 
 // Gives the predicates of a set the masks of what they admit now.
-pub fn renew(table: &mut [u64; MAX_PREDICATES], admits: &[u64; MAX_PREDICATES], changed: u64)
-    ensures { Renewed table.old admits.now changed table.new }
+pub fn renew(table: &mut Table, changed: u64)
+    ensures masks { Renewed table.old.masks table.old.admits changed table.new.masks }
+    ensures admits { table.new.admits ≡ table.old.admits }
 {
     for p in Members::of(changed) {
         let q = p as usize;
-        table[q] = least(admits[q]);
+        table.masks[q] = least(table.admits[q]);
     }
 }

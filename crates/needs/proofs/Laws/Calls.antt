@@ -14,7 +14,7 @@ use borrow.Author.Tests.{eqb-true, eqb-false, ne_eqb, ltb-true, lt-ltb, le-ltb}
 use Rattle.masks.specs.Lists.{any, all}
 use Rattle.masks.specs.Set.{bit_at, Holds, members}
 use Rattle.book.specs.Limits.{max_predicates, max_clauses}
-use Rattle.book.specs.Book.{Call, no_call}
+use Rattle.book.specs.Book.{Clause, Call, no_call}
 use Rattle.book.specs.Format.{allows}
 use Rattle.book.specs.Held.{clause_at, clauses_of}
 use Rattle.book.specs.Table.{Table}
@@ -68,7 +68,7 @@ gathering_start rules n callers none =
     record { most = omega arith; calling = record { each = λ q h p. ap (λ (w : ℕ). bit_at w p) (none q h) ∙ bit_at_zero p } }
 
 module _ {rules : List ℕ} {n k : ℕ} {callers : List ℕ} (o : Gathering rules n k callers) where
-  pub gathering_next : {after : List ℕ} → k < n → Added rules k callers after → Gathering rules n (k + 1) after
+  pub gathering_next : {after : List ℕ} → k < n → Added (clause_at rules k) callers after → Gathering rules n (k + 1) after
   unfolding clauses_of
   gathering_next h f =
       record {
@@ -89,28 +89,28 @@ module _ {rules : List ℕ} {n k : ℕ} {callers : List ℕ} (o : Gathering rule
 abbrev called_in : List Call → ℕ → Bool
 called_in body q = any (λ s. eqb q s.pred) body
 
-pub record Adding (rules : List ℕ) (k : ℕ) (before : List ℕ) (j : ℕ) (words : List ℕ) : Type 0 where
-  pub most : j ≤ length (clause_at rules k).body
+pub record Adding (c : Clause) (before : List ℕ) (j : ℕ) (words : List ℕ) : Type 0 where
+  pub most : j ≤ length c.body
   pub size : length words ≡ max_predicates
   pub added : (q : ℕ) → q < max_predicates
-      → Holds (get_or words q 0) (λ p. bit_at (get_or before q 0) p || (called_in (take j (clause_at rules k).body) q && eqb (clause_at rules k).head.pred p))
+      → Holds (get_or words q 0) (λ p. bit_at (get_or before q 0) p || (called_in (take j c.body) q && eqb c.head.pred p))
 
-pub adding_start : (rules : List ℕ) (k : ℕ) (before : List ℕ) → length before ≡ max_predicates → Adding rules k before 0 before
-adding_start rules k before e = record { most = omega arith; size = e; added = λ q h p. sym (or-false (bit_at (get_or before q 0) p)) }
+pub adding_start : (c : Clause) (before : List ℕ) → length before ≡ max_predicates → Adding c before 0 before
+adding_start c before e = record { most = omega arith; size = e; added = λ q h p. sym (or-false (bit_at (get_or before q 0) p)) }
 
-module _ {rules : List ℕ} {k : ℕ} {before : List ℕ} {j : ℕ} {words : List ℕ} (o : Adding rules k before j words) where
+module _ {c : Clause} {before : List ℕ} {j : ℕ} {words : List ℕ} (o : Adding c before j words) where
   -- h is the head's predicate and q that of subgoal j, which has a word
-  pub adding_next : (h q : ℕ) → q < max_predicates → j < length (clause_at rules k).body
-      → h ≡ (clause_at rules k).head.pred → q ≡ (get_or (clause_at rules k).body j no_call).pred
-      → Adding rules k before (j + 1) (set words q (bit_or (get_or words q 0) (2 ^ h)))
+  pub adding_next : (h q : ℕ) → q < max_predicates → j < length c.body
+      → h ≡ c.head.pred → q ≡ (get_or c.body j no_call).pred
+      → Adding c before (j + 1) (set words q (bit_or (get_or words q 0) (2 ^ h)))
   adding_next h q l m e f =
       let z = o.size in
       record {
         most = omega arith;
         size = length-set words q (bit_or (get_or words q 0) (2 ^ h)) ∙ z;
         added = λ r i p.
-            let body = (clause_at rules k).body in
-            let is = eqb (clause_at rules k).head.pred p in
+            let body = c.body in
+            let is = eqb c.head.pred p in
             stored_more words q h (omega arith) r p
             ∙ ap₂ (λ (a b : Bool). a || b) (o.added r i p) (ap₂ (λ (x y : ℕ). eqb r x && eqb y p) f e)
             ∙ or_assoc (bit_at (get_or before r 0) p) (called_in (take j body) r && is) _
@@ -119,12 +119,12 @@ module _ {rules : List ℕ} {k : ℕ} {before : List ℕ} {j : ℕ} {words : Lis
             ∙ ap (λ (b : Bool). b && is) (sym (any_suc (λ (s : Call). eqb r s.pred) no_call body j m)));
       }
 
-  pub adding_end : length (clause_at rules k).body ≤ j → Added rules k before words
+  pub adding_end : length c.body ≤ j → Added c before words
   unfolding calls
   adding_end h q l p =
       o.added q l p
-      ∙ ap (λ (body : List Call). bit_at (get_or before q 0) p || (called_in body q && eqb (clause_at rules k).head.pred p))
-      (take_all j (clause_at rules k).body h)
+      ∙ ap (λ (body : List Call). bit_at (get_or before q 0) p || (called_in body q && eqb c.head.pred p))
+      (take_all j c.body h)
 
 -- ---- the predicates that call one of a set: those that call one of its members below n
 

@@ -6,7 +6,7 @@ use mathlib.Core.Option.{some}
 use Prim.Native.Nat.{ℕ, ◌^◌, ◌≤◌, ◌<◌, min}
 use native.Mathlib.Nat.{pow-le-pow_right}
 use native.Mathlib.Omega.{arith}
-use lib.ListN.{length, get_or, take}
+use lib.ListN.{length, get_or}
 use borrow.Author.Tests.{leb-true}
 use Rattle.masks.specs.Limits.{all_patterns}
 use Rattle.masks.specs.Set.{bit_at, Holds}
@@ -14,7 +14,7 @@ use Rattle.masks.proofs.Laws.Constraint.{in_range_mono}
 use Rattle.book.specs.Limits.{max_predicates, max_clauses}
 use Rattle.book.specs.Book.{Clause, Mode, Book}
 use Rattle.book.specs.Encode.{WellFormed}
-use Rattle.book.specs.Held.{clause_at, clauses_of, modes_of, masks_in, mode_bytes, book_in}
+use Rattle.book.specs.Held.{clause_at, clauses_of, modes_of, masks_in, mode_bytes, book_in, book_of}
 use Rattle.book.specs.Table.{table_in, LowModes}
 use Rattle.book.specs.Sets.{callable, Owns, Known}
 use Rattle.book.proofs.Laws.Held.{clauses_of_at, clauses_of_length}
@@ -23,7 +23,10 @@ use Rattle.tables.specs.Calls.{touched}
 use Rattle.tables.proofs.Laws.Valid.{arity_low, masks_low, clause_own, clause_callable}
 use Rattle.tables.proofs.Laws.Held.{mode_of_modes_of}
 use Rattle.needs.specs.Sets.{some_in, Calling}
-use Rattle.needs.specs.Round.{Given, Held}
+use Rattle.book.specs.declared.held.RuleBook.{RuleBook}
+use Rattle.reading.specs.Judged.{BookHeld}
+use Rattle.reading.proofs.Laws.Judged.{read_well}
+use Rattle.needs.specs.Round.{Holding, Given, Held}
 use Rattle.needs.proofs.Laws.Calls.{calling_touched}
 
 -- ---- the clauses of a book in an array
@@ -90,14 +93,13 @@ module _ {B : Book} {preds : ℕ} {modes : List ℕ} {clauses : ℕ} {rules : Li
 
 -- ---- a book that was read
 
-pub read_held : (preds : ℕ) (arities modes : List ℕ) (clauses : ℕ) (rules : List ℕ) → length (take preds arities) ≡ preds → clauses ≤ max_clauses
-    → WellFormed (book_in preds arities modes clauses rules) → Held (book_in preds arities modes clauses rules) preds modes clauses rules
+pub read_held : {s : List ℕ} {given : ℕ} {b : RuleBook} → BookHeld s given b → Holding (book_of b) b
 unfolding book_in
-read_held preds arities modes clauses rules as_many few w =
+read_held {b = b} r =
     record {
-      well = w;
-      preds· = as_many;
-      modes· = λ i. modes_of modes max_predicates;
-      few = few;
-      clauses· = let e : min clauses max_clauses ≡ clauses = omega arith in ap (clauses_of rules) e;
+      well = read_well r;
+      preds· = r.listed.each;
+      modes· = λ i. modes_of b.modes max_predicates;
+      few = r.few;
+      clauses· = let e : min b.clauses max_clauses ≡ b.clauses = let f = r.few in omega arith in ap (clauses_of b.rules) e;
     }

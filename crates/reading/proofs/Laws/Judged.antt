@@ -11,11 +11,12 @@ use Rattle.book.specs.Book.{Book}
 use Rattle.book.specs.Format.{number, Judged, fault, book, judge, read_book}
 use Rattle.book.specs.Encode.{encode, WellFormed}
 use Rattle.book.specs.Answer.{on_book}
-use Rattle.book.specs.Held.{has_mode, book_in}
+use Rattle.book.specs.Held.{has_mode, book_in, book_of}
 use Rattle.std.specs.Prelude.{Result, Ok, Err}
 use Rattle.book.specs.declared.fault.FaultAt.{FaultAt}
 use Rattle.reading.specs.declared.Reading.{Reading}
-use Rattle.reading.specs.Judged.{Listed, checked, InArrays}
+use Rattle.book.specs.declared.held.RuleBook.{RuleBook}
+use Rattle.reading.specs.Judged.{Listed, checked, BookHeld}
 use Rattle.records.specs.Read.{next, value, Reads}
 use Rattle.reading.specs.Stored.{ReadsPredicates, ReadsRules, ReadsBook}
 use Rattle.masks.proofs.Laws.Outcome.{answers_refused}
@@ -70,13 +71,13 @@ module _ {s : List ℕ} {p : Result (ℕ × ℕ) FaultAt} {arities : List ℕ} (
 
 -- a fault is the answer of every operation on books
 pub read_refused : (made : Book → Outcome) (s out : List ℕ) (e : FaultAt) → judge s ≡ fault e.fault e.at
-    → {r : Reply} → r ≡ record { number = number e.fault; value = e.at; rounds = 0 } → Answers (on_book made s) out r out
-read_refused made s out e j d = rw (← on_fault made s e.fault e.at (sym j)) (answers_refused (number e.fault) e.at out d)
+    → Answers (on_book made s) out (record { number = number e.fault; value = e.at; rounds = 0 }) out
+read_refused made s out e j = rw (← on_fault made s e.fault e.at (sym j)) (answers_refused (number e.fault) e.at out refl)
 
-module _ {s : List ℕ} {r : Reading} {arities modes rules : List ℕ} (b : InArrays s r arities modes rules) where
+module _ {s : List ℕ} {given : ℕ} {b : RuleBook} (h : BookHeld s given b) where
   -- a book that is held is well formed, and gets what the operation makes of it
-  pub read_well : WellFormed (book_in r.preds arities modes r.clauses rules)
-  read_well = (judge_inv s _ b.is).1
+  pub read_well : WellFormed (book_of b)
+  read_well = (judge_inv s _ h.is).1
 
-  pub read_made : (made : Book → Outcome) → made (book_in r.preds arities modes r.clauses rules) ≡ on_book made s
-  read_made made = on_book_lem made s _ (sym b.is)
+  pub read_made : (made : Book → Outcome) → made (book_of b) ≡ on_book made s
+  read_made made = on_book_lem made s _ (sym h.is)

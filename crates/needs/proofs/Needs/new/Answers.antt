@@ -2,5 +2,5 @@
 use Rattle.book.proofs.Laws.Sets.{cleared_zeros}
 use Rattle.needs.proofs.Needs.new.Goals as goal
 
-pub returns : goal.returns
-returns c = ?
+pub returns-clause-own : goal.returns-clause-own
+returns-clause-own c = cleared_zeros

@@ -3,4 +3,4 @@ use Rattle.needs.proofs.Laws.Calls.{Adding}
 use Rattle.needs.proofs.calls.add_caller.Given as goal
 
 abbrev pub invariant-loop-j : goal.invariant-loop-j
-invariant-loop-j l = Adding l.rules l.k l.initial.callers l.j l.callers
+invariant-loop-j l = Adding l.clause l.initial.callers l.j l.callers

@@ -4,7 +4,7 @@ use mathlib.Core.Path.{◌≡◌, ap, ◌∙◌}
 use Prim.Native.Nat.{◌<◌}
 use native.Mathlib.Omega.{arith}
 use Rattle.book.specs.Limits.{max_predicates}
-use Rattle.book.specs.Book.{Head}
+use Rattle.book.specs.Book.{Head, Clause}
 use Rattle.book.specs.Held.{clause_at}
 use Rattle.book.proofs.Laws.Sets.{head_low, owning_start, owning_next, owning_end}
 use Rattle.needs.proofs.Laws.Calls.{heading_start, heading_next, heading_end}
@@ -20,14 +20,14 @@ After-predicate-p = Lts.After-predicate Tie.the-claims Reads.Pre Reads.Post goal
 pub loop-k-init : goal.loop-k-init
 loop-k-init c =
     let s = c.args in (
-      owning_start s.rules.now s.clauses s.own.now (omega arith) c.requires.2,
-      heading_start s.rules.now s.clauses,
+      owning_start s.book.now.rules s.book.now.clauses s.own.now (omega arith) c.requires.2,
+      heading_start s.book.now.rules s.book.now.clauses,
     )
 
 -- in a turn: p is the predicate of head k
 module _ (c : After-predicate-p) where
-  is : c.predicate-p.result ≡ (clause_at c.args.rules.now c.loop-k.k).head.pred
-  is = c.predicate-p.ensures ∙ ap (λ (h : Head). h.pred) c.head_at.ensures
+  is : c.predicate-p.result ≡ (clause_at c.args.book.now.rules c.loop-k.k).head.pred
+  is = c.predicate-p.ensures ∙ ap (λ (h : Head). h.pred) (c.head.ensures ∙ ap (λ (k : Clause). k.head) c.clause.ensures)
 
   low : c.predicate-p.result < max_predicates
   low = head_low c.loop-k.k c.predicate-p.result c.requires.1 (omega arith) is

@@ -5,4 +5,4 @@ use Rattle.needs.proofs.Laws.Calls.{Heading}
 use Rattle.needs.proofs.calls.own_clauses.Given as goal
 
 abbrev pub invariant-loop-k : goal.invariant-loop-k
-invariant-loop-k l = Owning l.rules l.clauses l.k l.own × Heading l.rules l.clauses l.k l.heads
+invariant-loop-k l = Owning l.book.rules l.book.clauses l.k l.own × Heading l.book.rules l.book.clauses l.k l.heads

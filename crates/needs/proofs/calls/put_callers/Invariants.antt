@@ -3,4 +3,4 @@ use Rattle.needs.proofs.Laws.Calls.{Gathering}
 use Rattle.needs.proofs.calls.put_callers.Given as goal
 
 abbrev pub invariant-loop-k : goal.invariant-loop-k
-invariant-loop-k l = Gathering l.rules l.clauses l.k l.callers
+invariant-loop-k l = Gathering l.book.rules l.book.clauses l.k l.callers
