@@ -22,7 +22,8 @@ use book::limits::{
 use book::mark::Phase;
 use masks::reply::Reply;
 use needs::settle;
-use ordering::{Order, first_order};
+use ordering::first_order;
+use ordering::order::Order;
 use plan::image::put_query;
 use reading::{ended, read_body, read_book};
 use records::field::Found;
@@ -178,9 +179,9 @@ fn read_page_query<'a>(
 
 // The answer to the query that is stored, from a place on. It depends on the table and the query alone, and has at most 12 bytes: 0, a mark, n and eight
 // places.
-fn answer_query<'a>(
-    rules: &'a [u64; RULES_SIZE],
-    admits: &'a [u64; MAX_PREDICATES],
+fn answer_query(
+    rules: &[u64; RULES_SIZE],
+    admits: &[u64; MAX_PREDICATES],
     out: &mut [u8],
     at: usize,
 ) -> Verdict
@@ -188,20 +189,24 @@ fn answer_query<'a>(
     ensures wrote { Wrote out.old out.new at result.next (answer (table_in admits.now max_predicates) (clause_at rules.now max_clauses).body) }
     ensures accepted_value { (result.accepted ≡ accepts (table_in admits.now max_predicates) (clause_at rules.now max_clauses).body) × (result.next ≤ at + 12) }
 {
-    let o = first_order(rules, MAX_CLAUSES, admits, 0);
-    let next = put_answer(out, at, o);
-    let accepted = o.found;
-    Verdict { next, accepted }
+    let order = first_order(rules, MAX_CLAUSES, admits, 0);
+    let next = put_answer(out, at, order);
+    Verdict {
+        next,
+        accepted: order.is_some(),
+    }
 }
 
 // "a byte 0 or 7 and, after 0, its `QO` record"
-fn put_answer(out: &mut [u8], at: usize, o: Order) -> usize
-    requires { Room out.old at (answered (order_of o)) }
-    ensures { Wrote out.old out.new at result (answered (order_of o)) }
+fn put_answer(out: &mut [u8], at: usize, order: Option<Order>) -> usize
+    requires { Room out.old at (answered (order_of order)) }
+    ensures { Wrote out.old out.new at result (answered (order_of order)) }
 {
-    if !o.found {
-        return put_byte(out, at, 7);
+    match order {
+        Some(o) => {
+            let p = put_byte(out, at, 0);
+            put_query(out, p, &o)
+        }
+        None => put_byte(out, at, 7),
     }
-    let p = put_byte(out, at, 0);
-    put_query(out, p, o)
 }

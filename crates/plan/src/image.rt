@@ -12,28 +12,26 @@ ghost use Rattle.plan.specs.Lent.{EachCallable, row_by, clause_rows, pattern_row
 use book::clause::{head_at, subgoals_at};
 use book::limits::{MAX_CLAUSES, MAX_PREDICATES, RULES_SIZE};
 use masks::constraint::count;
-use ordering::{Order, first_order, head_bound, order_length};
+use masks::members::Members;
+use ordering::order::Order;
+use ordering::{first_order, head_bound};
 use writing::put::{put_byte, put_bytes, put_mark};
 
 // How many bytes the plan has: each predicate's clauses have a row for each of its patterns.
-pub fn plan_length<'a>(
+pub fn plan_length(
     preds: u8,
-    rules: &'a [u64; RULES_SIZE],
-    own: &'a [u64; MAX_PREDICATES],
-    reached: &'a [u64; MAX_PREDICATES],
+    rules: &[u64; RULES_SIZE],
+    own: &[u64; MAX_PREDICATES],
+    reached: &[u64; MAX_PREDICATES],
 ) -> usize
     requires { preds ≤ max_predicates }
     ensures { result ≡ plan_length preds rules.now own.now reached.now }
 {
     let mut total = 3 + subgoals_at(rules, MAX_CLAUSES);
-    let mut p: u8 = 0;
-    while p < preds {
-        let q = p as usize;
-        if own[q] != 0 {
-            let patterns = count(reached[q]);
-            total += rows_length(rules, own[q]) * patterns;
+    for p in 0..preds as usize {
+        if own[p] != 0 {
+            total += rows_length(rules, own[p]) * count(reached[p]);
         }
-        p += 1;
     }
     total
 }
@@ -44,53 +42,47 @@ fn rows_length(rules: &[u64; RULES_SIZE], own: u64) -> usize
     ensures upper_bound { result ≤ max_clauses * (5 + max_subgoals) }
 {
     let mut total: usize = 0;
-    let mut rest = own;
-    while rest != 0 {
-        let k = u64::trailing_zeros(rest) as usize;
-        rest = rest & (rest - 1);
-        total += 5 + subgoals_at(rules, k);
+    for k in Members::of(own) {
+        total += 5 + subgoals_at(rules, k as usize);
     }
     total
 }
 
 // "`QO`, n, n places; then for each reached predicate with clauses, ascending by predicate and then pattern", from the output's start.
-pub fn put_plan<'a>(
+pub fn put_plan(
     out: &mut [u8],
-    query: Order,
+    query: &Order,
     preds: u8,
-    rules: &'a [u64; RULES_SIZE],
-    table: &'a [u64; MAX_PREDICATES],
-    own: &'a [u64; MAX_PREDICATES],
-    reached: &'a [u64; MAX_PREDICATES],
+    rules: &[u64; RULES_SIZE],
+    table: &[u64; MAX_PREDICATES],
+    own: &[u64; MAX_PREDICATES],
+    reached: &[u64; MAX_PREDICATES],
 ) -> usize
-    requires { (preds ≤ max_predicates) × EachCallable rules.now own.now × Full table.now × Room out.old 0 (plan_bytes (places_of query) preds rules.now table.now own.now reached.now) }
-    ensures { Wrote out.old out.new 0 result (plan_bytes (places_of query) preds rules.now table.now own.now reached.now) }
+    requires { (preds ≤ max_predicates) × EachCallable rules.now own.now × Full table.now × Room out.old 0 (plan_bytes (places_of query.now) preds rules.now table.now own.now reached.now) }
+    ensures { Wrote out.old out.new 0 result (plan_bytes (places_of query.now) preds rules.now table.now own.now reached.now) }
 {
     let mut at = put_query(out, 0, query);
-    let mut p: u8 = 0;
-    while p < preds {
-        let q = p as usize;
-        at = put_patterns(out, at, rules, table, own[q], reached[q]);
-        p += 1;
+    for p in 0..preds as usize {
+        at = put_patterns(out, at, rules, table, own[p], reached[p]);
     }
     at
 }
 
 // "`QO`, n, n places".
-pub fn put_query(out: &mut [u8], at: usize, o: Order) -> usize
-    requires { Room out.old at (enc_query (places_of o)) }
-    ensures { Wrote out.old out.new at result (enc_query (places_of o)) }
+pub fn put_query(out: &mut [u8], at: usize, o: &Order) -> usize
+    requires { Room out.old at (enc_query (places_of o.now)) }
+    ensures { Wrote out.old out.new at result (enc_query (places_of o.now)) }
 {
     let p = put_mark(out, at, b"QO");
-    put_order(out, p, o)
+    put_places(out, p, o.places())
 }
 
 // The rows of the clauses of a set, under each pattern of a set.
-fn put_patterns<'a>(
+fn put_patterns(
     out: &mut [u8],
     at: usize,
-    rules: &'a [u64; RULES_SIZE],
-    table: &'a [u64; MAX_PREDICATES],
+    rules: &[u64; RULES_SIZE],
+    table: &[u64; MAX_PREDICATES],
     own: u64,
     patterns: u64,
 ) -> usize
@@ -98,21 +90,18 @@ fn put_patterns<'a>(
     ensures { Wrote out.old out.new at result (pattern_rows rules.now table.now own patterns) }
 {
     let mut p = at;
-    let mut rest = patterns;
-    while rest != 0 {
-        let a = u64::trailing_zeros(rest) as u8;
-        rest = rest & (rest - 1);
+    for a in Members::of(patterns) {
         p = put_clauses(out, p, rules, table, own, a);
     }
     p
 }
 
 // The rows of the clauses of a set under a head pattern: "for each of its clauses in turn".
-fn put_clauses<'a>(
+fn put_clauses(
     out: &mut [u8],
     at: usize,
-    rules: &'a [u64; RULES_SIZE],
-    table: &'a [u64; MAX_PREDICATES],
+    rules: &[u64; RULES_SIZE],
+    table: &[u64; MAX_PREDICATES],
     own: u64,
     a: u8,
 ) -> usize
@@ -120,21 +109,18 @@ fn put_clauses<'a>(
     ensures { Wrote out.old out.new at result (clause_rows rules.now table.now own a) }
 {
     let mut p = at;
-    let mut rest = own;
-    while rest != 0 {
-        let k = u64::trailing_zeros(rest) as u8;
-        rest = rest & (rest - 1);
+    for k in Members::of(own) {
         p = put_row(out, p, rules, table, k, a);
     }
     p
 }
 
 // "`CO`, clause, pattern, n, n places": clause k in its first good order under a head pattern.
-fn put_row<'a>(
+fn put_row(
     out: &mut [u8],
     at: usize,
-    rules: &'a [u64; RULES_SIZE],
-    table: &'a [u64; MAX_PREDICATES],
+    rules: &[u64; RULES_SIZE],
+    table: &[u64; MAX_PREDICATES],
     k: u8,
     a: u8,
 ) -> usize
@@ -143,20 +129,22 @@ fn put_row<'a>(
 {
     let i = k as usize;
     let bound = head_bound(head_at(rules, i), a);
-    let o = first_order(rules, i, table, bound);
+    let order = first_order(rules, i, table, bound);
     let p = put_mark(out, at, b"CO");
     let q = put_byte(out, p, k);
     let r = put_byte(out, q, a);
-    put_order(out, r, o)
+    match &order {
+        Some(o) => put_places(out, r, o.places()),
+        None => put_places(out, r, &[]),
+    }
 }
 
 // n and the n places.
-fn put_order(out: &mut [u8], at: usize, o: Order) -> usize
-    requires { Room out.old at (length (places_of o) ∷ places_of o) }
-    ensures { Wrote out.old out.new at result (length (places_of o) ∷ places_of o) }
+fn put_places(out: &mut [u8], at: usize, places: &[u8]) -> usize
+    requires few { length places.now ≤ max_subgoals }
+    requires room { Room out.old at (length places.now ∷ places.now) }
+    ensures { Wrote out.old out.new at result (length places.now ∷ places.now) }
 {
-    let n = order_length(o);
-    let p = put_byte(out, at, n as u8);
-    let places = o.places;
-    put_bytes(out, p, &places[..n])
+    let p = put_byte(out, at, places.len() as u8);
+    put_bytes(out, p, places)
 }

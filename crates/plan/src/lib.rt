@@ -44,27 +44,26 @@ pub fn plan(book: &[u8], out: &mut [u8]) -> Reply
 
 // The plan of a valid book, by the patterns that its final table admits: written from the output's start, or 7 where the query has no good order, or 9
 // where the output is too short.
-fn give<'a>(
+fn give(
     preds: u8,
     clauses: u8,
-    rules: &'a [u64; RULES_SIZE],
-    own: &'a [u64; MAX_PREDICATES],
-    admits: &'a [u64; MAX_PREDICATES],
+    rules: &[u64; RULES_SIZE],
+    own: &[u64; MAX_PREDICATES],
+    admits: &[u64; MAX_PREDICATES],
     out: &mut [u8],
 ) -> Reply
     requires { SomeLent preds clauses rules.now own.now admits.now }
     ensures { Gives preds clauses rules.now own.now admits.now out.old result out.new }
 {
-    let query = first_order(rules, MAX_CLAUSES, admits, 0);
-    if !query.found {
+    let Some(query) = first_order(rules, MAX_CLAUSES, admits, 0) else {
         return Reply::refused(7, 0);
-    }
+    };
     let mut reached = [0u64; MAX_PREDICATES];
-    reach(rules, admits, own, clauses, query, &mut reached);
+    reach(rules, admits, own, clauses, &query, &mut reached);
     let n = plan_length(preds, rules, own, &reached);
     let r = Reply::in_room(n, 0, out.len());
     if r.number == 0 {
-        put_plan(out, query, preds, rules, admits, own, &reached);
+        put_plan(out, &query, preds, rules, admits, own, &reached);
     }
     r
 }

@@ -2,13 +2,11 @@
 -- nothing.
 use mathlib.Core.Path.{◌≡◌, refl, ap, ap₂, ◌∙◌}
 use mathlib.Core.Bool.{Bool, true, false, cond}
-use mathlib.Core.List.{List}
-use Prim.Native.Nat.{ℕ, suc, ◌+◌, ◌-◌, ◌*◌, ◌^◌, ◌≤◌, ◌<◌}
+use mathlib.Core.List.{List, [], ◌∷◌}
+use Prim.Native.Nat.{ℕ, suc, ◌+◌, ◌*◌, ◌≤◌, ◌<◌}
 use native.Mathlib.Nat.{zero-mul, mul-le-mul}
 use native.Mathlib.Numerals.{add-one}
 use native.Mathlib.Omega.{arith}
-use lib.Bits.{bit_and}
-use lib.Count.{count_trailing_zeros}
 use lib.ListN.{length, get_or}
 use Rattle.masks.specs.Limits.{all_patterns}
 use Rattle.masks.specs.Set.{bit_at, members}
@@ -17,7 +15,7 @@ use Rattle.book.specs.Held.{clause_at}
 use Rattle.tables.specs.Table.{sum_below}
 use Rattle.plan.specs.Lent.{rows_length, plan_length}
 use Rattle.masks.proofs.Laws.Set.{bit_at_zero}
-use Rattle.masks.proofs.Laws.Members.{Over, over_start, over_end, over_lowest, over_member, over_here, over_next}
+use Rattle.masks.proofs.Laws.Loops.{Over, over_start, over_end, over_small, over_member, over_here, over_next}
 use Rattle.book.proofs.Laws.Held.{clause_at_few}
 use Rattle.tables.proofs.Laws.Sums.{sum_cong, sum_most}
 
@@ -46,30 +44,27 @@ rows_none rules = sum_cong (row_length rules 0) (λ k. 0) max_clauses (λ k h. a
 abbrev Total : List ℕ → ℕ → ℕ → ℕ → Type 0
 Total rules own total k = total ≡ sum_below (row_length rules own) k
 
--- the loop: those of `rest` are still to be added
-pub record Adding (rules : List ℕ) (own total rest : ℕ) : Type 0 where
-  pub over : Over (Total rules own total) max_clauses own rest
+-- the loop: those of the members left are still to be added
+pub record Adding (rules : List ℕ) (own total : ℕ) (left : List ℕ) : Type 0 where
+  pub over : Over (Total rules own total) own left
 
-pub adding_start : (rules : List ℕ) (own : ℕ) → own < 2 ^ max_clauses → Adding rules own 0 own
-adding_start rules own l = record { over = over_start (Total rules own 0) max_clauses own l refl }
+pub adding_start : (rules : List ℕ) (own : ℕ) → Adding rules own 0 (members own)
+adding_start rules own = record { over = over_start (Total rules own 0) own refl }
 
-module _ {rules : List ℕ} {own total rest : ℕ} (m : Adding rules own total rest) where
+module _ {rules : List ℕ} {own total : ℕ} {left : List ℕ} (m : Adding rules own total left) where
   skip : (k : ℕ) → bit_at own k ≡ false → Total rules own total k → Total rules own total (suc k)
   skip k t e = rw t (omega arith)
 
-  pub adding_end : rest ≡ 0 → total ≡ rows_length rules own
+  pub adding_end : left ≡ [] → total ≡ rows_length rules own
   unfolding rows_length
-  adding_end z = over_end (Total rules own total) max_clauses own rest skip m.over z
+  adding_end z = over_end (Total rules own total) own left skip m.over z
 
-  module _ (z : rest ≡ 0 → ⊥) where
-    abbrev k : ℕ
-    k = count_trailing_zeros max_clauses rest
-
+  module _ {k : ℕ} {others : List ℕ} (z : left ≡ k ∷ others) where
     pub adding_low : k < max_clauses
-    adding_low = (over_lowest (Total rules own total) max_clauses own rest skip m.over z).small
+    adding_low = over_small (Total rules own total) own left skip m.over k others z
 
     here : Total rules own total k
-    here = over_here (Total rules own total) max_clauses own rest skip m.over z
+    here = over_here (Total rules own total) own left skip m.over k others z
 
     -- one row more is not too much
     pub adding_most : {n : ℕ} → n ≡ length (clause_at rules k).body → total + (5 + n) ≤ max_clauses * (5 + max_subgoals)
@@ -80,11 +75,11 @@ module _ {rules : List ℕ} {own total rest : ℕ} (m : Adding rules own total r
         let h = sum_most (row_length rules own) (5 + max_subgoals) k (row_most rules own) in
         omega arith
 
-    pub adding_next : {n : ℕ} → n ≡ length (clause_at rules k).body → Adding rules own (total + (5 + n)) (bit_and rest (rest - 1))
+    pub adding_next : {n : ℕ} → n ≡ length (clause_at rules k).body → Adding rules own (total + (5 + n)) others
     adding_next {n} e =
-        let t = over_member (Total rules own total) max_clauses own rest skip m.over z in
+        let t = over_member (Total rules own total) own left skip m.over k others z in
         let h = here in
-        record { over = over_next (Total rules own total) max_clauses own rest skip m.over z (Total rules own (total + (5 + n))) (rw t (omega arith)) }
+        record { over = over_next (Total rules own total) own left skip m.over k others z (Total rules own (total + (5 + n))) (rw t (omega arith)) }
 
 -- ---- the plan: each predicate's rows, as often as it has patterns
 

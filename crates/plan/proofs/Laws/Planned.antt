@@ -2,7 +2,7 @@
 -- final table; what they reach, they reach in good orders, so they are the orders chosen; and the rows come out as the definition has them. Assumes
 -- nothing.
 use mathlib.Core.Path.{◌≡◌, refl, sym, ap, ap₂, ◌∙◌, subst}
-use mathlib.Core.Bool.{true, false, cond}
+use mathlib.Core.Bool.{true, cond}
 use mathlib.Core.List.{List, [], ◌∷◌, ◌++◌, append-nil}
 use mathlib.Core.Option.{Option, none, some}
 use Prim.Native.Nat.{ℕ, ◌+◌, ◌*◌, ◌≤◌, ◌<◌, min}
@@ -26,8 +26,8 @@ use Rattle.reading.specs.Judged.{BookHeld}
 use Rattle.reading.specs.declared.Reading.{Reading}
 use Rattle.ordering.specs.Adorn.{Bound, nothing, head_bound}
 use Rattle.ordering.specs.Good.{first_good, is_some}
-use Rattle.ordering.specs.Held.{or_none, order_of, places_of}
-use Rattle.ordering.specs.declared.Order.{Order}
+use Rattle.ordering.specs.Held.{or_none, places_of}
+use Rattle.ordering.specs.declared.order.Order.{Order}
 use Rattle.tables.specs.Table.{final}
 use Rattle.needs.specs.Round.{Settled}
 use Rattle.writing.specs.Wrote.{Room, Wrote}
@@ -264,36 +264,38 @@ module _ (B : Book) (preds clauses : ℕ) (rules own table : List ℕ) (l : Lent
 
 -- ---- what the code gives
 
-module _ (B : Book) (preds clauses : ℕ) (rules own table : List ℕ) (l : Lent B preds clauses rules own table) (q : Order)
-    (e : order_of q ≡ first_good (table_in table max_predicates) (clause_at rules max_clauses).body nothing)
-  where
-    -- no order was found: 7
-    pub given_none : q.found ≡ false → planned B ≡ refused 7 0
-    given_none f = planned_none B (ap is_some (sym (query_order B preds clauses rules own table l)) ∙ ap is_some (sym e) ∙ rw f)
+module _ (B : Book) (preds clauses : ℕ) (rules own table : List ℕ) (l : Lent B preds clauses rules own table) where
+  -- the order that the code finds for the query
+  abbrev first : Option (List ℕ)
+  first = first_good (table_in table max_predicates) (clause_at rules max_clauses).body nothing
 
-    -- one was: a plan
-    module _ (f : q.found ≡ true) (words : List ℕ) (m : ReachedIn rules clauses table words) (n : ℕ) (size : n ≡ plan_length preds rules own words) where
-      given_some : is_some (first_good (final B) B.query nothing) ≡ true
-      given_some = ap is_some (sym (query_order B preds clauses rules own table l)) ∙ ap is_some (sym e) ∙ rw f
+  -- no order was found: 7
+  pub given_none : none ≡ first → planned B ≡ refused 7 0
+  given_none e = planned_none B (ap is_some (sym (query_order B preds clauses rules own table l)) ∙ ap is_some (sym e))
 
-      given_bytes : plan_bytes (places_of q) preds rules table own words ≡ image B
-      given_bytes = plan_bytes_lem B preds clauses rules own table l given_some words m (places_of q) (ap or_none e)
+  -- one was: a plan
+  module _ (q : Order) (e : some (places_of q) ≡ first) (words : List ℕ) (m : ReachedIn rules clauses table words) (n : ℕ) (size : n ≡ plan_length preds rules own words) where
+    given_some : is_some (first_good (final B) B.query nothing) ≡ true
+    given_some = ap is_some (sym (query_order B preds clauses rules own table l)) ∙ ap is_some (sym e)
 
-      given_size : n ≡ length (image B)
-      given_size = size ∙ plan_long B preds clauses rules own table l given_some words m
+    given_bytes : plan_bytes (places_of q) preds rules table own words ≡ image B
+    given_bytes = plan_bytes_lem B preds clauses rules own table l given_some words m (places_of q) (ap or_none e)
 
-      -- there is room for it
-      pub given_room : (out : List ℕ) → n ≤ length out → Room out 0 (plan_bytes (places_of q) preds rules table own words)
-      given_room out h = let z = given_size in let b = ap length given_bytes in omega arith
+    given_size : n ≡ length (image B)
+    given_size = size ∙ plan_long B preds clauses rules own table l given_some words m
 
-      -- 9, or the plan with its length
-      module _ (room : ℕ) {r : Reply} (g : r ≡ in_room n 0 room) {out : List ℕ} where
-        pub given_short : length out ≤ room → (r.number ≡ 0 → ⊥) → Answers (planned B) out r out
-        given_short h z = rw (planned_good B given_some) (answers_short n 0 room g (image B) given_size h z)
+    -- there is room for it
+    pub given_room : (out : List ℕ) → n ≤ length out → Room out 0 (plan_bytes (places_of q) preds rules table own words)
+    given_room out h = let z = given_size in let b = ap length given_bytes in omega arith
 
-        pub given_done : {after : List ℕ} {next : ℕ} → room ≤ length out → (r.number ≡ 9 → ⊥)
-            → Wrote out after 0 next (plan_bytes (places_of q) preds rules table own words) → Answers (planned B) out r after
-        given_done h f w = rw (planned_good B given_some) (answers_done n 0 room g (image B) given_size h f (w.is ∙ ap (sets out 0) given_bytes))
+    -- 9, or the plan with its length
+    module _ (room : ℕ) {r : Reply} (g : r ≡ in_room n 0 room) {out : List ℕ} where
+      pub given_short : length out ≤ room → (r.number ≡ 0 → ⊥) → Answers (planned B) out r out
+      given_short h z = rw (planned_good B given_some) (answers_short n 0 room g (image B) given_size h z)
+
+      pub given_done : {after : List ℕ} {next : ℕ} → room ≤ length out → (r.number ≡ 9 → ⊥)
+          → Wrote out after 0 next (plan_bytes (places_of q) preds rules table own words) → Answers (planned B) out r after
+      given_done h f w = rw (planned_good B given_some) (answers_done n 0 room g (image B) given_size h f (w.is ∙ ap (sets out 0) given_bytes))
 
 -- ---- a book that was read, and settled
 

@@ -1,31 +1,22 @@
 -- `plan::image::put_patterns` meets its contract. The loop goes over the patterns of the set; its invariant: the rows under those passed are
 -- written. Assumes nothing.
-use native.Mathlib.Omega.{arith}
-use borrow.Author.Rules.{rules}
 use Rattle.plan.specs.Lent.{pattern_rows}
-use Rattle.masks.proofs.Laws.Members.{others_less}
-use Rattle.writing.proofs.Laws.Members.{members_start, members_length, members_low, members_room, members_next, members_end}
+use Rattle.plan.proofs.Laws.Rows.{rows_start, rows_same, rows_room, rows_next, rows_end}
 use Rattle.plan.proofs.image.put_patterns.Goals as goal
 
-pub loop-rest-init : goal.loop-rest-init
+pub loop-a-init : goal.loop-a-init
 unfolding pattern_rows
-loop-rest-init c = members_start (search rules) c.requires.2
-
-pub overflow_cast-a : goal.overflow_cast-a
-overflow_cast-a c = let l = members_low c.loop-rest.invariant c.loop-rest-test.true in omega arith
+loop-a-init c = rw (c.into_iter-a-iterator.ensures.into_iter_gives, c.of-a-items.ensures) (rows_start c.requires.2)
 
 pub put_clauses-p-requires : goal.put_clauses-p-requires
-put_clauses-p-requires c = (c.requires.0, c.requires.1, members_room c.loop-rest.invariant c.loop-rest-test.true)
+put_clauses-p-requires c = (c.requires.0, c.requires.1, rows_room c.loop-a.invariant c.in-Some.ensures.steps)
 
-pub loop-rest-smaller : goal.loop-rest-smaller
-loop-rest-smaller c = others_less c.loop-rest.rest c.loop-rest-test.true
-
-pub loop-rest-preserved : goal.loop-rest-preserved
-loop-rest-preserved c = members_next c.loop-rest.invariant c.loop-rest-test.true c.put_clauses-p.ensures
+pub loop-a-preserved : goal.loop-a-preserved
+loop-a-preserved c = rows_next c.loop-a.invariant c.in-Some.ensures.steps c.put_clauses-p.ensures
 
 pub shape_of-out : goal.shape_of-out
-shape_of-out c = members_length c.loop-rest.invariant
+shape_of-out c = rows_same c.loop-a.invariant
 
 pub returns : goal.returns
 unfolding pattern_rows
-returns c = members_end c.loop-rest.invariant c.loop-rest-test.false
+returns c = rows_end c.loop-a.invariant c.in-None.ensures.steps.0

@@ -1,7 +1,7 @@
 -- `plan::image::put_plan` meets its contract. The query's part is written; the loop's invariant: behind it are the rows of the first p predicates.
 -- Assumes nothing.
 use mathlib.Core.List.{List}
-use Prim.Native.Nat.{ℕ, ◌-◌}
+use Prim.Native.Nat.{ℕ}
 use lib.ListN.{get_or}
 use Rattle.masks.specs.Lists.{joined}
 use Rattle.plan.specs.Lent.{pattern_rows}
@@ -14,6 +14,3 @@ rows rules table own words p = pattern_rows rules table (get_or own p 0) (get_or
 
 abbrev pub invariant-loop-p : goal.invariant-loop-p
 invariant-loop-p l = Writing l.preds (joined (rows l.rules l.table l.own l.reached)) (rows l.rules l.table l.own l.reached) (joined (rows l.rules l.table l.own l.reached) l.preds) l.initial.out l.initial.at l.p l.out l.at
-
-abbrev pub decreases-loop-p : goal.decreases-loop-p
-decreases-loop-p l = l.preds - l.p
