@@ -15,7 +15,7 @@ use Rattle.book.specs.Held.{has_mode, book_in}
 use Rattle.std.specs.Prelude.{Result, Ok, Err}
 use Rattle.book.specs.declared.fault.FaultAt.{FaultAt}
 use Rattle.reading.specs.declared.Reading.{Reading}
-use Rattle.reading.specs.Judged.{Listed, checked, BookHeld}
+use Rattle.reading.specs.Judged.{Listed, checked, Judges, BookHeld, BookRead}
 use Rattle.records.specs.Read.{next, value, Reads}
 use Rattle.reading.specs.Stored.{ReadsPredicates, ReadsRules, ReadsBook}
 use Rattle.masks.proofs.Laws.Outcome.{answers_refused}
@@ -67,6 +67,12 @@ module _ {s : List ℕ} {p : Result (ℕ × ℕ) FaultAt} {arities : List ℕ} (
                   given = subst (λ (z : Book). Holds y.with_mode (has_mode z.modes)) (sym h) is.given;
                 };
           }
+
+-- what is read into arrays is judged
+pub read_judges : (s : List ℕ) (q : Result Reading FaultAt) (arities modes rules : List ℕ) → BookRead s q arities modes rules → Judges s q
+unfolding book_in
+read_judges s (Ok r) arities modes rules b = (book_in r.preds arities modes r.clauses rules, b.is, b.listed.each)
+read_judges s (Err e) arities modes rules f = f
 
 -- a fault is the answer of every operation on books
 pub read_refused : (made : Book → Outcome) (s out : List ℕ) (e : FaultAt) → judge s ≡ fault e.fault e.at
