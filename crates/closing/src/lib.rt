@@ -11,6 +11,7 @@ ghost use Rattle.closing.specs.Close.{closing};
 ghost use Rattle.closing.specs.Held.{Lacking, Few, ModesClosed, ClausesKept};
 
 use book::clause::{head_at, move_clause, predicate};
+use book::fault::FaultAt;
 use book::limits::{MAX_PREDICATES, MODES_SIZE, NO_CALL, RULES_SIZE};
 use book::mode::put_mode;
 use masks::constraint::has_member;
@@ -26,9 +27,7 @@ pub fn close(book: &[u8], set: u64, out: &mut [u8]) -> Reply
     ensures { Answers (closing set book.now) out.old result out.new }
 {
     if !lists(book, set) {
-        let b = read_only(book);
-        let r = lacking(b, set);
-        if r.number != 0 {
+        if let Err(r) = with_chosen(read_only(book), set) {
             return r;
         }
     }
@@ -41,18 +40,16 @@ fn lists(book: &[u8], set: u64) -> bool {
     book.get(at) == Some(&b'P')
 }
 
-// What a book is refused with once it is read: its fault, or 8; else 0.
-fn lacking(b: Reading, set: u64) -> Reply
-    ensures { Lacking b set result }
+// What is read of a book that has each chosen predicate; else what it is refused with: its fault, or 8.
+fn with_chosen(read: Result<Reading, FaultAt>, set: u64) -> Result<Reading, Reply>
+    ensures { Lacking read set result }
 {
-    if b.reply.number != 0 {
-        return b.reply;
-    }
+    let b = read?;
     let beyond = chosen_from(set, b.preds);
     if beyond != 0 {
-        return Reply::refused(8, b.preds as u64 + u64::trailing_zeros(beyond) as u64);
+        return Err(Reply::refused(8, b.preds as u64 + u64::trailing_zeros(beyond) as u64));
     }
-    b.reply
+    Ok(b)
 }
 
 // What `close` answers, with room for all of the book.
@@ -62,11 +59,11 @@ fn close_over(book: &[u8], set: u64, out: &mut [u8]) -> Reply
     let mut arities = [0u8; MAX_PREDICATES];
     let mut modes = [0u8; MODES_SIZE];
     let mut rules = [NO_CALL; RULES_SIZE];
-    let b = read_book(book, &mut arities, &mut modes, &mut rules);
-    let r = lacking(b, set);
-    if r.number != 0 {
-        return r;
-    }
+    let read = read_book(book, &mut arities, &mut modes, &mut rules);
+    let b = match with_chosen(read, set) {
+        Ok(b) => b,
+        Err(r) => return r,
+    };
     let mut own = [0u64; MAX_PREDICATES];
     let mut table = [0u64; MAX_PREDICATES];
     let mut admits = [0u64; MAX_PREDICATES];

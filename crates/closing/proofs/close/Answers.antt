@@ -2,10 +2,6 @@
 use Rattle.closing.proofs.Laws.Refused.{lacking_some}
 use Rattle.closing.proofs.close.Goals as goal
 
-pub returns-then-r-ne0 : goal.returns-then-r-ne0
-returns-then-r-ne0 c =
-    lacking_some c.lacking-r.ensures c.read_only-b.ensures
-    c.args.out.now c.if-r-ne0.true
+pub returns-in-Err : goal.returns-in-Err
+returns-in-Err c = lacking_some _ _ _ c.args.out.now c.read_only.ensures c.with_chosen.ensures c.in-Err.is
 
-pub returns : goal.returns
-returns c = c.close_over.ensures

@@ -61,9 +61,9 @@ module _ (r : Range) (s : List ℕ) (at : ℕ) where
 -- ---- what was read, then what follows
 
 -- a fault that is passed on
-pub passed : {V : Type 0} {e : FaultAt} (r : Result V FaultAt) → IsErrAnd r (λ y. y ≡ e) → r ≡ Err e
+pub passed : {V E : Type 0} {e : E} (r : Result V E) → IsErrAnd r (λ y. y ≡ e) → r ≡ Err e
 passed (Ok v) f = absurd f
-passed (Err y) f = ap (λ (z : FaultAt). Err z) f
+passed {V} {E} (Err y) f = ap (λ (z : E). Err z) f
 
 -- an answer is a fault or not
 pub err_ok : {V P : Type 0} {r : Result V FaultAt} {e : FaultAt} {v : V} → r ≡ Err e → r ≡ Ok v → P

@@ -1,15 +1,13 @@
--- `closing::lacking` meets its contract. A book that lacks a chosen predicate has its lowest in the word that begins behind its predicates. Assumes
+-- `closing::with_chosen` meets its contract. A book that lacks a chosen predicate has its lowest in the word that begins behind its predicates. Assumes
 -- nothing.
 use Prim.Native.Nat.{ℕ, ◌+◌, ◌^◌, ◌<◌}
 use native.Mathlib.Omega.{arith}
 use lib.Count.{count_trailing_zeros, trailing_le}
 use borrow.Author.Rules.{rules}
+use Rattle.records.proofs.Laws.Reads.{passed}
 use Rattle.closing.proofs.Laws.Lacked.{lacked_lowest, lacked_none}
-use Rattle.closing.proofs.Laws.Refused.{refused_faulty, refused_lacks, refused_has}
-use Rattle.closing.proofs.lacking.Goals as goal
-
-pub returns-then-b-ne0 : goal.returns-then-b-ne0
-returns-then-b-ne0 c = refused_faulty c.if-b-ne0.true
+use Rattle.closing.proofs.Laws.Refused.{refused_lacks, answered}
+use Rattle.closing.proofs.with_chosen.Goals as goal
 
 -- the count of a word's zeros, and a byte with it
 count_small : (w : ℕ) → count_trailing_zeros 64 w < 2 ^ 64
@@ -26,9 +24,14 @@ overflow_add-b c = record { fits = sum_small _ _ (search rules) }
 
 pub returns-then-beyond-ne0 : goal.returns-then-beyond-ne0
 returns-then-beyond-ne0 c =
-    refused_lacks c.if-b-ne0.false
-    (lacked_lowest _ _ c.chosen_from-beyond.result (search rules) c.chosen_from-beyond.ensures (search rules) c.if-beyond-ne0.true) c.refused.ensures
+    rw c.in_ok-b.was
+    (refused_lacks _ _ (lacked_lowest c.args.set c.in_ok-b.b.preds c.chosen_from-beyond.result (search rules) c.chosen_from-beyond.ensures (search rules) c.if-beyond-ne0.true)
+    c.refused.ensures)
+
+pub returns-in_err-b : goal.returns-in_err-b
+returns-in_err-b c = rw c.in_err-b.was (passed _ c.from_residual.ensures.1)
 
 pub returns : goal.returns
 returns c =
-    refused_has c.if-b-ne0.false (lacked_none _ _ c.chosen_from-beyond.result (search rules) c.chosen_from-beyond.ensures c.if-beyond-ne0.false)
+    rw c.in_ok-b.was
+    (answered _ _ (lacked_none c.args.set c.in_ok-b.b.preds c.chosen_from-beyond.result (search rules) c.chosen_from-beyond.ensures c.if-beyond-ne0.false))
