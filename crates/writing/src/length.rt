@@ -1,5 +1,4 @@
-// How many bytes a book has, and its parts. Each part also says how many it has at most, so that the sums fit. A lent array is read through a
-// slice, whose length the proof knows.
+// How many bytes a book has, and its parts. Each part also says how many it has at most, so that the sums fit.
 ghost use Rattle.std.specs.Prelude.{◌≡◌, ◌+◌, ◌*◌, min, ◌≤◌, length};
 ghost use Rattle.masks.specs.Limits.{max_arity, max_masks};
 ghost use Rattle.book.specs.Limits.{max_predicates, max_clauses, max_subgoals};
@@ -23,7 +22,7 @@ pub fn book_length<'a>(
     requires { HaveMode modes.now given }
     ensures { result ≡ length (encode (book_in preds arities.now modes.now clauses rules.now)) }
 {
-    let n = (preds as usize).min(MAX_PREDICATES);
+    let n = (preds as usize).min(arities.len());
     3 * n
         + modes_length(modes, given)
         + clauses_length(clauses, rules)

@@ -81,7 +81,7 @@ fn put_predicates(out: &mut [u8], at: usize, preds: u8, arities: &[u8; MAX_PREDI
     requires { Room out.old at (run enc_predicate (take preds arities.now)) }
     ensures { Wrote out.old out.new at result (run enc_predicate (take preds arities.now)) }
 {
-    let n = (preds as usize).min(MAX_PREDICATES);
+    let n = (preds as usize).min(arities.len());
     let mut p = at;
     for &arity in &arities[..n] {
         let q = put_mark(out, p, b"PR");
@@ -153,12 +153,9 @@ fn put_subgoal(out: &mut [u8], at: usize, call: u64) -> usize
     requires { Room out.old at (enc_subgoal (call_in call)) }
     ensures { Wrote out.old out.new at result (enc_subgoal (call_in call)) }
 {
-    if negated(call) {
-        let p = put_mark(out, at, b"NG");
-        return put_call(out, p, call);
-    }
-    let q = put_mark(out, at, b"SG");
-    put_call(out, q, call)
+    let mark = if negated(call) { b"NG" } else { b"SG" };
+    let p = put_mark(out, at, mark);
+    put_call(out, p, call)
 }
 
 // "predicate, one argument per position".
