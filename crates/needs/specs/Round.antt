@@ -57,6 +57,14 @@ abbrev pub Rounds : List ℕ → List ℕ → List ℕ → List ℕ → ℕ → 
 Rounds rules own table old due new changed =
     (B : Book) → Given B rules own → Due B (table_in table (length B.arities)) due → Stepped B (table_in table (length B.arities)) old new changed
 
+-- two tables are the same, word by word, or they are not
+abbrev pub AllSame : List ℕ → List ℕ → Type 0
+AllSame old new = (p : ℕ) → p < max_predicates → get_or new p 0 ≡ get_or old p 0
+
+pub record Compares (old new : List ℕ) (r : Bool) : Type 0 where
+  pub same· : r ≡ true → AllSame old new
+  pub other : r ≡ false → AllSame old new → ⊥
+
 -- the predicates of a set have the masks of what the words admit, and the others what they had
 pub record Renewed (table words : List ℕ) (changed : ℕ) (after : List ℕ) : Type 0 where
   pub those : (p : ℕ) → p < max_predicates → bit_at changed p ≡ true → entry_in after p ≡ written (bit_at (get_or words p 0)) all_patterns

@@ -1,5 +1,4 @@
-// How many bytes a book has, and its parts. Each part also says how many it has at most, so that the sums fit. A lent array is read through a
-// slice, whose length the proof knows.
+// How many bytes a book has, and its parts. Each part also says how many it has at most, so that the sums fit.
 ghost use Rattle.std.specs.Prelude.{◌≡◌, ◌+◌, ◌*◌, ◌≤◌, length};
 ghost use Rattle.masks.specs.Limits.{max_arity, max_masks};
 ghost use Rattle.book.specs.Limits.{max_predicates, max_clauses, max_subgoals};

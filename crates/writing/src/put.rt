@@ -1,5 +1,4 @@
-// Bytes and marks, stored from a place on; each answers the place after it. A lent array is read through a slice, whose length the
-// proof knows.
+// Bytes and marks, stored from a place on; each answers the place after it.
 ghost use Rattle.std.specs.Prelude.{◌≡◌, [], ◌∷◌, min, length};
 ghost use Rattle.masks.specs.Set.{members};
 ghost use Rattle.writing.specs.Wrote.{Room, Wrote};
@@ -11,9 +10,8 @@ pub fn put_mark(out: &mut [u8], at: usize, m: &[u8; 2]) -> usize
     requires { Room out.old at m.now }
     ensures { Wrote out.old out.new at result m.now }
 {
-    let bytes: &[u8] = m;
-    let p = put_byte(out, at, bytes[0]);
-    put_byte(out, p, bytes[1])
+    let p = put_byte(out, at, m[0]);
+    put_byte(out, p, m[1])
 }
 
 // Bytes, one after the other.

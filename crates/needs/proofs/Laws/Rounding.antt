@@ -5,9 +5,9 @@
 use mathlib.Core.Path.{◌≡◌, refl, sym, ap, ap₂, ◌∙◌, subst}
 use mathlib.Core.Bool.{Bool, true, false, ◌&&◌, ◌||◌, or-false}
 use mathlib.Core.List.{List}
-use Prim.Native.Nat.{ℕ, suc, ◌^◌, ◌≤◌, ◌<◌}
+use Prim.Native.Nat.{ℕ, suc, ◌+◌, ◌^◌, ◌≤◌, ◌<◌}
 use native.Mathlib.Omega.{arith}
-use lib.Bits.{bit_or}
+use lib.Bits.{bit_or, bit_xor, and_le_l, and_le_r, or_add_and, xor_self}
 use lib.Dec.{eqb, ltb}
 use lib.ListN.{length, get_or, set, length-set}
 use lib.Seq.{get_or-set_same, get_or-set_other}
@@ -17,6 +17,7 @@ use Rattle.masks.specs.Constraint.{admits}
 use Rattle.masks.specs.Patterns.{EachLane}
 use Rattle.masks.proofs.Laws.Logic.{by_bool, clash, same, and_left, and_right, and_intro, or_case}
 use Rattle.masks.proofs.Laws.Set.{bit_at_zero, bit_at_more}
+use Rattle.masks.proofs.Laws.Words.{new_none}
 use Rattle.book.specs.Limits.{max_predicates, max_clauses}
 use Rattle.book.specs.Book.{Clause, Book}
 use Rattle.book.specs.Held.{clause_at}
@@ -28,7 +29,7 @@ use Rattle.tables.specs.Table.{good, step}
 use Rattle.tables.proofs.Laws.Valid.{defined_known, bodies_known, clause_callable}
 use Rattle.tables.proofs.Laws.Round.{gets_good, good_gets, good_cut}
 use Rattle.tables.proofs.Laws.Full.{step_full}
-use Rattle.needs.specs.Round.{all_good, Stays, Given, Due, Stepped}
+use Rattle.needs.specs.Round.{all_good, Stays, Given, Due, Stepped, AllSame, Compares}
 use Rattle.needs.proofs.Laws.Calls.{own_good}
 
 -- ---- what a book in the arrays gives
@@ -202,6 +203,44 @@ module _ (rules own· table old : List ℕ) (due : ℕ) where
         }
 
     -- they are
-    pub rounding_still : {new : List ℕ} {changed : ℕ} → Rounding new changed max_predicates → new ≡ old → Stepped B (table_in table (length B.arities)) old new 0
+    pub rounding_still : {new : List ℕ} {changed : ℕ} → Rounding new changed max_predicates → AllSame old new
+        → Stepped B (table_in table (length B.arities)) old new 0
     rounding_still r s =
-        record { admitted = stepped r; unmarked = λ p h e. ap (λ (l : List ℕ). get_or l p 0) s; marked = λ p e. clash e (bit_at_zero p) }
+        record { admitted = stepped r; unmarked = λ p h e. s p h; marked = λ p e. clash e (bit_at_zero p) }
+
+-- ---- the two tables compared: nothing differs exactly where the first n words are the same
+
+pub record Comparing (old new : List ℕ) (differ n : ℕ) : Type 0 where
+  pub none : differ ≡ 0 → (p : ℕ) → p < n → get_or new p 0 ≡ get_or old p 0
+  pub some : ((p : ℕ) → p < n → get_or new p 0 ≡ get_or old p 0) → differ ≡ 0
+
+module _ (old new : List ℕ) where
+  pub comparing_start : Comparing old new 0 0
+  comparing_start = record { none = λ e p h. absurd (omega arith); some = λ f. refl }
+
+  pub comparing_next : (differ n : ℕ) → Comparing old new differ n → Comparing old new (bit_or differ (bit_xor (get_or old n 0) (get_or new n 0))) (n + 1)
+  comparing_next differ n g =
+      let x = bit_xor (get_or old n 0) (get_or new n 0) in
+      let l = and_le_l differ x in
+      let r = and_le_r differ x in
+      let s = or_add_and differ x in
+      record {
+        none = λ e p h.
+            by_bool (eqb p n)
+            (λ t. let z = eqb-true p n t in rw z (sym (new_none (get_or old n 0) (get_or new n 0) (omega arith))))
+            (λ t. let ne = eqb-false p n t in g.none (omega arith) p (omega arith));
+        some = λ f.
+            let d = g.some (λ p h. f p (omega arith)) in
+            let z : x ≡ 0 = ap (bit_xor (get_or old n 0)) (f n (omega arith)) ∙ xor_self (get_or old n 0) in
+            ap₂ bit_or d z ∙ or_zero;
+      }
+    where
+      or_zero : bit_or 0 0 ≡ 0
+      or_zero = refl
+
+  pub comparing_end : (differ n : ℕ) → n ≡ max_predicates → Comparing old new differ n → Compares old new (eqb differ 0)
+  comparing_end differ n e g =
+      record {
+        same· = λ t p h. g.none (eqb-true differ 0 t) p (omega arith);
+        other = λ t f. eqb-false differ 0 t (g.some (λ p h. f p (omega arith)));
+      }

@@ -4,7 +4,6 @@ use mathlib.Core.Path.{sym, subst}
 use mathlib.Core.List.{List}
 use Prim.Native.Nat.{ℕ}
 use native.Mathlib.Omega.{arith}
-use Rattle.std.specs.Cmp.Lexicographic.{same_text}
 use Rattle.masks.proofs.Laws.Loops.{over_start, over_end, over_small, over_member, over_here, over_next}
 use Rattle.needs.proofs.Laws.Rounding.{given_callable, Rounding, rounding_start, rounding_skip, rounding_same, rounding_new, rounding_end, rounding_still}
 use Rattle.needs.proofs.round.round.Goals as goal
@@ -58,15 +57,15 @@ loop-p-preserved c =
     (over_here _ _ _ (rounding_skip _ _ _ _ _ _ _) i _ _ e) c.if-good-old.false)
 
 -- all that are due are done, and the tables are the same, or not
-pub returns-then-eq : goal.returns-then-eq
-returns-then-eq c =
+pub returns-then-same : goal.returns-then-same
+returns-then-same c =
     let s = c.args in
     let r = c.requires.0 in
     let end = over_end _ _ _ (rounding_skip _ _ _ _ _ _ _) c.loop-p.invariant c.in-None.ensures.steps.0 in
-    λ B g u. rounding_still s.rules.now s.own.now s.table.now s.old s.due B g r.2 u end (same_text _ _ c.if-eq.ensures)
+    λ B g u. rounding_still s.rules.now s.own.now s.table.now s.old s.due B g r.2 u end (c.same.ensures.same· c.if-same.true)
 
-pub returns-else-eq : goal.returns-else-eq
-returns-else-eq c =
+pub returns-else-same : goal.returns-else-same
+returns-else-same c =
     let s = c.args in
     let r = c.requires.0 in
     let end = over_end _ _ _ (rounding_skip _ _ _ _ _ _ _) c.loop-p.invariant c.in-None.ensures.steps.0 in
