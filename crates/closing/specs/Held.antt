@@ -2,25 +2,18 @@
 use Rattle.std.specs.Prelude.{◌≡◌, Bool, true, cond, List, [], ◌∷◌, ℕ, ◌≤◌, ◌<◌, length, Result, Ok, Err}
 use Rattle.std.proofs.Math.Option.{Option, none, some}
 use Rattle.masks.specs.Limits.{max_masks}
-use Rattle.masks.specs.declared.reply.Reply.{Reply}
 use Rattle.book.specs.Limits.{max_predicates, max_clauses}
 use Rattle.book.specs.Book.{Mode}
-use Rattle.book.specs.Format.{number}
 use Rattle.book.specs.Held.{mode_at, clause_at, clauses_of}
 use Rattle.book.specs.Table.{entry_in}
-use Rattle.book.specs.declared.fault.FaultAt.{FaultAt}
-use Rattle.reading.specs.declared.Reading.{Reading}
-use Rattle.closing.specs.Close.{kept_clauses, lacked}
+use Rattle.book.specs.declared.refusal.Refusal.{Refusal}
+use Rattle.book.specs.declared.refusal.Refusal.TheVariants.{Lacks}
+use Rattle.closing.specs.Close.{kept_clauses}
 
--- what is read of a book that lacks a chosen predicate is 8 and the lowest of them; else it stays
-abbrev pub unless_lacking : Option ℕ → Reading → Result Reading Reply
-unless_lacking (some p) b = Err (record { number = 8; value = p; rounds = 0 })
-unless_lacking none b = Ok b
-
--- a book that is read is refused with its fault, or with 8 and the lowest chosen number that it lacks; else it is answered
-abbrev pub Lacking : Result Reading FaultAt → ℕ → Result Reading Reply → Type 0
-Lacking (Ok b) set r = r ≡ unless_lacking (lacked set b.preds) b
-Lacking (Err e) set r = r ≡ Err (record { number = number e.fault; value = e.at; rounds = 0 })
+-- a chosen predicate that the book lacks is a refusal; where there is none, there is nothing to say
+abbrev pub unless_lacking : Option ℕ → Result Unit Refusal
+unless_lacking (some p) = Err (Lacks p)
+unless_lacking none = Ok tt
 
 -- each chosen predicate has at most 20 masks in the table
 abbrev pub Few : (ℕ → Bool) → List ℕ → Type 0

@@ -2,23 +2,25 @@
 // it where bit p is set.
 #![tactic(auto)]
 
-ghost use Rattle.std.specs.Prelude.{◌+◌, ◌≤◌};
-ghost use Rattle.masks.specs.Outcome.{Answers};
+ghost use Rattle.std.specs.Prelude.{◌≡◌, ◌+◌, ◌≤◌};
+ghost use Rattle.masks.specs.Outcome.{Answers, reply_of};
 ghost use Rattle.masks.specs.Set.{bit_at, Holds};
 ghost use Rattle.book.specs.Limits.{max_clauses};
+ghost use Rattle.book.specs.Refusal.{reply};
 ghost use Rattle.book.specs.Sets.{Known};
-ghost use Rattle.closing.specs.Close.{closing};
-ghost use Rattle.closing.specs.Held.{Lacking, Few, ModesClosed, ClausesKept};
+ghost use Rattle.closing.specs.Close.{lacked, closing};
+ghost use Rattle.closing.specs.Held.{unless_lacking, Few, ModesClosed, ClausesKept};
 
-use book::clause::{head_at, move_clause, predicate};
-use book::fault::FaultAt;
-use book::limits::{MAX_PREDICATES, MODES_SIZE, NO_CALL, RULES_SIZE};
+use book::clause::{Clause, move_clause};
+use book::held::RuleBook;
+use book::limits::{MAX_PREDICATES, MODES_SIZE, RULES_SIZE};
 use book::mode::put_mode;
+use book::refusal::Refusal;
 use masks::constraint::has_member;
 use masks::members::Members;
 use masks::reply::Reply;
-use needs::settle;
-use reading::{Reading, read_book, read_only};
+use needs::{Needs, settle};
+use reading::{read_book, read_only};
 use writing::write_given;
 
 // The closed book, written into the output: the chosen predicates without their clauses, each with its final constraint as `MO`. 8 with the lowest
@@ -26,10 +28,15 @@ use writing::write_given;
 pub fn close(book: &[u8], set: u64, out: &mut [u8]) -> Reply
     ensures { Answers (closing set book.now) out.old result out.new }
 {
+    closed(book, set, out).unwrap_or_else(Reply::from)
+}
+
+fn closed(book: &[u8], set: u64, out: &mut [u8]) -> Result<Reply, Refusal>
+    ensures { Answers (closing set book.now) out.old (reply_of reply result) out.new }
+{
     if !lists(book, set) {
-        if let Err(r) = with_chosen(read_only(book), set) {
-            return r;
-        }
+        let b = read_only(book)?;
+        lacking(set, b.preds)?;
     }
     close_over(book, set, out)
 }
@@ -40,45 +47,30 @@ fn lists(book: &[u8], set: u64) -> bool {
     book.get(at) == Some(&b'P')
 }
 
-// What is read of a book that has each chosen predicate; else what it is refused with: its fault, or 8.
-fn with_chosen(read: Result<Reading, FaultAt>, set: u64) -> Result<Reading, Reply>
-    ensures { Lacking read set result }
+// What is wrong with a set of chosen predicates, of so many: "8: the chosen set names a predicate that the book lacks".
+fn lacking(set: u64, preds: u8) -> Result<(), Refusal>
+    ensures { result ≡ unless_lacking (lacked set preds) }
 {
-    let b = read?;
-    let beyond = chosen_from(set, b.preds);
+    let beyond = chosen_from(set, preds);
     if beyond != 0 {
-        return Err(Reply::refused(8, b.preds as u64 + u64::trailing_zeros(beyond) as u64));
+        return Err(Refusal::Lacks(preds + u64::trailing_zeros(beyond) as u8));
     }
-    Ok(b)
+    Ok(())
 }
 
-// What `close` answers, with room for all of the book.
-fn close_over(book: &[u8], set: u64, out: &mut [u8]) -> Reply
-    ensures { Answers (closing set book.now) out.old result out.new }
+// What `closed` answers, with room for all of the book.
+fn close_over(bytes: &[u8], set: u64, out: &mut [u8]) -> Result<Reply, Refusal>
+    ensures { Answers (closing set bytes.now) out.old (reply_of reply result) out.new }
 {
-    let mut arities = [0u8; MAX_PREDICATES];
-    let mut modes = [0u8; MODES_SIZE];
-    let mut rules = [NO_CALL; RULES_SIZE];
-    let read = read_book(book, &mut arities, &mut modes, &mut rules);
-    let b = match with_chosen(read, set) {
-        Ok(b) => b,
-        Err(r) => return r,
-    };
-    let mut own = [0u64; MAX_PREDICATES];
-    let mut table = [0u64; MAX_PREDICATES];
-    let mut admits = [0u64; MAX_PREDICATES];
-    settle(
-        b.preds,
-        &modes,
-        b.clauses,
-        &rules,
-        &mut own,
-        &mut table,
-        &mut admits,
-    );
-    close_modes(&mut modes, set, &table);
-    let n = keep_clauses(&mut rules, b.clauses, set);
-    write_given(b.preds, &arities, &modes, b.with_mode | set, n, &rules, out)
+    let mut book = RuleBook::new();
+    let given = read_book(bytes, &mut book)?;
+    lacking(set, book.preds)?;
+    let mut needs = Needs::new();
+    settle(&book, &mut needs);
+    close_modes(&mut book.modes, set, &needs.table.masks);
+    book.clauses = keep_clauses(&mut book.rules, book.clauses, set);
+    let r = write_given(&book, given | set, out)?;
+    Ok(r)
 }
 
 // The chosen numbers from n on, counted from n.
@@ -103,9 +95,9 @@ fn keep_clauses(rules: &mut [u64; RULES_SIZE], clauses: u8, set: u64) -> u8
     requires { (clauses ≤ max_clauses) × Known rules.old clauses }
     ensures { ClausesKept (bit_at set) rules.old clauses rules.new result }
 {
-    let mut n: u8 = 0;
+    let mut n = 0;
     for k in 0..clauses {
-        let p = predicate(head_at(rules, k as usize));
+        let p = Clause::at(rules, k as usize).head().predicate();
         if !has_member(set, p) {
             move_clause(rules, k as usize, n as usize);
             n += 1;

@@ -3,7 +3,7 @@
 use mathlib.Core.Path.{◌≡◌, sym, ap, ◌∙◌}
 use native.Mathlib.Omega.{arith}
 use Rattle.masks.specs.Set.{bit_at}
-use Rattle.book.specs.Book.{Head}
+use Rattle.book.specs.Book.{Head, Clause}
 use Rattle.book.specs.Held.{clause_at}
 use Rattle.closing.proofs.Laws.Keeping.{keeping_start, keeping_low, keeping_drop, keeping_move, keeping_end}
 use Rattle.closing.proofs.keep_clauses.Lts
@@ -21,7 +21,7 @@ loop-k-init c = keeping_start (bit_at c.args.set) c.args.rules.now c.args.clause
 
 -- in a turn: p is the predicate of head k
 is : (c : After-predicate-p) → c.predicate-p.result ≡ (clause_at c.loop-k.rules c.loop-k.k).head.pred
-is c = c.predicate-p.ensures ∙ ap (λ (h : Head). h.pred) c.head_at.ensures
+is c = c.predicate-p.ensures ∙ ap (λ (h : Head). h.pred) (c.head.ensures ∙ ap (λ (k : Clause). k.head) c.at.ensures)
 
 pub has_member-requires : goal.has_member-requires
 has_member-requires c = keeping_low c.loop-k.invariant (omega arith) (is c) c.requires.1
