@@ -37,13 +37,13 @@ module _ (c : After-fit_lanes-fits) where
       c.fit_lanes-fits.ensures a h p (c.pattern_lanes-words.ensures a h)
       ∙ ap (λ (q : ℕ). admits (entry_in s.args.table.now q) p) c.predicate.ensures
 
-pub returns-then-negated : goal.returns-then-negated
-returns-then-negated c =
+pub returns-then-is_negated : goal.returns-then-is_negated
+returns-then-is_negated c =
     let d = c.before.before.before.before in
     lanes_negated (s d).args.table.now (s d).args.vars.now (call d) (s d).requires d.fit_lanes-fits.result c.filled_lanes.result
-    (sym c.negated.ensures ∙ c.if-negated.true) (fits d) c.filled_lanes.ensures
+    (sym c.is_negated.ensures ∙ c.if-is_negated.true) (fits d) c.filled_lanes.ensures
 
 pub returns : goal.returns
 returns c =
     let d = c.before.before.before in
-    lanes_positive (s d).args.table.now (s d).args.vars.now (call d) (s d).requires d.fit_lanes-fits.result (sym c.negated.ensures ∙ c.if-negated.false) (fits d)
+    lanes_positive (s d).args.table.now (s d).args.vars.now (call d) (s d).requires d.fit_lanes-fits.result (sym c.is_negated.ensures ∙ c.if-is_negated.false) (fits d)
