@@ -7,7 +7,7 @@ use Rattle.ordering.proofs.head_bound.Goals.{then-pattern-i-eq1, else-pattern-i-
 use Rattle.ordering.proofs.head_bound.Goals as goal
 
 pub loop-i-init : goal.loop-i-init
-loop-i-init c = rw bound_of_zero (heading_start c.args.pattern (head_in c.args.head).args)
+loop-i-init c = rw bound_of_zero (heading_start c.args.pattern (head_in c.args.head.word).args)
 
 pub loop-i-preserved : goal.loop-i-preserved
 loop-i-preserved c =
