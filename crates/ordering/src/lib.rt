@@ -8,9 +8,10 @@
 pub mod admits;
 pub mod order;
 
-ghost use Rattle.std.specs.Prelude.{◌≡◌, true, ◌<◌, ◌^◌, ◌%◌, length, IfSome};
+ghost use Rattle.std.specs.Prelude.{◌≡◌, true, ◌≤◌, ◌<◌, ◌^◌, ◌%◌, length, IfSome};
 ghost use Rattle.masks.specs.Lists.{all, values};
 ghost use Rattle.masks.specs.Set.{bit_at};
+ghost use Rattle.book.specs.Limits.{max_subgoals};
 ghost use Rattle.book.specs.Format.{allows};
 ghost use Rattle.book.specs.declared.range.Range.TheVariants.{Argument};
 ghost use Rattle.book.specs.Held.{byte_of, head_in, call_in};
@@ -73,7 +74,7 @@ pub fn first_order(clause: &Clause, table: &Admits, bound: u16) -> Option<Order>
 
 // The first place of the clause that is left and ready, with its subgoal's pattern.
 fn first_ready(clause: &Clause, table: &Admits, bound: u32, left: u32) -> Option<Pick>
-    requires { (callable clause.now.body ≡ true) × Marked bound × (left < 2 ^ length clause.now.body) }
+    requires { (callable clause.now.body ≡ true) × (length clause.now.body ≤ max_subgoals) × Marked bound × (left < 2 ^ length clause.now.body) }
     ensures place { place_of result ≡ picked left (ready_at table.now clause.now.body (bound_of bound)) }
     ensures pattern { IfSome result (PatternAt clause.now.body (bound_of bound)) }
 {

@@ -1,6 +1,6 @@
 -- `ordering::pattern` meets its contract. The bits of three bytes, or of six, cut to as many as there are arguments, are those of the arguments; and each tells
 -- whether its argument is bound. Assumes nothing.
-use mathlib.Core.Path.{◌≡◌, ap, ap₂, ◌∙◌}
+use mathlib.Core.Path.{ap, ap₂, ◌∙◌}
 use Prim.Native.Nat.{ℕ, ◌+◌, ◌*◌, ◌%◌, ◌^◌}
 use native.Mathlib.Nat.{mod-lt}
 use native.Mathlib.Omega.{arith}
