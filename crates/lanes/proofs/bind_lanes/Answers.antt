@@ -2,7 +2,7 @@
 use mathlib.Core.Path.{sym, ◌∙◌}
 use native.Mathlib.Omega.{arith}
 use Rattle.book.specs.Held.{call_in}
-use Rattle.lanes.proofs.Laws.Steps.{one_var, one_other, binding_none, binding_start, binding_next, binding_end}
+use Rattle.lanes.proofs.Laws.Steps.{one_var, one_other, binding_none, binding_start, binding_next}
 use Rattle.lanes.proofs.bind_lanes.Goals.{then-v-le-LAST_VARIABLE, else-v-le-LAST_VARIABLE}
 use Rattle.lanes.proofs.bind_lanes.Goals as goal
 
@@ -25,10 +25,3 @@ loop-i-preserved c =
       | then-v-le-LAST_VARIABLE u ↦ next (rw (← v.ensures) (one_var v.result args.r l.vars (omega arith) u.vars-is)) l.invariant
       | else-v-le-LAST_VARIABLE u ↦ next (rw (← v.ensures) (one_other v.result args.r l.vars (omega arith) u.vars-is)) l.invariant
     ]
-
-pub returns : goal.returns
-returns c =
-    let l = c.loop-i in
-    let args = c.args in
-    let n = c.arguments-i-end.ensures.value in
-    binding_end (call_in args.s.word).pred (call_in args.s.word).args args.r args.vars.now l.i (sym c.is_negated.ensures ∙ c.if-is_negated.false) (omega arith) l.invariant

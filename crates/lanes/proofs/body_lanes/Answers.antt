@@ -13,9 +13,6 @@ loop-init c =
     let args = c.args in
     passing_start (table_in args.table.now max_predicates) args.clause.now.body args.vars.now max_subgoals (omega arith)
 
-pub one_pass-p-requires : goal.one_pass-p-requires
-one_pass-p-requires c = (c.requires, c.loop.invariant.taken)
-
 pub returns-then-p : goal.returns-then-p
 returns-then-p c =
     let l = c.loop.invariant in
@@ -36,9 +33,6 @@ loop-preserved c =
     let args = c.args in
     let pass = c.one_pass-p.ensures in
     passing_next (table_in args.table.now max_predicates) args.clause.now.body args.vars.now pass.passed c.loop.invariant pass.placed
-
-pub one_pass-requires : goal.one_pass-requires
-one_pass-requires c = (c.requires, c.loop.invariant.taken)
 
 pub returns : goal.returns
 returns c =

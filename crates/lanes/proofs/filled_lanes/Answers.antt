@@ -1,7 +1,7 @@
 -- `lanes::filled_lanes` meets its contract. The loop's invariant: the word has the lanes in which the first i arguments are bound. Assumes nothing.
 use native.Mathlib.Omega.{arith}
 use Rattle.book.specs.Held.{head_in}
-use Rattle.lanes.proofs.Laws.Steps.{filling_start, filling_next, filling_end}
+use Rattle.lanes.proofs.Laws.Steps.{filling_start, filling_next}
 use Rattle.lanes.proofs.filled_lanes.Goals as goal
 
 pub loop-i-init : goal.loop-i-init
@@ -13,10 +13,3 @@ loop-i-preserved c =
     let args = c.args in
     let n = c.arguments-i-end.ensures.value in
     filling_next args.vars.now (head_in args.call.word).args l.i c.arg_lanes-filled.result (omega arith) (rw (← c.argument.ensures) c.arg_lanes-filled.ensures) l.invariant
-
-pub returns : goal.returns
-returns c =
-    let l = c.loop-i in
-    let args = c.args in
-    let n = c.arguments-i-end.ensures.value in
-    filling_end args.vars.now (head_in args.call.word).args l.i (omega arith) l.invariant

@@ -4,7 +4,7 @@ use native.Mathlib.Omega.{arith}
 use lib.ListN.{length, length-set}
 use Rattle.book.specs.Held.{head_in}
 use Rattle.masks.proofs.Laws.Patterns.{column}
-use Rattle.lanes.proofs.Laws.Steps.{one_var, one_other, headed_start, headed_next, headed_end}
+use Rattle.lanes.proofs.Laws.Steps.{one_var, one_other, headed_start, headed_next}
 use Rattle.lanes.proofs.head_lanes.Goals.{then-v-le-LAST_VARIABLE, else-v-le-LAST_VARIABLE}
 use Rattle.lanes.proofs.head_lanes.Goals as goal
 
@@ -23,6 +23,3 @@ loop-i-preserved c =
       | else-v-le-LAST_VARIABLE u ↦
           next (ap length u.vars-is) (rw (← v.ensures) (one_other v.result (column l.i) l.vars (omega arith) u.vars-is)) l.invariant
     ]
-
-pub returns : goal.returns
-returns c = let n = c.arguments-i-end.ensures.value in headed_end (head_in c.args.head.word).args (omega arith) c.loop-i.invariant

@@ -4,7 +4,7 @@ use native.Mathlib.Omega.{arith}
 use lib.ListN.{length}
 use Rattle.book.specs.Limits.{max_predicates, max_subgoals}
 use Rattle.book.specs.Table.{table_in}
-use Rattle.lanes.proofs.Laws.Passing.{subgoal, visiting_start, visiting_over, visiting_same, visiting_new, visiting_end}
+use Rattle.lanes.proofs.Laws.Passing.{subgoal, visiting_start, visiting_over, visiting_same, visiting_new}
 use Rattle.lanes.proofs.one_pass.Goals.{then-before+then-now-before, then-before+else-now-before, else-before}
 use Rattle.lanes.proofs.one_pass.Goals as goal
 
@@ -39,13 +39,3 @@ loop-j-preserved c =
           u.if-now-before.false)
       | else-before u ↦ rw (u.vars-is, u.placed-is, u.good-is, u.moved-is) (visiting_over T body args.vars.now l.invariant here few u.if-before.false)
     ]
-
-pub returns : goal.returns
-returns c =
-    let l = c.loop-j in
-    let args = c.args in
-    let n = c.subgoals-j-end.ensures.value in
-    record {
-      passed = visiting_end (table_in args.table.now max_predicates) args.clause.now.body args.vars.now (omega arith) l.invariant;
-      placed = l.invariant.taken;
-    }

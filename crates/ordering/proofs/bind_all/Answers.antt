@@ -10,13 +10,10 @@ use Rattle.ordering.proofs.Laws.Bound.{cleared, binds_three, binds_six}
 use Rattle.ordering.proofs.bind_all.Goals.{then-n-le3, else-n-le3}
 use Rattle.ordering.proofs.bind_all.Goals as goal
 
-pub returns-then-is_negated : goal.returns-then-is_negated
-returns-then-is_negated c =
+pub returns-then-is_negated-clause-result_value : goal.returns-then-is_negated-clause-result_value
+returns-then-is_negated-clause-result_value c =
     let s = c.args in
-    record {
-      result_value = sym (after_negated (bound_of s.bound) (call_in s.s.word) (sym c.is_negated.ensures ∙ c.if-is_negated.true));
-      marked = c.requires.0;
-    }
+    sym (after_negated (bound_of s.bound) (call_in s.s.word) (sym c.is_negated.ensures ∙ c.if-is_negated.true))
 
 pub returns : goal.returns
 unfolding bit_at

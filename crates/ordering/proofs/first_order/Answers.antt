@@ -50,8 +50,7 @@ loop-i-preserved c =
           (ap (bit_xor l.left) (power_is _ t.t.place c.power-left-in-loop-i.ensures (omega arith))) refl refl,
     )
 
-pub returns : goal.returns
-returns c =
+pub returns-clause-order : goal.returns-clause-order
+returns-clause-order c =
     let n = c.subgoals-n in
-    let all = going_end c.loop-i.invariant.1 n.result n.ensures.value (omega arith) in
-    record { order = all.0; patterns = all.1 }
+    (going_end c.loop-i.invariant.1 n.result n.ensures.value (omega arith)).0

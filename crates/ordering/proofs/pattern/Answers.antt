@@ -2,28 +2,10 @@
 -- whether its argument is bound. Assumes nothing.
 use mathlib.Core.Path.{ap, ap₂, ◌∙◌}
 use Prim.Native.Nat.{ℕ, ◌+◌, ◌*◌, ◌%◌, ◌^◌}
-use native.Mathlib.Nat.{mod-lt}
 use native.Mathlib.Omega.{arith}
-use lib.Pow.{pow_pos, pow-lt}
 use Rattle.ordering.proofs.Laws.Bound.{power_is, counted, pattern_three, pattern_six}
 use Rattle.ordering.proofs.pattern.Goals.{then-n-le3, else-n-le3}
 use Rattle.ordering.proofs.pattern.Goals as goal
-
-pub nonzero_rem-result : goal.nonzero_rem-result
-nonzero_rem-result c =
-    let n = counted c.args.s.word in
-    let d = power_is _ n c.power.ensures (omega arith) in
-    let p = pow_pos n in
-    omega arith
-
-pub overflow_cast-result : goal.overflow_cast-result
-overflow_cast-result c =
-    let n = counted c.args.s.word in
-    let d = power_is _ n c.power.ensures (omega arith) in
-    let p = pow_pos n in
-    let q = pow-lt {i = n} {j = 8} (omega arith) in
-    let r = mod-lt c.if-n-le3.all {m = c.power.result} (omega arith) in
-    omega arith
 
 pub returns : goal.returns
 returns c =
