@@ -5,25 +5,27 @@
 // an argument is looked up and bound by a shift, with no test of what it is.
 #![tactic(auto)]
 
+pub mod admits;
 pub mod order;
 
 ghost use Rattle.std.specs.Prelude.{◌≡◌, true, ◌≤◌, ◌<◌, ◌^◌, ◌%◌, length, IfSome};
 ghost use Rattle.masks.specs.Lists.{all, values};
 ghost use Rattle.masks.specs.Set.{bit_at};
-ghost use Rattle.book.specs.Limits.{max_predicates, max_clauses};
+ghost use Rattle.book.specs.Limits.{max_subgoals};
 ghost use Rattle.book.specs.Format.{allows};
 ghost use Rattle.book.specs.declared.range.Range.TheVariants.{Argument};
-ghost use Rattle.book.specs.Held.{byte_of, head_in, call_in, clause_at};
-ghost use Rattle.book.specs.Table.{table_in, Full};
+ghost use Rattle.book.specs.Held.{byte_of, head_in, call_in};
 ghost use Rattle.book.specs.Sets.{callable};
 ghost use Rattle.ordering.specs.Adorn.{bit, pattern_of, bind_var, head_bound, after};
 ghost use Rattle.ordering.specs.Good.{ready_at, first_good};
 ghost use Rattle.ordering.specs.Asks.{patterns_in};
 ghost use Rattle.ordering.specs.Held.{order_of, places_of, patterns_of, bound_of, Marked, marks, with_marks, picked, place_of, can_run, PatternAt};
 
+use crate::admits::Admits;
 use crate::order::Order;
-use book::clause::{argument, arguments, negated, predicate, subgoal_at, subgoals_at};
-use book::limits::{LAST_VARIABLE, MAX_PREDICATES, MAX_SUBGOALS, RULES_SIZE};
+use book::call::Call;
+use book::clause::Clause;
+use book::limits::{LAST_VARIABLE, MAX_SUBGOALS};
 use masks::constraint::has_member;
 use masks::members::Members;
 
@@ -43,28 +45,23 @@ const NO_WILDCARDS: u32 = 0xBFFF_FFFF;
 // The bytes of a call's arguments.
 const ARGUMENTS: u64 = 0xFFFF_FFFF_FFFF_0000;
 
-// "the smallest list of subgoal places .. among the orders good against" a table, of the subgoals of clause k with these variables bound at the
+// "the smallest list of subgoal places .. among the orders good against" a table, of the subgoals of the clause with these variables bound at the
 // start: at each turn the first place that is ready. Where none is, no order is good.
-pub fn first_order(
-    rules: &[u64; RULES_SIZE],
-    k: usize,
-    table: &[u64; MAX_PREDICATES],
-    bound: u16,
-) -> Option<Order>
-    requires { (k ≤ max_clauses) × (callable (clause_at rules.now k).body ≡ true) × Full table.now }
-    ensures order { order_of result ≡ first_good (table_in table.now max_predicates) (clause_at rules.now k).body (bound_of bound) }
-    ensures patterns { IfSome result (λ o. patterns_of o ≡ patterns_in (clause_at rules.now k).body (bound_of bound) (places_of o)) }
+pub fn first_order(clause: &Clause, table: &Admits, bound: u16) -> Option<Order>
+    requires { callable clause.now.body ≡ true }
+    ensures order { order_of result ≡ first_good table.now clause.now.body (bound_of bound) }
+    ensures patterns { IfSome result (λ o. patterns_of o ≡ patterns_in clause.now.body (bound_of bound) (places_of o)) }
 {
-    let n = subgoals_at(rules, k);
+    let n = clause.subgoals();
     let mut places = [0u8; MAX_SUBGOALS];
     let mut patterns = [0u8; MAX_SUBGOALS];
     let mut left = power(n as u64) - 1;
     let mut now = bound as u32 | LITERALS;
     for i in 0..n {
-        let t = first_ready(rules, k, table, now, left)?;
+        let t = first_ready(clause, table, now, left)?;
         places[i] = t.place;
         patterns[i] = t.pattern;
-        now = bind_all(now, subgoal_at(rules, k, t.place as usize));
+        now = bind_all(now, clause.subgoal(t.place as usize));
         left ^= power(t.place as u64);
     }
     let n = n as u8;
@@ -75,22 +72,16 @@ pub fn first_order(
     })
 }
 
-// The first place of clause k that is left and ready, with its subgoal's pattern.
-fn first_ready(
-    rules: &[u64; RULES_SIZE],
-    k: usize,
-    table: &[u64; MAX_PREDICATES],
-    bound: u32,
-    left: u32,
-) -> Option<Pick>
-    requires { (k ≤ max_clauses) × (callable (clause_at rules.now k).body ≡ true) × Full table.now × Marked bound × (left < 2 ^ length (clause_at rules.now k).body) }
-    ensures place { place_of result ≡ picked left (ready_at (table_in table.now max_predicates) (clause_at rules.now k).body (bound_of bound)) }
-    ensures pattern { IfSome result (PatternAt (clause_at rules.now k).body (bound_of bound)) }
+// The first place of the clause that is left and ready, with its subgoal's pattern.
+fn first_ready(clause: &Clause, table: &Admits, bound: u32, left: u32) -> Option<Pick>
+    requires { (callable clause.now.body ≡ true) × (length clause.now.body ≤ max_subgoals) × Marked bound × (left < 2 ^ length clause.now.body) }
+    ensures place { place_of result ≡ picked left (ready_at table.now clause.now.body (bound_of bound)) }
+    ensures pattern { IfSome result (PatternAt clause.now.body (bound_of bound)) }
 {
     for place in Members::of(left as u64) {
-        let s = subgoal_at(rules, k, place as usize);
+        let s = clause.subgoal(place as usize);
         let pattern = pattern(bound, s);
-        if can_run(table[predicate(s) as usize], s, pattern) {
+        if can_run(table.patterns(s.predicate()), s, pattern) {
             return Some(Pick { place, pattern });
         }
     }
@@ -98,21 +89,21 @@ fn first_ready(
 }
 
 // A subgoal with this pattern is ready: the set of its predicate has the pattern and, where the subgoal is negated, every argument is bound.
-fn can_run(set: u64, s: u64, a: u8) -> bool
+fn can_run(set: u64, s: Call, a: u8) -> bool
     requires { a < 64 }
-    ensures { result ≡ can_run set (call_in s) a }
+    ensures { result ≡ can_run set (call_in s.word) a }
 {
-    has_member(set, a) && (!negated(s) || a as u32 + 1 == power(arguments(s) as u64))
+    has_member(set, a) && (!s.is_negated() || a as u32 + 1 == power(s.arguments() as u64))
 }
 
 // What is bound under a head pattern: "variables at bound head positions start as bound". Bit i of the pattern is that of position i.
-pub fn head_bound(head: u64, pattern: u8) -> u16
-    ensures { bound_of result ≡ head_bound (head_in head).args pattern }
+pub fn head_bound(head: Call, pattern: u8) -> u16
+    ensures { bound_of result ≡ head_bound (head_in head.word).args pattern }
 {
     let mut b: u16 = 0;
-    for i in 0..arguments(head) {
+    for i in 0..head.arguments() {
         if (pattern >> i) % 2 == 1 {
-            b = bind_var(b, argument(head, i));
+            b = bind_var(b, head.argument(i));
         }
     }
     b
@@ -130,16 +121,16 @@ fn bind_var(bound: u16, v: u8) -> u16
 }
 
 // The pattern of a call, inside an order: bit i is set where argument i is bound. The bits behind the last argument are cut off.
-fn pattern(bound: u32, s: u64) -> u8
-    requires { Marked bound × (all (allows Argument) (call_in s).args ≡ true) }
-    ensures { result ≡ pattern_of (bound_of bound) (call_in s).args }
+fn pattern(bound: u32, s: Call) -> u8
+    requires { Marked bound × (all (allows Argument) (call_in s.word).args ≡ true) }
+    ensures { result ≡ pattern_of (bound_of bound) (call_in s.word).args }
 {
-    let n = (s >> 8) % 8;
-    let low = three_bits(bound, s >> 16);
+    let n = (s.word >> 8) % 8;
+    let low = three_bits(bound, s.word >> 16);
     let all = if n <= 3 {
         low
     } else {
-        low + 8 * three_bits(bound, s >> 40)
+        low + 8 * three_bits(bound, s.word >> 40)
     };
     (all % power(n)) as u8
 }
@@ -162,16 +153,16 @@ fn bound_bit(bound: u32, arg: u64) -> u32
 
 // "After the whole subgoal all its variables become bound"; a negated one "binds nothing". The bytes behind the last argument are made literals, which are
 // bound already.
-fn bind_all(bound: u32, s: u64) -> u32
-    requires { Marked bound × (all (allows Argument) (call_in s).args ≡ true) }
-    ensures result_value { bound_of result ≡ after (bound_of bound) (call_in s) }
+fn bind_all(bound: u32, s: Call) -> u32
+    requires { Marked bound × (all (allows Argument) (call_in s.word).args ≡ true) }
+    ensures result_value { bound_of result ≡ after (bound_of bound) (call_in s.word) }
     ensures marked { Marked result }
 {
-    if negated(s) {
+    if s.is_negated() {
         return bound;
     }
-    let n = (s >> 8) % 8;
-    let w = s | (ARGUMENTS << (8 * n));
+    let n = (s.word >> 8) % 8;
+    let w = s.word | (ARGUMENTS << (8 * n));
     let low = bind_three(bound, w >> 16);
     let all = if n <= 3 {
         low

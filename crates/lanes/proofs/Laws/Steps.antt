@@ -3,7 +3,7 @@
 use mathlib.Core.Path.{◌≡◌, refl, sym, ap, ap₂, ◌∙◌, subst}
 use mathlib.Core.Bool.{Bool, true, false, cond, ◌&&◌, and-true}
 use mathlib.Core.List.{List, [], ◌∷◌}
-use Prim.Native.Nat.{ℕ, zero, suc, ◌+◌, ◌/◌, ◌%◌, ◌≤◌, ◌<◌}
+use Prim.Native.Nat.{ℕ, zero, suc, ◌+◌, ◌≤◌, ◌<◌}
 use native.Mathlib.Numerals.{add-one}
 use native.Mathlib.Omega.{arith}
 use lib.Bits.{bit_and, bit_or}
@@ -215,6 +215,13 @@ module _ (table vars : List ℕ) (s : Call) (low : s.pred < max_predicates) wher
 
   abbrev ready_in : ℕ → Bool
   ready_in a = ready (table_in table max_predicates) (lane a vars) s
+
+  -- as they are made of the words of its pattern, at the place of its predicate
+  pub lanes_fit : (fits : ℕ) (words : List ℕ) {q : ℕ} → q ≡ s.pred → EachLane (λ a. Agrees words a (pattern_of (lane a vars) s.args))
+      → EachLane (λ a. (p : ℕ) → Agrees words a p → bit_at fits a ≡ admits (entry_in table q) p) → EachLane (λ a. bit_at fits a ≡ fits_in a)
+  lanes_fit fits words e w f a h =
+      let p = pattern_of (lane a vars) s.args in
+      f a h p (w a h) ∙ ap (λ (q : ℕ). admits (entry_in table q) p) e
 
   pub lanes_positive : (fits : ℕ) → s.negated ≡ false → EachLane (λ a. bit_at fits a ≡ fits_in a) → EachLane (λ a. bit_at fits a ≡ ready_in a)
   lanes_positive fits e f a h =

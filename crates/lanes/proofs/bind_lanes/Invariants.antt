@@ -5,4 +5,4 @@ use Rattle.lanes.proofs.Laws.Steps.{up_to}
 use Rattle.lanes.proofs.bind_lanes.Given as goal
 
 abbrev pub invariant-loop-i : goal.invariant-loop-i
-invariant-loop-i l = Binds (up_to (call_in l.s).pred (call_in l.s).args l.i) l.r l.initial.vars l.vars
+invariant-loop-i l = Binds (up_to (call_in l.s.word).pred (call_in l.s.word).args l.i) l.r l.initial.vars l.vars

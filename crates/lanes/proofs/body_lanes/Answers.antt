@@ -3,7 +3,6 @@
 use native.Mathlib.Omega.{arith}
 use borrow.Author.Tests.{not-true}
 use Rattle.book.specs.Limits.{max_predicates, max_subgoals}
-use Rattle.book.specs.Held.{clause_at}
 use Rattle.book.specs.Table.{table_in}
 use Rattle.lanes.proofs.Laws.Passing.{passing_start, passing_next, passing_good, passing_still, passing_end, passing_ran}
 use Rattle.lanes.proofs.body_lanes.Goals.{then-p-via-then-p, then-p-via-else-p+then-not-p}
@@ -12,10 +11,7 @@ use Rattle.lanes.proofs.body_lanes.Goals as goal
 pub loop-init : goal.loop-init
 loop-init c =
     let args = c.args in
-    passing_start (table_in args.table.now max_predicates) (clause_at args.rules.now args.k).body args.vars.now max_subgoals (omega arith)
-
-pub one_pass-p-requires : goal.one_pass-p-requires
-one_pass-p-requires c = let p = c.requires in (p.0, p.1, c.loop.invariant.taken)
+    passing_start (table_in args.table.now max_predicates) args.clause.now.body args.vars.now max_subgoals (omega arith)
 
 pub returns-then-p : goal.returns-then-p
 returns-then-p c =
@@ -23,7 +19,7 @@ returns-then-p c =
     let args = c.args in
     let pass = c.one_pass-p.ensures.passed in
     let T = table_in args.table.now max_predicates in
-    let body = (clause_at args.rules.now args.k).body in
+    let body = args.clause.now.body in
     record {
       each_lane = elim c.then-p.branch [
         | then-p-via-then-p u ↦ passing_good T body args.vars.now pass l u.if-p.true
@@ -36,17 +32,14 @@ pub loop-preserved : goal.loop-preserved
 loop-preserved c =
     let args = c.args in
     let pass = c.one_pass-p.ensures in
-    passing_next (table_in args.table.now max_predicates) (clause_at args.rules.now args.k).body args.vars.now pass.passed c.loop.invariant pass.placed
-
-pub one_pass-requires : goal.one_pass-requires
-one_pass-requires c = let p = c.requires in (p.0, p.1, c.loop.invariant.taken)
+    passing_next (table_in args.table.now max_predicates) args.clause.now.body args.vars.now pass.passed c.loop.invariant pass.placed
 
 pub returns : goal.returns
 returns c =
     let l = c.loop.invariant in
     let args = c.args in
-    let n = c.subgoals_at-end.ensures in
+    let n = c.subgoals-end.ensures.value in
     let pass = c.one_pass.ensures.passed in
     let T = table_in args.table.now max_predicates in
-    let body = (clause_at args.rules.now args.k).body in
+    let body = args.clause.now.body in
     record { each_lane = passing_end T body args.vars.now pass l (omega arith); each_lane_2 = passing_ran T body args.vars.now pass l }

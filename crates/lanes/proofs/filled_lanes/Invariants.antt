@@ -4,4 +4,4 @@ use Rattle.lanes.proofs.Laws.Steps.{Filling}
 use Rattle.lanes.proofs.filled_lanes.Given as goal
 
 abbrev pub invariant-loop-i : goal.invariant-loop-i
-invariant-loop-i l = Filling l.vars (head_in l.call).args l.i l.filled
+invariant-loop-i l = Filling l.vars (head_in l.call.word).args l.i l.filled

@@ -4,4 +4,4 @@ use Rattle.lanes.proofs.Laws.Steps.{Headed}
 use Rattle.lanes.proofs.head_lanes.Given as goal
 
 abbrev pub invariant-loop-i : goal.invariant-loop-i
-invariant-loop-i l = Headed (head_in l.head).args l.i l.vars
+invariant-loop-i l = Headed (head_in l.head.word).args l.i l.vars

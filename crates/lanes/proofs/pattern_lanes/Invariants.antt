@@ -5,4 +5,4 @@ use Rattle.lanes.proofs.Laws.Steps.{Words}
 use Rattle.lanes.proofs.pattern_lanes.Given as goal
 
 abbrev pub invariant-loop-i : goal.invariant-loop-i
-invariant-loop-i l = Words l.vars (call_in l.s).args l.i l.words
+invariant-loop-i l = Words l.vars (call_in l.s.word).args l.i l.words

@@ -18,10 +18,12 @@ use borrow.Author.Tests.{eq-eqb, ne_eqb}
 use Rattle.masks.specs.Limits.{max_arity}
 use Rattle.masks.specs.Lists.{all}
 use Rattle.masks.specs.Set.{bit_at, members}
+use Rattle.masks.specs.Constraint.{admits}
+use Rattle.masks.specs.Patterns.{EachLane}
 use Rattle.book.specs.Limits.{max_predicates, max_subgoals}
 use Rattle.book.specs.Book.{Call, no_call}
 use Rattle.book.specs.Format.{allows}
-use Rattle.book.specs.Table.{table_in, Full}
+use Rattle.book.specs.Table.{Table, entry}
 use Rattle.book.specs.Sets.{callable}
 use Rattle.book.specs.declared.range.Range.TheVariants.{Argument}
 use Rattle.ordering.specs.Orders.{In, find, without, count}
@@ -37,7 +39,6 @@ use Rattle.book.proofs.Laws.Sets.{callable_low, callable_args}
 use Rattle.ordering.proofs.Laws.Orders.{find_some, find_none, find_least, without_in, without_keeps, without_gone, Ascends, ascends_distinct, ascends_without, count_in_lem, in_count, count_ascends}
 use Rattle.ordering.proofs.Laws.Greedy.{greedy_of, greedy}
 use Rattle.ordering.proofs.Laws.Steps.{pattern_small, known_pattern}
-use Rattle.ordering.proofs.Laws.Held.{ready_held}
 
 -- ---- a subgoal as it is read
 
@@ -49,15 +50,13 @@ module _ (body : List Call) (p : ℕ) {s : Call} (e : s ≡ get_or body p no_cal
   args_read t h = rw e (callable_args body p t h)
 
   -- with its pattern, which fits where it is a member of the predicate's set; of a negated one it must be the greatest
-  pub ready_read : (table : List ℕ) (b : Bound) {q a : ℕ} → callable body ≡ true → Full table → length s.args ≤ max_arity → p < length body → q ≡ s.pred
-      → a ≡ pattern_of b s.args → ready_at (table_in table max_predicates) body b p ≡ can_run (get_or table q 0) s a
-  unfolding at
-  ready_read table b {q} {a} t full few h r i =
-      let l = pred_read t h in
-      sym (ap (ready (table_in table max_predicates) b) e)
-      ∙ ready_held table max_predicates b s l
-      ∙ ap₂ (λ (c d : Bool). c && d)
-      (sym (full s.pred l (pattern_of b s.args) (pattern_small b max_arity s.args few)) ∙ ap₂ (λ (j x : ℕ). bit_at (get_or table j 0) x) (sym r) (sym i))
+  pub ready_read : (T : Table) (b : Bound) (set : ℕ) {q a : ℕ} → length s.args ≤ max_arity → q ≡ s.pred → EachLane (λ x. bit_at set x ≡ admits (entry T q) x)
+      → a ≡ pattern_of b s.args → ready_at T body b p ≡ can_run set s a
+  unfolding at ready
+  ready_read T b set {q} {a} few r fits i =
+      let l = pattern_small b max_arity s.args few in
+      sym (ap (ready T b) e)
+      ∙ ap₂ (λ (c d : Bool). c && d) (ap₂ (λ (c x : ℕ). admits (entry T c) x) (sym r) (sym i) ∙ sym (fits a (omega arith)))
       (known_pattern b s ∙ ap (λ (x : ℕ). not s.negated || eqb (x + 1) (2 ^ length s.args)) (sym i))
 
   pub pattern_read : (b : Bound) {a : ℕ} → a ≡ pattern_of b s.args → PatternAt body b (record { place = p; pattern = a })

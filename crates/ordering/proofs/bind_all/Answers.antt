@@ -10,20 +10,22 @@ use Rattle.ordering.proofs.Laws.Bound.{cleared, binds_three, binds_six}
 use Rattle.ordering.proofs.bind_all.Goals.{then-n-le3, else-n-le3}
 use Rattle.ordering.proofs.bind_all.Goals as goal
 
-pub returns-then-negated : goal.returns-then-negated
-returns-then-negated c =
-    let k = c.before.before in record { result_value = sym (after_negated (bound_of k.args.bound) (call_in k.args.s) (sym c.negated.ensures ∙ c.if-negated.true)); marked = k.requires.0 }
+pub returns-then-is_negated-clause-result_value : goal.returns-then-is_negated-clause-result_value
+returns-then-is_negated-clause-result_value c =
+    let s = c.args in
+    sym (after_negated (bound_of s.bound) (call_in s.s.word) (sym c.is_negated.ensures ∙ c.if-is_negated.true))
 
 pub returns : goal.returns
 unfolding bit_at
 returns c =
-    let k = c.before.before.before.before.before in
-    let s = k.args in
+    let s = c.args in
     let low = c.bind_three-low in
-    let e = after_positive (bound_of s.bound) (call_in s.s) (sym c.negated.ensures ∙ c.if-negated.false) in
+    let all = c.if-n-le3.all in
+    let e = after_positive (bound_of s.bound) (call_in s.s.word) (sym c.is_negated.ensures ∙ c.if-is_negated.false) in
     let r =
-    cleared _ refl c.if-n-le3.all
+    cleared _ refl all
     (elim c.if-n-le3.branch [
-      | then-n-le3 w ↦ binds_three s.bound s.s k.requires.0 k.requires.1 c.if-n-le3.all (w.all-is ∙ low.ensures) (omega arith)
-      | else-n-le3 w ↦ binds_six s.bound s.s k.requires.0 k.requires.1 low.result c.if-n-le3.all low.ensures (w.all-is ∙ w.bind_three-all.ensures)
-    ]) in record { result_value = r.0 ∙ sym e; marked = r.1 }
+      | then-n-le3 w ↦ binds_three s.bound s.s.word c.requires.0 c.requires.1 all (w.all-is ∙ low.ensures) (omega arith)
+      | else-n-le3 w ↦ binds_six s.bound s.s.word c.requires.0 c.requires.1 low.result all low.ensures (w.all-is ∙ w.bind_three-all.ensures)
+    ]) in
+    record { result_value = r.0 ∙ sym e; marked = r.1 }

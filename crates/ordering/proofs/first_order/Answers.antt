@@ -2,67 +2,55 @@
 -- of all; and that is the first good order. Beside each place stands its subgoal's pattern in its turn. Literals are bound and wildcards are not. Assumes
 -- nothing.
 use mathlib.Core.Path.{◌≡◌, refl, ap}
-use mathlib.Core.List.{List}
 use Prim.Native.Nat.{ℕ, ◌-◌, ◌^◌}
 use native.Mathlib.Omega.{arith}
 use lib.Bits.{bit_xor}
 use lib.ListN.{length}
 use borrow.Author.Rules.{rules}
 use Rattle.masks.specs.Set.{bit_at}
-use Rattle.book.specs.Book.{Call}
-use Rattle.book.specs.Held.{clause_at}
-use Rattle.book.proofs.Laws.Held.{clause_at_few}
 use Rattle.ordering.specs.Held.{bound_of}
 use Rattle.ordering.proofs.Laws.Bound.{power_is, start_bound, start_marked}
 use Rattle.ordering.proofs.Laws.Run.{args_read, after_read}
 use Rattle.ordering.proofs.Laws.Patterns.{going_start, going_below, going_next, going_stuck, going_end}
 use Rattle.ordering.proofs.first_order.Goals as goal
 
--- the subgoals that are ordered
-abbrev body : List ℕ → ℕ → List Call
-body rules k = (clause_at rules k).body
-
 pub loop-i-init : goal.loop-i-init
 unfolding bit_at
 loop-i-init c =
     let s = c.args in
-    let b = body s.rules.now s.k in
-    let n = c.subgoals_at-n.ensures in
-    let few = clause_at_few s.rules.now s.k in
+    let b = s.clause.now.body in
+    let n = c.subgoals-n.ensures in
     let all : c.power-left.result ≡ 2 ^ length b = power_is _ (length b) c.power-left.ensures (omega arith) in (
       start_marked _ refl s.bound (search rules),
-      going_start _ b (bound_of s.bound) _ _ (start_bound _ refl s.bound) (ap (λ (k : ℕ). k - 1) all) few (omega arith) (omega arith),
+      going_start _ b (bound_of s.bound) _ _ (start_bound _ refl s.bound) (ap (λ (k : ℕ). k - 1) all) (omega arith) (omega arith) (omega arith),
     )
 
 pub returns-in_err-t-clause-order : goal.returns-in_err-t-clause-order
 returns-in_err-t-clause-order c =
-    let n = c.subgoals_at-n.ensures in
+    let n = c.subgoals-n.ensures.value in
     rw c.from_residual.ensures (going_stuck c.loop-i.invariant.1 c.in_err-t.ensures.place (omega arith))
 
-pub subgoal_at-requires : goal.subgoal_at-requires
-subgoal_at-requires c = (c.requires.0, going_below c.loop-i.invariant.1 c.in_ok-t.ensures.place)
+pub subgoal-requires : goal.subgoal-requires
+subgoal-requires c = going_below c.loop-i.invariant.1 c.in_ok-t.ensures.place
 
 pub bind_all-now-requires : goal.bind_all-now-requires
 bind_all-now-requires c =
     let i = c.loop-i.invariant in
-    (i.0, args_read (body c.args.rules.now c.args.k) c.in_ok-t.t.place c.subgoal_at.ensures c.requires.1 (going_below i.1 c.in_ok-t.ensures.place))
+    (i.0, args_read c.args.clause.now.body c.in_ok-t.t.place c.subgoal.ensures c.requires (going_below i.1 c.in_ok-t.ensures.place))
 
 pub loop-i-preserved : goal.loop-i-preserved
 loop-i-preserved c =
-    let b = body c.args.rules.now c.args.k in
-    let n = c.subgoals_at-n.ensures in
-    let few = clause_at_few c.args.rules.now c.args.k in
+    let n = c.subgoals-n.ensures in
     let l = c.loop-i in
     let t = c.in_ok-t in
     let here = going_below l.invariant.1 t.ensures.place in (
       c.bind_all-now.ensures.marked,
       going_next l.invariant.1 t.t t.ensures.place t.ensures.pattern (omega arith)
-          (after_read b t.t.place c.subgoal_at.ensures (bound_of l.now) c.bind_all-now.ensures.result_value)
+          (after_read c.args.clause.now.body t.t.place c.subgoal.ensures (bound_of l.now) c.bind_all-now.ensures.result_value)
           (ap (bit_xor l.left) (power_is _ t.t.place c.power-left-in-loop-i.ensures (omega arith))) refl refl,
     )
 
-pub returns : goal.returns
-returns c =
-    let n = c.subgoals_at-n in
-    let all = going_end c.loop-i.invariant.1 n.result n.ensures (omega arith) in
-    record { order = all.0; patterns = all.1 }
+pub returns-clause-order : goal.returns-clause-order
+returns-clause-order c =
+    let n = c.subgoals-n in
+    (going_end c.loop-i.invariant.1 n.result n.ensures.value (omega arith)).0

@@ -1,13 +1,10 @@
 -- `ordering::first_order` meets its contract. The loop's invariant: the first i places, with what the greedy rule makes of those left, are what it makes
 -- of all; and that is the first good order. Beside each place stands its subgoal's pattern in its turn. Literals are bound and wildcards are not. Assumes
 -- nothing.
-use Rattle.book.specs.Limits.{max_predicates}
-use Rattle.book.specs.Held.{clause_at}
-use Rattle.book.specs.Table.{table_in}
 use Rattle.ordering.specs.Held.{bound_of, Marked}
 use Rattle.ordering.proofs.Laws.Patterns.{Going}
 use Rattle.ordering.proofs.first_order.Given as goal
 
 abbrev pub invariant-loop-i : goal.invariant-loop-i
 invariant-loop-i l =
-    Marked l.now × Going (table_in l.table max_predicates) (clause_at l.rules l.k).body (bound_of l.bound) l.i (bound_of l.now) l.left l.places l.patterns
+    Marked l.now × Going l.table l.clause.body (bound_of l.bound) l.i (bound_of l.now) l.left l.places l.patterns

@@ -2,14 +2,10 @@
 -- here on. A subgoal is ready where it can run with its pattern, which is answered with its place. Assumes nothing.
 use Rattle.masks.specs.Set.{members}
 use Rattle.masks.proofs.Laws.Loops.{Over}
-use Rattle.book.specs.Limits.{max_predicates}
-use Rattle.book.specs.Held.{clause_at}
-use Rattle.book.specs.Table.{table_in}
 use Rattle.ordering.specs.Good.{ready_at}
 use Rattle.ordering.specs.Held.{bound_of}
 use Rattle.ordering.proofs.Laws.Run.{Scan}
 use Rattle.ordering.proofs.first_ready.Given as goal
 
 abbrev pub invariant-loop-place : goal.invariant-loop-place
-invariant-loop-place l =
-    Over (Scan l.left (ready_at (table_in l.table max_predicates) (clause_at l.rules l.k).body (bound_of l.bound))) l.left (members l.place-iterator.left)
+invariant-loop-place l = Over (Scan l.left (ready_at l.table l.clause.body (bound_of l.bound))) l.left (members l.place-iterator.left)

