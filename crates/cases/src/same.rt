@@ -52,7 +52,7 @@ fn numbers(bytes: &[u8], set: u64) -> [u8; MAX_CLAUSES] {
     let mut arities = [0u8; MAX_PREDICATES];
     let mut modes = [0u8; MODES_SIZE];
     let mut rules = [NO_CALL; RULES_SIZE];
-    reading::read_book(bytes, &mut arities, &mut modes, &mut rules);
+    let _ = reading::read_book(bytes, &mut arities, &mut modes, &mut rules);
     moved_down(&rules, set)
 }
 

@@ -1,5 +1,5 @@
 -- How a book and its final table are lent to what answers a page, and what is promised of the parts. Assumes nothing.
-use Rattle.std.specs.Prelude.{◌≡◌, List, map, ℕ, length, take, drop}
+use Rattle.std.specs.Prelude.{◌≡◌, List, map, ℕ, length, take, drop, Result, Ok, Err}
 use Rattle.masks.specs.declared.reply.Reply.{Reply}
 use Rattle.book.specs.Limits.{max_clauses}
 use Rattle.book.specs.Book.{Call, Book}
@@ -7,13 +7,13 @@ use Rattle.book.specs.Format.{query}
 use Rattle.book.specs.Encode.{WellFormed}
 use Rattle.book.specs.Held.{clause_at}
 use Rattle.book.specs.Table.{Table, table_in, Admitted}
+use Rattle.book.specs.declared.fault.FaultAt.{FaultAt}
 use Rattle.book.specs.declared.mark.Phase.TheVariants.{PageQuery}
-use Rattle.records.specs.declared.field.Found.{Found}
-use Rattle.records.specs.declared.field.Found.TheVariants.{Next, Bad}
-use Rattle.records.specs.Found.{Reads}
+use Rattle.records.specs.Read.{alone, Reads}
 use Rattle.tables.specs.Table.{final}
 use Rattle.tally.specs.declared.Tally.{Tally}
 use Rattle.tally.specs.Tallied.{tally_from, zeroes, Tallies}
+use Rattle.page.specs.declared.Answered.{Answered}
 use Rattle.paging.specs.Run.{faulty, queries, judge_run}
 use Rattle.paging.specs.Page.{accepts, answers, paged, verdicts_of}
 
@@ -39,10 +39,10 @@ Gives preds arities table run out old r after t =
 -- ---- the parts
 
 -- a query of a run is read, and stored as the clause behind all others
-pub record QueryRead (ar run : List ℕ) (at : ℕ) (r : Found) (after : List ℕ) : Type 0 where
+pub record QueryRead (ar run : List ℕ) (at : ℕ) (r : Result ℕ FaultAt) (after : List ℕ) : Type 0 where
   pub goals : List Call
-  pub reads : Reads run r (λ n. goals) (query PageQuery ar (drop at run))
-  pub stored : (end n : ℕ) → r ≡ Next end n → (clause_at after max_clauses).body ≡ goals
+  pub reads : Reads alone run r (λ end. goals) (query PageQuery ar (drop at run))
+  pub stored : (end : ℕ) → r ≡ Ok end → (clause_at after max_clauses).body ≡ goals
 
 -- the answers to queries stand at the front of an image, and are counted
 pub record Kept (T : Table) (qs : List (List Call)) (image : List ℕ) (size : ℕ) (t : Tally) : Type 0 where
@@ -51,9 +51,9 @@ pub record Kept (T : Table) (qs : List (List Call)) (image : List ℕ) (size : �
   pub counted : t ≡ tally_from zeroes (map (accepts T) qs)
 
 -- a run's first fault, or its queries with their answers
-abbrev pub CameTo : List ℕ → List ℕ → Table → Found → List ℕ → ℕ → Tally → Type 0
-CameTo ar run T (Bad f at) image size t = judge_run ar run ≡ faulty f at
-CameTo ar run T (Next at n) image size t = (qs : List (List Call)) × (judge_run ar run ≡ queries qs) × Kept T qs image size t
+abbrev pub CameTo : List ℕ → List ℕ → Table → Result Answered FaultAt → List ℕ → Type 0
+CameTo ar run T (Err e) image = judge_run ar run ≡ faulty e.fault e.at
+CameTo ar run T (Ok a) image = (qs : List (List Call)) × (judge_run ar run ≡ queries qs) × Kept T qs image a.size a.tally
 
-pub record RunAnswered (ar run : List ℕ) (T : Table) (g : Found) (image : List ℕ) (size : ℕ) (t : Tally) : Type 0 where
-  pub comes : CameTo ar run T g image size t
+pub record RunAnswered (ar run : List ℕ) (T : Table) (r : Result Answered FaultAt) (image : List ℕ) : Type 0 where
+  pub comes : CameTo ar run T r image

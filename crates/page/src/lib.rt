@@ -8,14 +8,14 @@ ghost use Rattle.book.specs.Limits.{max_predicates, max_clauses};
 ghost use Rattle.book.specs.Held.{clause_at};
 ghost use Rattle.book.specs.Table.{table_in, Full};
 ghost use Rattle.book.specs.Sets.{callable};
-ghost use Rattle.records.specs.Found.{Arities};
+ghost use Rattle.records.specs.Read.{Arities};
 ghost use Rattle.ordering.specs.Held.{order_of};
 ghost use Rattle.writing.specs.Wrote.{Room, Wrote};
 ghost use Rattle.tally.specs.Tallied.{Tallies};
 ghost use Rattle.paging.specs.Page.{answered, answer, accepts, paging, verdicts};
 ghost use Rattle.page.specs.Lent.{SomeLent, Gives, RunAnswered, QueryRead};
 
-use book::fault::{Fault, number};
+use book::fault::{Fault, FaultAt};
 use book::limits::{
     LONGEST_PAGE, MAX_CLAUSES, MAX_PREDICATES, MAX_QUERIES, MODES_SIZE, NO_CALL, RULES_SIZE,
 };
@@ -26,7 +26,6 @@ use ordering::first_order;
 use ordering::order::Order;
 use plan::image::put_query;
 use reading::{ended, read_body, read_book};
-use records::field::Found;
 use records::turn::{is_mark, run_end};
 use tally::{Tally, stepped};
 use writing::put::{put_byte, put_bytes};
@@ -38,10 +37,9 @@ pub struct Paged {
     pub tally: Tally,
 }
 
-// What a run comes to: where none of its records has a fault, how many bytes its answers have, and their tally.
+// What a run without a fault comes to: how many bytes its answers have, and their tally.
 #[derive(Clone, Copy)]
 struct Answered {
-    found: Found,
     size: usize,
     tally: Tally,
 }
@@ -60,11 +58,13 @@ pub fn page(book: &[u8], run: &[u8], out: &mut [u8], tally: Tally) -> Paged
     let mut arities = [0u8; MAX_PREDICATES];
     let mut modes = [0u8; MODES_SIZE];
     let mut rules = [NO_CALL; RULES_SIZE];
-    let b = read_book(book, &mut arities, &mut modes, &mut rules);
-    let reply = b.reply;
-    if reply.number != 0 {
-        return Paged { reply, tally };
-    }
+    let b = match read_book(book, &mut arities, &mut modes, &mut rules) {
+        Ok(b) => b,
+        Err(f) => {
+            let reply = f.into();
+            return Paged { reply, tally };
+        }
+    };
     let mut own = [0u64; MAX_PREDICATES];
     let mut table = [0u64; MAX_PREDICATES];
     let mut admits = [0u64; MAX_PREDICATES];
@@ -94,24 +94,21 @@ fn give<'a>(
     requires { SomeLent preds arities.now admits.now }
     ensures { Gives preds arities.now admits.now run.now out.old tally result.reply out.new result.tally }
 {
-    let bytes: &[u8] = arities;
-    let n = preds as usize;
-    let ar = &bytes[..n];
+    let ar = &arities[..preds as usize];
     let mut image = [0u8; LONGEST_PAGE];
-    let a = answer_run(run, ar, admits, rules, &mut image);
-    let f = a.found;
-    if let Found::Bad(v, at) = f {
-        let reply = Reply::refused(number(v), at as u64);
-        return Paged { reply, tally };
-    }
-    let size = a.size;
-    let counts = a.tally;
-    let reply = Reply::in_room(size, 0, out.len());
+    let a = match answer_run(run, ar, admits, rules, &mut image) {
+        Ok(a) => a,
+        Err(f) => {
+            let reply = f.into();
+            return Paged { reply, tally };
+        }
+    };
+    let reply = Reply::in_room(a.size, 0, out.len());
     if reply.number == 0 {
-        put_bytes(out, 0, &image[..size]);
+        put_bytes(out, 0, &image[..a.size]);
         return Paged {
             reply,
-            tally: counts,
+            tally: a.tally,
         };
     }
     Paged { reply, tally }
@@ -124,11 +121,10 @@ fn answer_run<'a>(
     admits: &'a [u64; MAX_PREDICATES],
     rules: &mut [u64; RULES_SIZE],
     image: &mut [u8; LONGEST_PAGE],
-) -> Answered
+) -> Result<Answered, FaultAt>
     requires { Arities ar.now × Full admits.now }
-    ensures { RunAnswered ar.now run.now (table_in admits.now max_predicates) result.found image.new result.size result.tally }
+    ensures { RunAnswered ar.now run.now (table_in admits.now max_predicates) result image.new }
 {
-    let bytes: &mut [u8] = image;
     let mut tally = Tally {
         accepted: 0,
         turned_away: 0,
@@ -138,43 +134,30 @@ fn answer_run<'a>(
     let mut size: usize = 0;
     while is_mark(run, at, b"QU") {
         if MAX_QUERIES <= n {
-            let found = Found::Bad(Fault::TooMany, at);
-            return Answered { found, size, tally };
+            return Err(Fault::TooMany.at(at));
         }
-        let found = read_page_query(run, ar, at, rules);
-        match found {
-            Found::Bad(_, _) => {
-                return Answered { found, size, tally };
-            }
-            Found::Next(next, _) => {
-                let v = answer_query(rules, admits, bytes, size);
-                tally = stepped(tally, v.accepted);
-                size = v.next;
-                n += 1;
-                at = next;
-            }
-        }
+        at = read_page_query(run, ar, at, rules)?;
+        let v = answer_query(rules, admits, image, size);
+        tally = stepped(tally, v.accepted);
+        size = v.next;
+        n += 1;
     }
-    let found = run_end(run, at, Phase::Queries);
-    Answered { found, size, tally }
+    run_end(run, at, Phase::Queries)?;
+    Ok(Answered { size, tally })
 }
 
-// The query whose record is at a place of the run, stored where the book's own is.
+// The query whose record is at a place of the run, stored where the book's own is: the place after it.
 fn read_page_query<'a>(
     run: &'a [u8],
     ar: &'a [u8],
     at: usize,
     rules: &mut [u64; RULES_SIZE],
-) -> Found
+) -> Result<usize, FaultAt>
     requires { (at + 2 ≤ length run.now) × Arities ar.now }
     ensures { QueryRead ar.now run.now at result rules.new }
 {
-    let words: &mut [u64] = rules;
-    let b = read_body(run, ar, at + 2, words, MAX_CLAUSES);
-    match b {
-        Found::Bad(_, _) => b,
-        Found::Next(end, _) => ended(run, end, Phase::PageQuery, b"QU"),
-    }
+    let end = read_body(run, ar, at + 2, rules, MAX_CLAUSES)?;
+    ended(run, end, Phase::PageQuery, b"QU")
 }
 
 // The answer to the query that is stored, from a place on. It depends on the table and the query alone, and has at most 12 bytes: 0, a mark, n and eight

@@ -7,11 +7,12 @@ use native.Mathlib.Omega.{arith}
 use lib.ListN.{length, drop}
 use Rattle.book.specs.Limits.{max_clauses, max_queries, longest_page}
 use Rattle.book.specs.Book.{Call, Clause}
-use Rattle.book.specs.Format.{spelling, leads, mark_at, turn, Got, got, many, query}
+use Rattle.book.specs.Format.{spelling, leads, mark_at, turn, Got, many, query}
 use Rattle.book.specs.Held.{rules_size, clause_at}
 use Rattle.book.specs.Sets.{callable}
 use Rattle.book.specs.Table.{Table}
-use Rattle.book.specs.declared.fault.Fault.{Fault}
+use Rattle.std.specs.Prelude.{Result, Ok, Err}
+use Rattle.book.specs.declared.fault.FaultAt.{FaultAt}
 use Rattle.book.specs.declared.fault.Fault.TheVariants.{TooMany}
 use Rattle.book.specs.declared.mark.Mark.TheVariants.{Qu}
 use Rattle.book.specs.declared.mark.Phase.TheVariants.{Queries, PageQuery}
@@ -19,9 +20,8 @@ use Rattle.book.specs.declared.mark.Turn.TheVariants.{Mine}
 use Rattle.book.proofs.Laws.Encode.{run_append}
 use Rattle.book.proofs.Laws.Marks.{sole_queries}
 use Rattle.book.proofs.Laws.Sets.{fit_callable}
-use Rattle.records.specs.declared.field.Found.{Found}
-use Rattle.records.specs.declared.field.Found.TheVariants.{Next, Bad}
-use Rattle.records.specs.Found.{Reads, Arities, means, stops}
+use Rattle.records.specs.Read.{alone, RunEnds, Reads, Arities}
+use Rattle.records.proofs.Laws.Reads.{reads_ok, reads_err}
 use Rattle.reading.specs.Stored.{ReadsQuery}
 use Rattle.reading.proofs.Laws.Runs.{Going, mine_at, not_mine_at, mark_there, going_start, going_full, going_bad, going_next, going_end}
 use Rattle.writing.specs.Wrote.{Wrote}
@@ -32,12 +32,13 @@ use Rattle.tally.proofs.Laws.Tallied.{AtMost, tallied_at_most, tally_append}
 use Rattle.paging.specs.Run.{read_run, faulty, judged_run, judge_run}
 use Rattle.paging.specs.Page.{answer, accepts, answers}
 use Rattle.paging.proofs.Laws.Run.{query_inv, query_calls_lem}
-use Rattle.page.specs.Lent.{QueryRead, Kept, CameTo, RunAnswered}
+use Rattle.page.specs.Lent.{QueryRead, Kept, RunAnswered}
 
 -- ---- a query that is read is stored, where there is room
 
-pub query_stored : {ar run : List ℕ} {at : ℕ} {r : Found} {before after : List ℕ} → ReadsQuery PageQuery ar run at r before after → length before ≡ rules_size → QueryRead ar run at r after
-query_stored w room = record { goals = w.goals; reads = w.reads; stored = λ end n e. ap (λ (c : Clause). c.body) (w.stored end n e room).is }
+pub query_stored : {ar run : List ℕ} {at : ℕ} {r : Result ℕ FaultAt} {before after : List ℕ} → ReadsQuery PageQuery ar run at r before after → length before ≡ rules_size
+    → QueryRead ar run at r after
+query_stored w room = record { goals = w.goals; reads = w.reads; stored = λ end e. ap (λ (c : Clause). c.body) (w.stored end e room).is }
 
 -- ---- one more query
 
@@ -85,13 +86,13 @@ module _ (ar run : List ℕ) (T : Table) where
 
     -- ---- what the run comes to
 
-    judge_bad : {k : ℕ → List (List Call)} {v : Fault} {p : ℕ} → Reads run (Bad v p) k (many Queries (item ar) max_queries [] (drop 0 run))
-        → judge_run ar run ≡ faulty v p
+    judge_bad : {W : Type 0} {after : W → ℕ} {k : W → List (List Call)} {r : Result W FaultAt} {e : FaultAt}
+        → Reads after run r k (many Queries (item ar) max_queries [] (drop 0 run)) → r ≡ Err e → judge_run ar run ≡ faulty e.fault e.at
     unfolding judge_run read_run
-    judge_bad {v = v} {p = p} w =
-        let i = w.inside in
-        let z : length run - (length run - p) ≡ p = omega arith in
-        ap (judged_run run) (sym w.is) ∙ ap (faulty v) z
+    judge_bad {e = e} w d =
+        let u = reads_err w d in
+        let z : length run - (length run - e.at) ≡ e.at = (let i = u.0 in omega arith) in
+        ap (judged_run run) (sym u.1) ∙ ap (faulty e.fault) z
 
     module _ (mark : leads (spelling Qu) (drop at run) ≡ true) where
       mine : turn Queries (mark_at (drop at run)) ≡ Mine
@@ -100,32 +101,26 @@ module _ (ar run : List ℕ) (T : Table) where
       pub asking_there : at + 2 ≤ length run
       asking_there = mark_there Queries run at mine
 
-      pub asking_full : max_queries ≤ n → (o : List ℕ) (s : ℕ) (u : Tally) → RunAnswered ar run T (Bad TooMany at) o s u
-      asking_full h o s u = record { comes = judge_bad {k = λ j. []} (going_full Queries (item ar) run max_queries 0 l.going mine h) }
+      pub asking_full : max_queries ≤ n → (o : List ℕ) → RunAnswered ar run T (Err (record { fault = TooMany; at = at })) o
+      asking_full h o = record { comes = judge_bad {after = alone} {k = λ j. []} (going_full Queries (item ar) run max_queries 0 l.going mine h) refl }
 
-      module _ {g : Found} {rules : List ℕ} (w : QueryRead ar run at g rules) where
-        pub asking_bad : n < max_queries → {v : Fault} {p : ℕ} → g ≡ Bad v p → (o : List ℕ) (s : ℕ) (u : Tally) → RunAnswered ar run T g o s u
-        asking_bad h e o s u =
-            let x : Reads run g (λ j. []) (many Queries (item ar) max_queries [] (drop 0 run)) =
-            going_bad Queries (item ar) run max_queries 0 l.going mine h w.reads {k = λ j. []} e in
-            record {
-              comes = rw e (judge_bad {k = λ j. []} (subst (λ (y : Found). Reads run y (λ j. []) (many Queries (item ar) max_queries [] (drop 0 run))) e x));
-            }
+      module _ {g : Result ℕ FaultAt} {rules : List ℕ} (w : QueryRead ar run at g rules) where
+        pub asking_bad : n < max_queries → {e : FaultAt} → g ≡ Err e → (o : List ℕ) → RunAnswered ar run T (Err e) o
+        asking_bad h e o =
+            record { comes = judge_bad {after = alone} {k = λ j. []} (going_bad Queries (item ar) run max_queries 0 l.going mine h w.reads e) refl }
 
-        module _ {next m : ℕ} (e : g ≡ Next next m) where
+        module _ {end : ℕ} (e : g ≡ Ok end) where
           -- what it calls can be called
           pub asking_callable : Arities ar → callable (clause_at rules max_clauses).body ≡ true
           asking_callable a =
-              let d : got w.goals (drop next run) ≡ query PageQuery ar (drop at run) =
-              subst (λ (y : Found). means run y (λ j. w.goals) ≡ query PageQuery ar (drop at run)) e w.reads.is in
-              let f = (query_inv ar (drop at run) w.goals (drop next run) mine (sym d)).1 in
-              rw (w.stored next m e) (fit_callable ar a.few w.goals (query_calls_lem ar w.goals f))
+              let f = (query_inv ar (drop at run) w.goals (drop end run) mine (sym (reads_ok w.reads e).1)).1 in
+              rw (w.stored end e) (fit_callable ar a.few w.goals (query_calls_lem ar w.goals f))
 
           pub asking_next : n < max_queries → {after : List ℕ} {size' : ℕ} → Wrote image after size size' (answer T (clause_at rules max_clauses).body) → size' ≤ size + 12
-              → {b : Bool} → b ≡ accepts T (clause_at rules max_clauses).body → {u : Tally} → u ≡ tallied t b → Asking ar run T image₀ after next (n + 1) size' u
+              → {b : Bool} → b ≡ accepts T (clause_at rules max_clauses).body → {u : Tally} → u ≡ tallied t b → Asking ar run T image₀ after end (n + 1) size' u
           asking_next h v s {b} d {u} c =
               let q = w.goals in
-              let is = w.stored next m e in
+              let is = w.stored end e in
               record {
                 qs = l.qs ++ (q ∷ []);
                 going = going_next Queries (item ar) run max_queries 0 l.going mine h w.reads e refl;
@@ -149,11 +144,13 @@ module _ (ar run : List ℕ) (T : Table) where
           counted = l.counted;
         }
 
-    pub asking_end : leads (spelling Qu) (drop at run) ≡ false → {r : Found} → Reads run r (λ k. k) (stops Queries 0 (drop at run)) → RunAnswered ar run T r image size t
-    unfolding judge_run read_run
-    asking_end mark {r} w =
-        record { comes = go r (going_end Queries (item ar) run max_queries 0 l.going (not_mine_at Queries Qu run at sole_queries mark) w) }
-      where
-        go : (x : Found) → Reads run x (λ j. l.qs) (many Queries (item ar) max_queries [] (drop 0 run)) → CameTo ar run T x image size t
-        go (Bad v p) y = judge_bad y
-        go (Next p k) y = (l.qs, ap (judged_run run) (sym y.is), kept)
+    module _ (mark : leads (spelling Qu) (drop at run) ≡ false) {r : Result ℕ FaultAt} (w : RunEnds Queries run at r) where
+      all : Reads alone run r (λ k. l.qs) (many Queries (item ar) max_queries [] (drop 0 run))
+      all = going_end Queries (item ar) run max_queries 0 l.going (not_mine_at Queries Qu run at sole_queries mark) w
+
+      pub asking_end_bad : {e : FaultAt} → r ≡ Err e → (o : List ℕ) → RunAnswered ar run T (Err e) o
+      asking_end_bad e o = record { comes = judge_bad all e }
+
+      pub asking_end : {end : ℕ} → r ≡ Ok end → RunAnswered ar run T (Ok (record { size = size; tally = t })) image
+      unfolding judge_run read_run
+      asking_end e = record { comes = (l.qs, ap (judged_run run) (sym (reads_ok all e).1), kept) }

@@ -15,15 +15,15 @@ use Rattle.masks.proofs.Laws.Logic.{and_left, and_right}
 use Rattle.masks.proofs.Laws.Outcome.{answers_refused, room_enough, room_short, answers_short, answers_done}
 use Rattle.book.specs.Limits.{max_predicates}
 use Rattle.book.specs.Book.{Call, Book}
-use Rattle.book.specs.Format.{number, Judged, fault, book, judge}
+use Rattle.book.specs.Format.{number, fault, judge}
 use Rattle.book.specs.Held.{book_in}
 use Rattle.book.specs.Table.{Table, table_in, Full}
+use Rattle.std.specs.Prelude.{Result, Ok, Err}
 use Rattle.book.specs.declared.fault.Fault.{Fault}
+use Rattle.book.specs.declared.fault.FaultAt.{FaultAt}
 use Rattle.book.proofs.Laws.Sets.{calls_below, fit_callable, fit_below}
-use Rattle.records.specs.declared.field.Found.{Found}
-use Rattle.records.specs.declared.field.Found.TheVariants.{Next, Bad}
-use Rattle.records.specs.Found.{Arities}
-use Rattle.reading.specs.Judged.{checked, Judges, BookRead}
+use Rattle.records.specs.Read.{Arities}
+use Rattle.reading.specs.Judged.{BookHeld}
 use Rattle.reading.specs.declared.Reading.{Reading}
 use Rattle.reading.proofs.Laws.Judged.{read_well}
 use Rattle.ordering.specs.Adorn.{nothing}
@@ -39,6 +39,7 @@ use Rattle.paging.specs.Run.{faulty, queries, judge_run, query_fits}
 use Rattle.paging.specs.Page.{answered, answer, accepts, answers, paged, verdicts_of, paging, verdicts}
 use Rattle.paging.proofs.Laws.Run.{query_calls_lem, run_inv}
 use Rattle.paging.proofs.Laws.Page.{paging_fault, paging_book, verdicts_book}
+use Rattle.page.specs.declared.Answered.{Answered}
 use Rattle.page.specs.Lent.{Lent, Gives, Kept, CameTo, RunAnswered}
 
 -- ---- what is lent
@@ -103,17 +104,20 @@ module _ (B : Book) (preds : ℕ) (arities table : List ℕ) (l : Lent B preds a
 
 -- ---- the three ways a page ends
 
-module _ (preds : ℕ) (arities table r : List ℕ) {g : Found} {image : List ℕ} {size : ℕ} {u : Tally}
-    (w : RunAnswered (take preds arities) r (table_in table max_predicates) g image size u) where
-  pub give_bad : {v : Fault} {at : ℕ} → g ≡ Bad v at → (out : List ℕ) (t : Tally) {x : Reply} → x ≡ record { number = number v; value = at; rounds = 0 }
+module _ (preds : ℕ) (arities table r : List ℕ) {g : Result Answered FaultAt} {image : List ℕ}
+    (w : RunAnswered (take preds arities) r (table_in table max_predicates) g image) where
+  pub give_bad : {e : FaultAt} → g ≡ Err e → (out : List ℕ) (t : Tally) {x : Reply} → x ≡ record { number = number e.fault; value = e.at; rounds = 0 }
       → Gives preds arities table r out t x out t
-  give_bad {v} {at} e out t d B l =
-      let j : judge_run (take preds arities) r ≡ faulty v at = subst (λ (h : Found). CameTo (take preds arities) r (table_in table max_predicates) h image size u) e w.comes in
-      rw (given_fault B preds arities table l r j) (tallies_refused (number v) at (answers_refused (number v) at out d))
+  give_bad {e} q out t d B l =
+      let j : judge_run (take preds arities) r ≡ faulty e.fault e.at = subst (λ (h : Result Answered FaultAt). CameTo (take preds arities) r (table_in table max_predicates) h image) q w.comes in
+      rw (given_fault B preds arities table l r j) (tallies_refused (number e.fault) e.at (answers_refused (number e.fault) e.at out d))
 
-  module _ {p k : ℕ} (e : g ≡ Next p k) where
-    all· : (qs : List (List Call)) × (judge_run (take preds arities) r ≡ queries qs) × Kept (table_in table max_predicates) qs image size u
-    all· = subst (λ (h : Found). CameTo (take preds arities) r (table_in table max_predicates) h image size u) e w.comes
+  module _ {a : Answered} (e : g ≡ Ok a) where
+    abbrev size : ℕ
+    size = a.size
+
+    all· : (qs : List (List Call)) × (judge_run (take preds arities) r ≡ queries qs) × Kept (table_in table max_predicates) qs image size a.tally
+    all· = subst (λ (h : Result Answered FaultAt). CameTo (take preds arities) r (table_in table max_predicates) h image) e w.comes
 
     abbrev bytes : List ℕ
     bytes = answers (table_in table max_predicates) all·.0
@@ -125,11 +129,11 @@ module _ (preds : ℕ) (arities table r : List ℕ) {g : Found} {image : List �
     module _ (out : List ℕ) (t : Tally) (room : ℕ) {x : Reply} (d : x ≡ in_room size 0 room) where
       pub give_short : length out ≤ room → (x.number ≡ 0 → ⊥) → {v : Tally} → v.accepted ≡ t.accepted → v.turned_away ≡ t.turned_away
           → Gives preds arities table r out t x out v
-      give_short h z a b B l =
+      give_short h z p q B l =
           let n : length out < length bytes = let long = all·.2.long in let s = room_short size 0 room d z in omega arith in
-          rw (given_queries B preds arities table l r all·.1) (tallies_short 0 bytes n (answers_short size 0 room d bytes all·.2.long h z) a b)
+          rw (given_queries B preds arities table l r all·.1) (tallies_short 0 bytes n (answers_short size 0 room d bytes all·.2.long h z) p q)
 
-      pub give_done : {after : List ℕ} → room ≤ length out → (x.number ≡ 9 → ⊥) → after ≡ sets out 0 (take size image) → Gives preds arities table r out t x after u
+      pub give_done : {after : List ℕ} → room ≤ length out → (x.number ≡ 9 → ⊥) → after ≡ sets out 0 (take size image) → Gives preds arities table r out t x after a.tally
       give_done h z f B l =
           let n : length bytes ≤ length out = let long = all·.2.long in let s = room_enough size 0 room d z in omega arith in
           rw (given_queries B preds arities table l r all·.1)
@@ -138,15 +142,11 @@ module _ (preds : ℕ) (arities table r : List ℕ) {g : Found} {image : List �
 
 -- ---- the whole call: of a book with a fault, and of one that was read, and settled
 
-pub page_refused : {s : List ℕ} {b : Reading} → Judges s b → (b.reply.number ≡ 0 → ⊥) → (r out : List ℕ) (t : Tally) → Tallies (paging s r) (verdicts s r) out t b.reply out t
-page_refused {s} {b} w z r out t = go (judge s) refl
-  where
-    go : (j : Judged) → judge s ≡ j → Tallies (paging s r) (verdicts s r) out t b.reply out t
-    go (fault v at) e =
-        rw (paging_fault s r v at e) (tallies_refused (number v) at (answers_refused (number v) at out (w.replies ∙ ap checked e)))
-    go (book B) e = absurd (z (ap (λ (x : Reply). x.number) (w.replies ∙ ap checked e)))
+pub page_refused : (s : List ℕ) (e : FaultAt) → judge s ≡ fault e.fault e.at → (r out : List ℕ) (t : Tally) {x : Reply}
+    → x ≡ record { number = number e.fault; value = e.at; rounds = 0 } → Tallies (paging s r) (verdicts s r) out t x out t
+page_refused s e j r out t d = rw (paging_fault s r e.fault e.at j) (tallies_refused (number e.fault) e.at (answers_refused (number e.fault) e.at out d))
 
-module _ {s : List ℕ} {b : Reading} {arities modes rules : List ℕ} (w : BookRead s b arities modes rules) (z : b.reply.number ≡ 0) where
+module _ {s : List ℕ} {b : Reading} {arities modes rules : List ℕ} (w : BookHeld s b arities modes rules) where
   abbrev B : Book
   B = book_in b.preds arities modes b.clauses rules
 
@@ -154,7 +154,7 @@ module _ {s : List ℕ} {b : Reading} {arities modes rules : List ℕ} (w : Book
   unfolding book_in
   lent_read {masks = masks} t =
       record {
-        well = read_well w z;
+        well = read_well w;
         preds· = w.listed.each;
         arities· = refl;
         masks = masks;
@@ -164,4 +164,4 @@ module _ {s : List ℕ} {b : Reading} {arities modes rules : List ℕ} (w : Book
 
   pub page_given : (r out after : List ℕ) (old t : Tally) (x : Reply)
       → Tallies (paged B (judge_run B.arities r)) (verdicts_of B (judge_run B.arities r)) out old x after t → Tallies (paging s r) (verdicts s r) out old x after t
-  page_given r out after old t x p = rw (paging_book s B (w.holds z) r, verdicts_book s B (w.holds z) r) p
+  page_given r out after old t x p = rw (paging_book s B w.is r, verdicts_book s B w.is r) p

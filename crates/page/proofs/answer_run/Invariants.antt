@@ -6,8 +6,8 @@ use Rattle.book.specs.Table.{table_in}
 use Rattle.page.proofs.Laws.Asking.{Asking}
 use Rattle.page.proofs.answer_run.Given as goal
 
-abbrev pub invariant-loop-bytes : goal.invariant-loop-bytes
-invariant-loop-bytes l = Asking l.ar l.run (table_in l.admits max_predicates) l.initial.bytes l.bytes l.at l.n l.size l.tally
+abbrev pub invariant-loop-tally : goal.invariant-loop-tally
+invariant-loop-tally l = Asking l.ar l.run (table_in l.admits max_predicates) l.initial.image l.image l.at l.n l.size l.tally
 
-abbrev pub decreases-loop-bytes : goal.decreases-loop-bytes
-decreases-loop-bytes l = 256 - l.n
+abbrev pub decreases-loop-tally : goal.decreases-loop-tally
+decreases-loop-tally l = 256 - l.n
