@@ -19,42 +19,12 @@ loop-p-init c =
     let p = c.requires in
     filling_start s.modes.now s.table.now s.admits.now (omega arith) (omega arith) p.2 p.3
 
-pub has_mode-requires : goal.has_mode-requires
-has_mode-requires c = let h = c.requires.0 in omega arith
-
-pub masks_at-requires : goal.masks_at-requires
-masks_at-requires c = let h = c.requires.0 in omega arith
-
 pub minimised-c-requires : goal.minimised-c-requires
 minimised-c-requires c =
     let p = c.requires in
     let h = p.0 in
     ap (in_range all_patterns) c.masks_at.ensures
     ∙ p.1 c.loop-p.p (omega arith) (sym c.has_mode.ensures ∙ c.if-has_mode.true)
-
-pub offset_bounds-table-q : goal.offset_bounds-table-q
-offset_bounds-table-q c = let h = c.requires.0 in omega arith
-
-pub bounds-table-q : goal.bounds-table-q
-bounds-table-q c = let h = c.requires.0 in let s = c.loop-p.invariant.size in omega arith
-
-pub offset_bounds-admits-q : goal.offset_bounds-admits-q
-offset_bounds-admits-q c = let h = c.requires.0 in omega arith
-
-pub bounds-admits-q : goal.bounds-admits-q
-bounds-admits-q c = let h = c.requires.0 in let s = c.loop-p.invariant.room in omega arith
-
-pub offset_bounds-table-q-else-has_mode : goal.offset_bounds-table-q-else-has_mode
-offset_bounds-table-q-else-has_mode c = let h = c.requires.0 in omega arith
-
-pub bounds-table-q-else-has_mode : goal.bounds-table-q-else-has_mode
-bounds-table-q-else-has_mode c = let h = c.requires.0 in let s = c.loop-p.invariant.size in omega arith
-
-pub offset_bounds-admits-q-else-has_mode : goal.offset_bounds-admits-q-else-has_mode
-offset_bounds-admits-q-else-has_mode c = let h = c.requires.0 in omega arith
-
-pub bounds-admits-q-else-has_mode : goal.bounds-admits-q-else-has_mode
-bounds-admits-q-else-has_mode c = let h = c.requires.0 in let s = c.loop-p.invariant.room in omega arith
 
 pub loop-p-preserved : goal.loop-p-preserved
 loop-p-preserved c =

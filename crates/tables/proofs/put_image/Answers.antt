@@ -21,23 +21,8 @@ loop-p-init c =
     let k = c.args in
     writing_start (rows_chunks k.arities.now k.table.now k.preds) c.requires.3
 
-pub offset_bounds-admits-i : goal.offset_bounds-admits-i
-offset_bounds-admits-i c = omega arith
-
-pub bounds-admits-i : goal.bounds-admits-i
-bounds-admits-i c = omega arith
-
-pub bounds-arities-i : goal.bounds-arities-i
-bounds-arities-i c = omega arith
-
 pub fitting-fit-requires : goal.fitting-fit-requires
 fitting-fit-requires c = c.requires.1 c.loop-p.p c.loop-p-test.true
-
-pub offset_bounds-table-i : goal.offset_bounds-table-i
-offset_bounds-table-i c = omega arith
-
-pub bounds-table-i : goal.bounds-table-i
-bounds-table-i c = omega arith
 
 -- the count made of p's patterns is that of its row
 counted : (c : After-fitting-fit) → let l = c.loop-p in let k = c.args in

@@ -40,17 +40,8 @@ module _ (c : After-predicate-q) where
       let l = callable_low (clause_at c.args.rules.now c.args.k).body c.loop-j.j c.requires.2 (omega arith) in
       omega arith
 
-pub offset_bounds-callers-q : goal.offset_bounds-callers-q
-offset_bounds-callers-q c = let l = low c in omega arith
-
 pub bounds-callers-q : goal.bounds-callers-q
 bounds-callers-q c = let l = low c.before.before in let s = c.loop-j.invariant.size in omega arith
-
-pub with_member-requires : goal.with_member-requires
-with_member-requires c = let e = head c.before.before.before in let l = c.requires.1 in omega arith
-
-pub offset_bounds-callers-q-in-loop-j : goal.offset_bounds-callers-q-in-loop-j
-offset_bounds-callers-q-in-loop-j c = let l = low c.before.before.before in omega arith
 
 pub bounds-callers-q-in-loop-j : goal.bounds-callers-q-in-loop-j
 bounds-callers-q-in-loop-j c = let l = low c.before.before.before in let s = c.loop-j.invariant.size in omega arith

@@ -10,14 +10,8 @@ loop-p-init c =
     rw (c.into_iter-p-iterator.ensures.into_iter_gives, c.of-p-items.ensures)
     (over_start (Renewing s.table.now s.admits.now s.changed s.table.now) s.changed (renewing_start s.table.now s.admits.now s.changed (omega arith)))
 
-pub offset_bounds-admits-q : goal.offset_bounds-admits-q
-offset_bounds-admits-q c = let l = over_small _ _ _ (renewing_skip _ _ _ _) c.loop-p.invariant _ _ c.in-Some.ensures.steps in omega arith
-
 pub bounds-admits-q : goal.bounds-admits-q
 bounds-admits-q c = let l = over_small _ _ _ (renewing_skip _ _ _ _) c.loop-p.invariant _ _ c.in-Some.ensures.steps in omega arith
-
-pub offset_bounds-table-q : goal.offset_bounds-table-q
-offset_bounds-table-q c = let l = over_small _ _ _ (renewing_skip _ _ _ _) c.loop-p.invariant _ _ c.in-Some.ensures.steps in omega arith
 
 pub bounds-table-q : goal.bounds-table-q
 bounds-table-q c = let l = over_small _ _ _ (renewing_skip _ _ _ _) c.loop-p.invariant _ _ c.in-Some.ensures.steps in omega arith

@@ -15,9 +15,6 @@ loop-j-init c = measuring_start (subgoals_chunks c.args.rules.now c.args.k c.sub
 pub subgoal_at-requires : goal.subgoal_at-requires
 subgoal_at-requires c = let e = c.subgoals_at-j-end.ensures in (c.requires, omega arith)
 
-pub overflow_add-total : goal.overflow_add-total
-overflow_add-total c = omega arith
-
 pub overflow_add-total-in-loop-j : goal.overflow_add-total-in-loop-j
 overflow_add-total-in-loop-j c =
     let e = c.subgoals_at-j-end.ensures in

@@ -13,21 +13,6 @@ use Rattle.writing.proofs.length.clauses_length.Goals as goal
 pub loop-k-init : goal.loop-k-init
 loop-k-init c = measuring_start (clauses_chunks c.args.rules.now (min c.args.clauses max_clauses) (omega arith))
 
-pub head_at-requires : goal.head_at-requires
-head_at-requires c = omega arith
-
-pub overflow_add-total : goal.overflow_add-total
-overflow_add-total c = omega arith
-
-pub body_length-requires : goal.body_length-requires
-body_length-requires c = omega arith
-
-pub overflow_add-total-in-loop-k : goal.overflow_add-total-in-loop-k
-overflow_add-total-in-loop-k c = omega arith
-
-pub overflow_add-total-in-loop-k-2 : goal.overflow_add-total-in-loop-k-2
-overflow_add-total-in-loop-k-2 c = omega arith
-
 pub loop-k-preserved : goal.loop-k-preserved
 loop-k-preserved c =
     let l = clause_length (clause_at c.args.rules.now c.loop-k.k) in
