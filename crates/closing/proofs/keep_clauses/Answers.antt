@@ -26,16 +26,10 @@ is c = c.predicate-p.ensures ∙ ap (λ (h : Head). h.pred) (c.head.ensures ∙ 
 pub has_member-requires : goal.has_member-requires
 has_member-requires c = keeping_low c.loop-k.invariant (omega arith) (is c) c.requires.1
 
-pub overflow_cast-n : goal.overflow_cast-n
-overflow_cast-n c = let f = c.loop-k.invariant.few in omega arith
-
 pub move_clause-requires : goal.move_clause-requires
 move_clause-requires c =
     let f = c.loop-k.invariant.few in
     (omega arith, omega arith)
-
-pub overflow_add-n : goal.overflow_add-n
-overflow_add-n c = let f = c.loop-k.invariant.few in omega arith
 
 pub loop-k-preserved : goal.loop-k-preserved
 loop-k-preserved c =

@@ -19,12 +19,6 @@ loop-p-init c =
     let p = c.requires in
     filling_start s.book.now.modes s.table.now.masks s.table.now.admits (omega arith) (omega arith) p.2 p.3
 
-pub has_mode-requires : goal.has_mode-requires
-has_mode-requires c = let h = c.requires.0 in omega arith
-
-pub masks_at-requires : goal.masks_at-requires
-masks_at-requires c = let h = c.requires.0 in omega arith
-
 pub minimised-c-requires : goal.minimised-c-requires
 minimised-c-requires c =
     let p = c.requires in

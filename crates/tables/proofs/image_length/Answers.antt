@@ -16,15 +16,6 @@ use Rattle.tables.proofs.image_length.Goals as goal
 pub loop-masks-init : goal.loop-masks-init
 loop-masks-init c = measuring_start (rows_chunks [] c.args.table.now.masks c.args.book.now.preds)
 
-pub overflow_add-total : goal.overflow_add-total
-overflow_add-total c = omega arith
-
-pub overflow_add-total-in-loop-masks : goal.overflow_add-total-in-loop-masks
-overflow_add-total-in-loop-masks c =
-    let m = c.loop-masks.invariant.small in
-    let q = c.loop-masks.invariant.most in
-    omega arith
-
 pub loop-masks-preserved : goal.loop-masks-preserved
 loop-masks-preserved c =
     let n = c.count.ensures in

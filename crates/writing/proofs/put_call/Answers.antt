@@ -17,9 +17,6 @@ loop-i-init c =
     let args = (call_in c.args.call.word).args in
     writing_start (bytes_chunks args c.arguments-i-end.ensures.value) (room_second args c.put_byte-p.ensures c.requires)
 
-pub argument-requires : goal.argument-requires
-argument-requires c = let e = c.arguments-i-end.ensures.value in omega arith
-
 pub put_byte-p-requires-in-loop-i : goal.put_byte-p-requires-in-loop-i
 put_byte-p-requires-in-loop-i c = writing_room c.loop-i.invariant (omega arith)
 

@@ -8,9 +8,6 @@ pub loop-q-init : goal.loop-q-init
 loop-q-init c =
     rw (c.into_iter-q-iterator.ensures.into_iter_gives, c.of-q-items.ensures) (passing_start c.args.callers.now c.args.called)
 
-pub offset_bounds-callers-q : goal.offset_bounds-callers-q
-offset_bounds-callers-q c = let l = passing_low _ _ _ _ c.loop-q.invariant _ _ c.in-Some.ensures.steps in omega arith
-
 pub bounds-callers-q : goal.bounds-callers-q
 bounds-callers-q c = let l = passing_low _ _ _ _ c.loop-q.invariant _ _ c.in-Some.ensures.steps in omega arith
 

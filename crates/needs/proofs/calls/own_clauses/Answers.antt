@@ -32,18 +32,6 @@ module _ (c : After-predicate-p) where
   low : c.predicate-p.result < max_predicates
   low = head_low c.loop-k.k c.predicate-p.result c.requires.1 (omega arith) is
 
-pub offset_bounds-own-q : goal.offset_bounds-own-q
-offset_bounds-own-q c = let l = low c in omega arith
-
-pub bounds-own-q : goal.bounds-own-q
-bounds-own-q c = let l = low c.before.before in let s = c.loop-k.invariant.0.size in omega arith
-
-pub offset_bounds-own-q-in-loop-k : goal.offset_bounds-own-q-in-loop-k
-offset_bounds-own-q-in-loop-k c = let l = low c.before.before.before in omega arith
-
-pub bounds-own-q-in-loop-k : goal.bounds-own-q-in-loop-k
-bounds-own-q-in-loop-k c = let l = low c.before.before.before in let s = c.loop-k.invariant.0.size in omega arith
-
 pub with_member-heads-requires : goal.with_member-heads-requires
 with_member-heads-requires c = low c.before.before.before
 

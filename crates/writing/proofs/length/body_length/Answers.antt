@@ -14,9 +14,6 @@ loop-j-init c = measuring_start (subgoals_chunks c.args.clause.now.body c.subgoa
 pub subgoal-requires : goal.subgoal-requires
 subgoal-requires c = let e = c.subgoals-j-end.ensures.value in omega arith
 
-pub overflow_add-total : goal.overflow_add-total
-overflow_add-total c = omega arith
-
 pub overflow_add-total-in-loop-j : goal.overflow_add-total-in-loop-j
 overflow_add-total-in-loop-j c =
     let e = c.subgoals-j-end.ensures.value in

@@ -21,9 +21,6 @@ loop-p-init c = record {
 pub masks_at-masks-requires : goal.masks_at-masks-requires
 masks_at-masks-requires c = passed_small c.loop-p.invariant.going c.in-Some.ensures.steps
 
-pub overflow_add-total : goal.overflow_add-total
-overflow_add-total c = let f = mode_few c.args.modes.now c.in-Some.p c.masks_at-masks.ensures in omega arith
-
 pub overflow_add-total-in-loop-p : goal.overflow_add-total-in-loop-p
 overflow_add-total-in-loop-p c =
     let i = c.loop-p.invariant in
