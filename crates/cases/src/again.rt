@@ -7,8 +7,7 @@ use masks::reply::Reply;
 // The reply to writing the book of a line, and the bytes written; of a book with a fault the check's reply.
 pub fn results(line: &[u8]) {
     let mut raw = [0u8; BOOK];
-    let n = lines::field_bytes(line, 2, &mut raw);
-    let bytes = &raw[..n];
+    let bytes = show::bytes(line, 2, &mut raw);
     let fault = reading::check(bytes);
     if fault.number != 0 {
         show::reply(fault, 2);
