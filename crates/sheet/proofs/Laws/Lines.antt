@@ -155,7 +155,6 @@ left_less l i k f h e = omega arith
 
 -- the loop over them: what is written so far, with the lines of the records from i on, is the whole
 pub record Lining (letter lead : ℕ) (none : List ℕ) (trail : ℕ) (image whole out : List ℕ) (at : ℕ) (now : List ℕ) (p i : ℕ) : Type 0 where
-  pub small : lead + trail ≤ 2
   pub most : i ≤ length image
   pub room : Room out at whole
   pub done : List ℕ
@@ -165,10 +164,10 @@ pub record Lining (letter lead : ℕ) (none : List ℕ) (trail : ℕ) (image who
   pub is : done ++ lines_in letter lead none trail fuel (drop i image) ≡ whole
 
 module _ {letter lead trail at : ℕ} {none image whole out : List ℕ} where
-  pub lining_start : lead + trail ≤ 2 → Room out at whole → lines_in letter lead none trail (length image) image ≡ whole
+  pub lining_start : Room out at whole → lines_in letter lead none trail (length image) image ≡ whole
       → Lining letter lead none trail image whole out at out at 0
-  lining_start l r e =
-      record { small = l; most = omega arith; room = r; done = []; wrote = wrote_nil out at; fuel = length image; enough = omega arith; is = e }
+  lining_start r e =
+      record { most = omega arith; room = r; done = []; wrote = wrote_nil out at; fuel = length image; enough = omega arith; is = e }
 
   module _ {now : List ℕ} {p i : ℕ} (w : Lining letter lead none trail image whole out at now p i) where
     pub lining_length : length now ≡ length out
@@ -211,13 +210,13 @@ module _ {letter lead trail at : ℕ} {none image whole out : List ℕ} where
 
       -- with the records from i on as the code lends them
       module _ {s : List ℕ} (e : s ≡ drop i image) where
-        pub lining_asks : (lead + trail ≤ 2) × (3 + lead + trail ≤ length s) × Room now p (line_in letter lead none trail s)
+        pub lining_asks : (3 + lead + trail ≤ length s) × Room now p (line_in letter lead none trail s)
         lining_asks =
             let l = length-drop i image in
             let f = ap length e in
             let g = ap (λ (t : List ℕ). length (line_in letter lead none trail t)) e in
             let r = line_room in
-            (w.small, omega arith, omega arith)
+            (omega arith, omega arith)
 
         pub lining_most : {n : ℕ} → n ≡ listed_count lead trail s → i + (3 + lead + trail + n) ≤ length image
         lining_most size =
@@ -236,7 +235,6 @@ module _ {letter lead trail at : ℕ} {none image whole out : List ℕ} where
             let f = w.enough in
             let z : n ≡ listed_count lead trail (drop i image) = size ∙ ap (listed_count lead trail) e in
             record {
-              small = w.small;
               most = m;
               room = w.room;
               done = w.done ++ line;

@@ -1,44 +1,27 @@
 -- `sheet::put_lines` meets its contract. The loop's invariant: what is written, with the lines of the records from i on, is the whole. Assumes nothing.
 use mathlib.Core.Path.{refl}
-use Prim.Native.Nat.{◌+◌, ◌≤◌}
 use native.Mathlib.Omega.{arith}
-use lib.ListN.{length}
 use Rattle.sheet.proofs.Laws.Lines.{from, lining_start, lining_length, lining_asks, lining_most, lining_next, lining_end}
-use Rattle.sheet.proofs.put_lines.Lts
-use Rattle.sheet.proofs.put_lines.Reads
-use Rattle.sheet.proofs.put_lines.Tie
 use Rattle.sheet.proofs.put_lines.Goals as goal
 
--- places that several goals come past
-abbrev After-listed : Type 0
-After-listed = Lts.After-listed Tie.the-claims Reads.Pre Reads.Post goal.the-invariant-loop-i goal.the-decreases-loop-i
-
 pub loop-i-init : goal.loop-i-init
-loop-i-init c = lining_start c.requires.0 c.requires.1 refl
+loop-i-init c = lining_start c.requires refl
 
 pub put_line-p-requires : goal.put_line-p-requires
 put_line-p-requires c =
     lining_asks c.loop-i.invariant (omega arith) (from c.loop-i.i c.args.image.now)
 
 pub listed-requires : goal.listed-requires
-listed-requires c =
-    let asks = lining_asks c.loop-i.invariant (omega arith) (from c.loop-i.i c.args.image.now) in
-    (asks.0, asks.1)
-
--- the record ends where the image does, or before
-record_ends : (c : After-listed) → let k = c.before.before.before.before.before.before.before.before in
-    let s = k.args in k.loop-i.i + (3 + s.lead + s.trail + c.listed.result) ≤ length s.image.now
-record_ends c =
-    lining_most c.loop-i.invariant (omega arith) (from c.loop-i.i c.args.image.now) c.listed.ensures
+listed-requires c = (lining_asks c.loop-i.invariant (omega arith) (from c.loop-i.i c.args.image.now)).0
 
 pub overflow_add-i-in-loop-i-2 : goal.overflow_add-i-in-loop-i-2
-overflow_add-i-in-loop-i-2 c = let m = record_ends c.before in omega arith
+overflow_add-i-in-loop-i-2 c = let m = lining_most c.loop-i.invariant (omega arith) (from c.loop-i.i c.args.image.now) c.listed.ensures in omega arith
 
 pub overflow_add-i-in-loop-i-3 : goal.overflow_add-i-in-loop-i-3
-overflow_add-i-in-loop-i-3 c = let m = record_ends c.before in omega arith
+overflow_add-i-in-loop-i-3 c = let m = lining_most c.loop-i.invariant (omega arith) (from c.loop-i.i c.args.image.now) c.listed.ensures in omega arith
 
 pub loop-i-smaller : goal.loop-i-smaller
-loop-i-smaller c = let m = record_ends c.before in omega arith
+loop-i-smaller c = let m = lining_most c.loop-i.invariant (omega arith) (from c.loop-i.i c.args.image.now) c.listed.ensures in omega arith
 
 pub loop-i-preserved : goal.loop-i-preserved
 loop-i-preserved c =

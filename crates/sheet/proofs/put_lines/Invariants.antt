@@ -7,7 +7,8 @@ use Rattle.sheet.proofs.put_lines.Given as goal
 
 abbrev pub invariant-loop-i : goal.invariant-loop-i
 invariant-loop-i l =
-    Lining l.letter l.lead l.none l.trail l.image (lines_in l.letter l.lead l.none l.trail (length l.image) l.image) l.initial.text l.at l.text l.p l.i
+    let f = l.form in
+    Lining f.letter f.lead f.none.now f.trail l.image (lines_in f.letter f.lead f.none.now f.trail (length l.image) l.image) l.initial.text l.at l.text l.p l.i
 
 abbrev pub decreases-loop-i : goal.decreases-loop-i
 decreases-loop-i l = length l.image - l.i
