@@ -126,10 +126,10 @@ fn put_lines(text: &mut [u8], at: usize, form: &Form<'_>, image: &[u8]) -> usize
     ensures { Wrote text.old text.new at result (lines_in form.now.letter form.now.lead form.now.none.now form.now.trail (length image.now) image.now) }
 {
     let mut p = at;
-    let mut i: usize = 0;
-    while 3 + form.lead + form.trail <= image.len() - i {
-        p = put_line(text, p, form, &image[i..]);
-        i += 3 + form.lead + form.trail + listed(&image[i..], form);
+    let mut rest = image;
+    while 3 + form.lead + form.trail <= rest.len() {
+        p = put_line(text, p, form, rest);
+        rest = &rest[3 + form.lead + form.trail + listed(rest, form)..];
     }
     p
 }
