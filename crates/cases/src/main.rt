@@ -32,7 +32,6 @@ mod parts;
 mod queries;
 mod same;
 mod show;
-mod words;
 
 use lines::{STDIN_FILENO, STDOUT_FILENO};
 
@@ -42,28 +41,23 @@ const INPUT: usize = 2097152;
 // The answers to all lines of the input.
 fn main() {
     let mut text = [0u8; INPUT];
-    answer_input(&mut text);
+    answer_read(&mut text);
 }
 
-// The answers to the lines that are read into an array.
-fn answer_input(text: &mut [u8; INPUT]) {
-    let bytes: &mut [u8] = text;
-    answer_read(bytes);
-}
-
-// The answers to the lines that are read into a slice.
-fn answer_read(text: &mut [u8]) {
+// The answers to the lines that are read into an array. (A function of its own: in `main` the proof would write out all its zeros.)
+fn answer_read(text: &mut [u8; INPUT]) {
     let n = io::read_full(STDIN_FILENO, text);
     answer_all(&text[..n]);
 }
 
-// The answers to the lines of a text.
+// The answers to the lines of a text. What stands behind its last newline is a line where it is not empty.
 fn answer_all(text: &[u8]) {
-    let mut at: usize = 0;
-    while at < text.len() {
-        let end = lines::until(text, at, b'\n');
-        answer(&text[at..end]);
-        at = end + 1;
+    if text.is_empty() {
+        return;
+    }
+    let lines = text.strip_suffix(b"\n").unwrap_or(text);
+    for line in lines.split(|&x| x == b'\n') {
+        answer(line);
     }
 }
 
@@ -79,22 +73,18 @@ fn answer(line: &[u8]) {
     io::write_all(STDOUT_FILENO, b"\n");
 }
 
-// What a line asks for, by its kind: a kind more is a word here and an arm with its place among the words.
+// What a line asks for, by its kind.
 fn results(line: &[u8]) {
-    let kind = words::place(
-        lines::field(line, 0),
-        b"book short room pair fits page again parts same",
-    );
-    match kind {
-        0 => operations::book(line),
-        1 => operations::short(line),
-        2 => operations::room(line),
-        3 => pair::results(line),
-        4 => fits::results(line),
-        5 => queries::results(line),
-        6 => again::results(line),
-        7 => parts::results(line),
-        8 => same::results(line),
+    match lines::field(line, 0) {
+        b"book" => operations::book(line),
+        b"short" => operations::short(line),
+        b"room" => operations::room(line),
+        b"pair" => pair::results(line),
+        b"fits" => fits::results(line),
+        b"page" => queries::results(line),
+        b"again" => again::results(line),
+        b"parts" => parts::results(line),
+        b"same" => same::results(line),
         _ => show::unknown(),
     }
 }

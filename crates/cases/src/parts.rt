@@ -16,16 +16,14 @@ const EVEN: u64 = 0x5555_5555_5555_5555;
 // The reply to closing the book of a line over its set, and where that is done the six comparisons.
 pub fn results(line: &[u8]) {
     let mut raw = [0u8; BOOK];
-    let n = lines::field_bytes(line, 2, &mut raw);
-    let bytes = &raw[..n];
+    let bytes = show::bytes(line, 2, &mut raw);
     let set = lines::field_hex(line, 3);
     let mut out = show::fresh();
     let r = closing::close(bytes, set, &mut out);
     show::reply(r, 2);
     show::spoiled(r, &out);
     if r.number == 0 {
-        let k = lines::clip(show::written(r), &out);
-        compare(bytes, set, &out[..k]);
+        compare(bytes, set, show::part(r, &out));
     }
 }
 
@@ -45,27 +43,23 @@ fn compare(bytes: &[u8], set: u64, closed: &[u8]) {
 fn closes_in_parts(bytes: &[u8], first: u64, then: u64, to: &[u8]) -> bool {
     let mut out = [OLD; BOOK];
     let r = closing::close(bytes, first, &mut out);
-    let k = lines::clip(r.value as usize, &out);
-    r.number == 0 && closes_to(&out[..k], then, to)
+    r.number == 0 && closes_to(show::part(r, &out), then, to)
 }
 
 // Closing over a set gives these bytes.
 fn closes_to(bytes: &[u8], set: u64, to: &[u8]) -> bool {
     let mut out = [OLD; BOOK];
     let r = closing::close(bytes, set, &mut out);
-    let k = lines::clip(r.value as usize, &out);
-    r.number == 0 && check::same(&out[..k], to)
+    r.number == 0 && show::part(r, &out) == to
 }
 
 // The analysis writes the same of both.
 fn same_table(xs: &[u8], ys: &[u8]) -> bool {
     let mut x_out = [OLD; BOOK];
     let x = needs::analyse(xs, &mut x_out);
-    let m = lines::clip(x.value as usize, &x_out);
     let mut y_out = [OLD; BOOK];
     let y = needs::analyse(ys, &mut y_out);
-    let n = lines::clip(y.value as usize, &y_out);
-    x.number == 0 && y.number == 0 && check::same(&x_out[..m], &y_out[..n])
+    x.number == 0 && y.number == 0 && show::part(x, &x_out) == show::part(y, &y_out)
 }
 
 // The plan does not refuse a valid book with 7, which it tries before the room.

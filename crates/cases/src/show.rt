@@ -26,24 +26,22 @@ pub fn fresh() -> [u8; ROOM]
     [OLD; ROOM]
 }
 
+// The bytes that field k of a line spells, in a room that is lent.
+pub fn bytes<'a>(line: &[u8], k: usize, room: &'a mut [u8]) -> &'a [u8] {
+    let n = lines::field_bytes(line, k, room);
+    &room[..n]
+}
+
 // Prints the first `count` of a reply's number, value and rounds.
-pub fn reply(r: Reply, count: u8) {
-    if 0 < count {
-        lines::show_number(r.number as u64);
-    }
-    if 1 < count {
-        lines::show_number(r.value);
-    }
-    if 2 < count {
-        lines::show_number(r.rounds);
+pub fn reply(r: Reply, count: usize) {
+    for n in [u64::from(r.number), r.value, r.rounds].iter().take(count) {
+        lines::show_number(*n);
     }
 }
 
 // Prints the bytes that a reply says are written, and whether another byte of the room changed.
 pub fn output(r: Reply, out: &[u8; ROOM]) {
-    let bytes: &[u8] = out;
-    let k = lines::clip(written(r), bytes);
-    lines::show_bytes(&bytes[..k]);
+    lines::show_bytes(part(r, out));
     spoiled(r, out);
 }
 
@@ -64,14 +62,13 @@ pub fn written(r: Reply) -> usize {
     if r.number == 0 { r.value as usize } else { 0 }
 }
 
+// The bytes that a reply says are written.
+pub fn part(r: Reply, out: &[u8]) -> &[u8] {
+    let k = lines::clip(written(r), out);
+    &out[..k]
+}
+
 // A byte from `at` on is not as it was.
 fn changed(at: usize, out: &[u8; ROOM]) -> bool {
-    let mut i = at;
-    while i < ROOM {
-        if out[i] != OLD {
-            return true;
-        }
-        i += 1;
-    }
-    false
+    out.iter().skip(at).any(|&x| x != OLD)
 }

@@ -2,9 +2,9 @@
 // two a byte, or as `-` where there are none.
 #![tactic(auto)]
 
-ghost use Rattle.std.specs.Prelude.{◌≡◌, ◌+◌, ◌≤◌, min, length, take, drop};
+ghost use Rattle.std.specs.Prelude.{◌≡◌, ◌≤◌, min, length, take};
 ghost use Rattle.io.specs.Counts.{IsPrefixLen};
-ghost use Rattle.lines.specs.Line.{before, field_of, starts_with, inputs_of};
+ghost use Rattle.lines.specs.Line.{field_of, starts_with, inputs_of};
 ghost use Rattle.lines.specs.Hex.{digit_of, number_from, bytes_of};
 
 // The streams that a program of lines reads and writes.
@@ -16,14 +16,7 @@ pub const STDOUT_FILENO: i32 = 1;
 pub fn field(line: &[u8], k: usize) -> &[u8]
     ensures { result.now ≡ field_of k line.now }
 {
-    let mut at: usize = 0;
-    let mut i: usize = 0;
-    while i < k {
-        at = after(line, until(line, at, b' '));
-        i += 1;
-    }
-    let end = until(line, at, b' ');
-    &line[at..end]
+    line.split(|&x| x == b' ').nth(k).unwrap_or(b"")
 }
 
 // The bytes that field k of a line has in hexadecimal digits, as many as there is room for.
@@ -53,8 +46,7 @@ pub fn field_number(line: &[u8], k: usize, most: usize) -> usize
 pub fn begins(line: &[u8], word: &[u8]) -> bool
     ensures { result ≡ starts_with word.now line.now }
 {
-    let k = clip(word.len(), line);
-    check::same(&line[..k], word)
+    line.starts_with(word)
 }
 
 // The part of a line before its results: before the first ` = `, or all of it.
@@ -65,28 +57,12 @@ pub fn inputs(line: &[u8]) -> &[u8]
     &line[..end]
 }
 
-// The first place from `at` on that has the byte, or the end.
-pub fn until(s: &[u8], at: usize, stop: u8) -> usize
-    requires { at ≤ length s.now }
-    ensures lower_bound { (at ≤ result) × IsPrefixLen result s.now }
-    ensures value { result ≡ at + length (before stop (drop at s.now)) }
-{
-    let mut i = at;
-    while i < s.len() {
-        if s[i] == stop {
-            return i;
-        }
-        i += 1;
-    }
-    i
-}
-
 // A number of bytes, as far as the slice has them.
 pub fn clip(n: usize, s: &[u8]) -> usize
     ensures prefix_len { IsPrefixLen result s.now }
     ensures value { result ≡ min n (length s.now) }
 {
-    if n < s.len() { n } else { s.len() }
+    n.min(s.len())
 }
 
 // Prints a space and a number.
@@ -98,23 +74,12 @@ pub fn show_number(n: u64) {
 // Prints a space and bytes as hexadecimal digits, or `-`.
 pub fn show_bytes(bytes: &[u8]) {
     io::write_all(STDOUT_FILENO, b" ");
-    if bytes.len() == 0 {
+    if bytes.is_empty() {
         io::write_all(STDOUT_FILENO, b"-");
     }
-    let mut i: usize = 0;
-    while i < bytes.len() {
-        let x = bytes[i];
-        let two = [hex(x / 16), hex(x % 16)];
-        io::write_all(STDOUT_FILENO, &two);
-        i += 1;
+    for x in bytes {
+        io::write_all(STDOUT_FILENO, &[hex(x / 16), hex(x % 16)]);
     }
-}
-
-// The place after the byte at `at`, or the end.
-fn after(s: &[u8], at: usize) -> usize
-    ensures { result ≡ min (at + 1) (length s.now) }
-{
-    if at < s.len() { at + 1 } else { s.len() }
 }
 
 // The bytes of a word of hexadecimal digits, as many as there is room for.
@@ -122,15 +87,9 @@ fn unhex(word: &[u8], to: &mut [u8]) -> usize
     ensures prefix_len { IsPrefixLen result to.new }
     ensures to_after { take result to.new ≡ take (length to.old) (bytes_of word.now) }
 {
-    let mut n: usize = 0;
-    let mut at: usize = 0;
-    while n < to.len() {
-        if word.len() - at < 2 {
-            return n;
-        }
-        to[n] = digit(word[at]) * 16 + digit(word[at + 1]);
-        n += 1;
-        at += 2;
+    let n = to.len().min(word.len() / 2);
+    for i in 0..n {
+        to[i] = digit(word[2 * i]) * 16 + digit(word[2 * i + 1]);
     }
     n
 }
@@ -140,13 +99,8 @@ fn hex_number(word: &[u8]) -> u64
     ensures { result ≡ number_from 16 0 (take 16 word.now) }
 {
     let mut n: u64 = 0;
-    let mut i: usize = 0;
-    while i < 16 {
-        if i == word.len() {
-            return n;
-        }
-        n = n * 16 + digit(word[i]) as u64;
-        i += 1;
+    for x in &word[..word.len().min(16)] {
+        n = n * 16 + u64::from(digit(*x));
     }
     n
 }
@@ -157,39 +111,23 @@ fn decimal(word: &[u8], most: usize) -> usize
     ensures { result ≡ min most (number_from 10 0 word.now) }
 {
     let mut n: usize = 0;
-    let mut i: usize = 0;
-    while i < word.len() {
-        n = least(n * 10 + digit(word[i]) as usize, most);
-        i += 1;
+    for x in word {
+        n = (n * 10 + usize::from(digit(*x))).min(most);
     }
     n
 }
 
 // The value of a hexadecimal digit; any other byte counts as 0.
+#[tactic(auto, unfolding(crate::specs::Hex::digit_of))]
 fn digit(x: u8) -> u8
     ensures value { result ≡ digit_of x }
     ensures upper_bound { result ≤ 15 }
 {
-    if x < b'0' {
-        return 0;
+    match x {
+        b'0'..=b'9' => x - b'0',
+        b'a'..=b'f' => x - b'a' + 10,
+        _ => 0,
     }
-    if x <= b'9' {
-        return x - b'0';
-    }
-    if x < b'a' {
-        return 0;
-    }
-    if x <= b'f' {
-        return x - b'a' + 10;
-    }
-    0
-}
-
-// The lesser of two numbers.
-fn least(m: usize, n: usize) -> usize
-    ensures { result ≡ min m n }
-{
-    if m < n { m } else { n }
 }
 
 // Where the first ` = ` of a line stands, or its end.
@@ -197,17 +135,12 @@ fn results_at(line: &[u8]) -> usize
     ensures prefix_len { IsPrefixLen result line.now }
     ensures value { result ≡ length (inputs_of line.now) }
 {
-    let mut i: usize = 0;
-    while i < line.len() {
-        if begins(&line[i..], b" = ") {
-            return i;
-        }
-        i += 1;
-    }
-    i
+    line.windows(3)
+        .position(|w| w == b" = ".as_slice())
+        .unwrap_or(line.len())
 }
 
 // The hexadecimal digit of a value below 16.
 fn hex(x: u8) -> u8 {
-    if x < 10 { b'0' + x } else { x % 16 + 87 }
+    b"0123456789abcdef"[usize::from(x % 16)]
 }

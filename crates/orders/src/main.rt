@@ -4,10 +4,11 @@
 
 mod stream;
 
-use crate::stream::{read_input, write_output};
+use crate::stream::read_input;
 use anyhow::{Context, Result};
 use book::limits::LONGEST_SHEET;
 use sheet::{BOOK_SIZE, sheet};
+use std::io::Write;
 
 // W6: "`orders` cuts at 6,987": no more is read.
 fn main(rt: HostRuntime) -> Result<()> {
@@ -16,6 +17,7 @@ fn main(rt: HostRuntime) -> Result<()> {
     let mut text = [0u8; LONGEST_SHEET];
     let r = sheet(&book[..n], &mut text);
     let k = r.value as usize;
-    write_output(&mut rt.stdout(), &text[..k]).context("orders: writing standard output")?;
-    Ok(())
+    rt.stdout()
+        .write_all(&text[..k])
+        .context("orders: writing standard output")
 }

@@ -15,16 +15,49 @@ use book::limits::{LONGEST, LONGEST_PLAN, LONGEST_SHEET, LONGEST_TABLE};
 use masks::reply::Reply;
 use needs::analyse;
 use plan::plan;
-use writing::put::{least, put_byte, put_bytes};
+use writing::put::{put_byte, put_bytes};
 
 // W6: "`orders` cuts at 6,987": as many bytes of a book are looked at, one more than the longest has.
 pub const BOOK_SIZE: usize = LONGEST + 1;
+
+// How a record of an image is printed: the letter of its line, how many of its fields lead, what stands for none listed, and how many trail.
+#[derive(Clone, Copy)]
+struct Form<'a> {
+    letter: u8,
+    lead: usize,
+    none: &'a [u8],
+    trail: usize,
+    ghost small: { lead + trail ≤ 2 },
+}
+
+// Of an image of a table: a `C` line for each record.
+const NEEDS: Form<'static> = Form {
+    letter: b'C',
+    lead: 1,
+    none: b" none",
+    trail: 1,
+};
+
+// Of an image of a plan: the query's record has a `Q` line, each other an `O` line.
+const QUERY: Form<'static> = Form {
+    letter: b'Q',
+    lead: 0,
+    none: b"",
+    trail: 0,
+};
+
+const ORDERS: Form<'static> = Form {
+    letter: b'O',
+    lead: 2,
+    none: b"",
+    trail: 0,
+};
 
 // The sheet of a book, written into the output. Every string of bytes has one; a book with a fault has one line, its number and place.
 pub fn sheet(book: &[u8], out: &mut [u8]) -> Reply
     ensures { Answers (printing book.now) out.old result out.new }
 {
-    let n = least(book.len(), BOOK_SIZE);
+    let n = book.len().min(BOOK_SIZE);
     let mut text = [0u8; LONGEST_SHEET];
     let k = put_sheet(&mut text, &book[..n]);
     let r = Reply::in_room(k, 0, out.len());
@@ -44,7 +77,7 @@ fn put_sheet(text: &mut [u8; LONGEST_SHEET], book: &[u8]) -> usize
         return put_refusal(text, 0, r.number, r.value);
     }
     let n = r.value as usize;
-    let p = put_lines(text, 0, b'C', 1, b" none", 1, &table[..n]);
+    let p = put_lines(text, 0, &NEEDS, &table[..n]);
     let q = put_rounds(text, p, r.rounds);
     put_orders(text, q, book)
 }
@@ -61,9 +94,9 @@ fn put_orders(text: &mut [u8], at: usize, book: &[u8]) -> usize
     }
     let n = r.value as usize;
     let orders = &image[..n];
-    let p = put_line(text, at, b'Q', 0, b"", 0, orders);
-    let rows = 3 + listed(orders, 0, 0);
-    put_lines(text, p, b'O', 2, b"", 0, &orders[rows..])
+    let p = put_line(text, at, &QUERY, orders);
+    let rows = 3 + listed(orders, &QUERY);
+    put_lines(text, p, &ORDERS, &orders[rows..])
 }
 
 // "`X`, number, value"
@@ -87,54 +120,38 @@ fn put_rounds(text: &mut [u8], at: usize, rounds: u64) -> usize
     put_byte(text, q, b'\n')
 }
 
-// A line for each record of an image: its letter, the fields that lead, those that it lists, and those that trail.
-fn put_lines<'a>(
-    text: &mut [u8],
-    at: usize,
-    letter: u8,
-    lead: usize,
-    none: &'a [u8],
-    trail: usize,
-    image: &'a [u8],
-) -> usize
-    requires { (lead + trail ≤ 2) × Room text.old at (lines_in letter lead none.now trail (length image.now) image.now) }
-    ensures { Wrote text.old text.new at result (lines_in letter lead none.now trail (length image.now) image.now) }
+// A line for each record of an image.
+fn put_lines(text: &mut [u8], at: usize, form: &Form<'_>, image: &[u8]) -> usize
+    requires { Room text.old at (lines_in form.now.letter form.now.lead form.now.none.now form.now.trail (length image.now) image.now) }
+    ensures { Wrote text.old text.new at result (lines_in form.now.letter form.now.lead form.now.none.now form.now.trail (length image.now) image.now) }
 {
     let mut p = at;
-    let mut i: usize = 0;
-    while 3 + lead + trail <= image.len() - i {
-        p = put_line(text, p, letter, lead, none, trail, &image[i..]);
-        i += 3 + lead + trail + listed(&image[i..], lead, trail);
+    let mut rest = image;
+    while 3 + form.lead + form.trail <= rest.len() {
+        p = put_line(text, p, form, rest);
+        rest = &rest[3 + form.lead + form.trail + listed(rest, form)..];
     }
     p
 }
 
 // How many fields the first record of an image lists.
-fn listed(image: &[u8], lead: usize, trail: usize) -> usize
-    requires { (lead + trail ≤ 2) × (3 + lead + trail ≤ length image.now) }
-    ensures { result ≡ listed_count lead trail image.now }
+fn listed(image: &[u8], form: &Form<'_>) -> usize
+    requires { 3 + form.now.lead + form.now.trail ≤ length image.now }
+    ensures { result ≡ listed_count form.now.lead form.now.trail image.now }
 {
-    least(image[2 + lead] as usize, image.len() - (3 + lead + trail))
+    usize::from(image[2 + form.lead]).min(image.len() - (3 + form.lead + form.trail))
 }
 
 // The line of the first record of an image.
-fn put_line<'a>(
-    text: &mut [u8],
-    at: usize,
-    letter: u8,
-    lead: usize,
-    none: &'a [u8],
-    trail: usize,
-    image: &'a [u8],
-) -> usize
-    requires { (lead + trail ≤ 2) × (3 + lead + trail ≤ length image.now) × Room text.old at (line_in letter lead none.now trail image.now) }
-    ensures { Wrote text.old text.new at result (line_in letter lead none.now trail image.now) }
+fn put_line(text: &mut [u8], at: usize, form: &Form<'_>, image: &[u8]) -> usize
+    requires { (3 + form.now.lead + form.now.trail ≤ length image.now) × Room text.old at (line_in form.now.letter form.now.lead form.now.none.now form.now.trail image.now) }
+    ensures { Wrote text.old text.new at result (line_in form.now.letter form.now.lead form.now.none.now form.now.trail image.now) }
 {
-    let from = 3 + lead;
-    let end = from + listed(image, lead, trail);
-    let p = put_byte(text, at, letter);
-    let q = put_fields(text, p, b" ", &image[2..2 + lead]);
-    let r = put_listing(text, q, none, &image[from..end]);
-    let s = put_fields(text, r, b" /", &image[end..end + trail]);
+    let from = 3 + form.lead;
+    let end = from + listed(image, form);
+    let p = put_byte(text, at, form.letter);
+    let q = put_fields(text, p, b" ", &image[2..2 + form.lead]);
+    let r = put_listing(text, q, form.none, &image[from..end]);
+    let s = put_fields(text, r, b" /", &image[end..end + form.trail]);
     put_byte(text, s, b'\n')
 }

@@ -23,10 +23,8 @@ pub fn put_fields(out: &mut [u8], at: usize, part: &[u8], list: &[u8]) -> usize
     ensures { Wrote out.old out.new at result (run (after part.now) list.now) }
 {
     let mut p = at;
-    let mut i: usize = 0;
-    while i < list.len() {
-        p = put_field(out, p, part, list[i] as u64);
-        i += 1;
+    for x in list {
+        p = put_field(out, p, part, u64::from(*x));
     }
     p
 }
@@ -36,7 +34,7 @@ pub fn put_listing(out: &mut [u8], at: usize, none: &[u8], list: &[u8]) -> usize
     requires { Room out.old at (listing none.now list.now) }
     ensures { Wrote out.old out.new at result (listing none.now list.now) }
 {
-    if list.len() == 0 {
+    if list.is_empty() {
         return put_bytes(out, at, none);
     }
     put_fields(out, at, b" ", list)

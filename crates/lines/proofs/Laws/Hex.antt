@@ -1,10 +1,13 @@
 -- A word's number with one digit more, and that 16 digits fit 64 bits; a word's bytes with one more. Assumes nothing.
 use mathlib.Core.Path.{◌≡◌, refl, sym, ap, ◌∙◌}
+use mathlib.Core.Bool.{Bool, true, false}
 use mathlib.Core.List.{List, [], ◌∷◌, ◌++◌, append-nil}
-use Prim.Native.Nat.{ℕ, zero, suc, ◌+◌, ◌*◌, ◌^◌, ◌≤◌, ◌<◌, min}
+use Prim.Native.Nat.{ℕ, zero, suc, ◌+◌, ◌*◌, ◌/◌, ◌^◌, ◌≤◌, ◌<◌, min}
 use native.Mathlib.Numerals.{add-one}
 use native.Mathlib.Omega.{arith}
 use native.Mathlib.Nat.{pow-suc, pow-le-pow_right}
+use borrow.Author.Tests.{ltb-true, ltb-false}
+use lib.Dec.{ltb}
 use lib.ListN.{length, get_or, take, drop, set, length-drop}
 use lib.Seq.{take-suc, take_all, take_at, drop-cons, take-suc-set, append_snoc, length-take-le}
 use Rattle.lines.specs.Hex.{digit_of, number_from, bytes_of}
@@ -13,54 +16,31 @@ number_snoc : (base n : ℕ) (xs : List ℕ) (x : ℕ) → number_from base n (x
 number_snoc base n [] x = refl
 number_snoc base n (y ∷ xs) x = number_snoc base (n * base + digit_of y) xs x
 
--- i digits of a word are read
-pub record Reading (word : List ℕ) (i n : ℕ) : Type 0 where
-  pub most : i ≤ 16
-  pub there : i ≤ length word
-  pub is : n ≡ number_from 16 0 (take i word)
-  pub small : n < 16 ^ i
+-- one digit more, of at most 16
+pub digit_small : (i d : ℕ) {n : ℕ} → n < 16 ^ i → d ≤ 15 → n * 16 + d < 16 ^ (i + 1)
+digit_small i d s m = let p = pow-suc 16 i in rw add-one (omega arith)
 
-pub reading_start : (word : List ℕ) → Reading word 0 0
-reading_start word = record { most = omega arith; there = omega arith; is = refl; small = omega arith }
+pub digit_room : (i d : ℕ) {n : ℕ} → n < 16 ^ i → d ≤ 15 → i < 16 → n * 16 + d < 2 ^ 64
+digit_room i d s m h =
+    let p = pow-suc 16 i in
+    let q : 16 ^ suc i ≤ 16 ^ 16 = pow-le-pow_right (omega arith) {j = 16} (omega arith) in
+    omega arith
 
-module _ {word : List ℕ} {i n : ℕ} (r : Reading word i n) where
-  -- one more fits
-  pub reading_room : i < 16 → {d : ℕ} → d ≤ 15 → n * 16 + d < 2 ^ 64
-  reading_room h {d} m =
-      let s = r.small in
-      let p = pow-suc 16 i in
-      let q : 16 ^ suc i ≤ 16 ^ 16 = pow-le-pow_right (omega arith) {j = 16} (omega arith) in
-      omega arith
+pub number_next : (base : ℕ) (word : List ℕ) {i n d : ℕ} → n ≡ number_from base 0 (take i word) → i < length word → d ≡ digit_of (get_or word i 0)
+    → n * base + d ≡ number_from base 0 (take (i + 1) word)
+number_next base word {i} e h f = rw (add-one, take-suc word i 0 h, number_snoc base 0 (take i word) (get_or word i 0), ← e, ← f)
 
-  pub reading_next : i < 16 → i < length word → {d : ℕ} → d ≡ digit_of (get_or word i 0) → d ≤ 15 → Reading word (i + 1) (n * 16 + d)
-  reading_next h l {d} e m =
-      let s = r.small in
-      let p = pow-suc 16 i in
-      record {
-        most = omega arith;
-        there = omega arith;
-        is = rw (add-one, take-suc word i 0 l, number_snoc 16 0 (take i word) (get_or word i 0), ← r.is, ← e);
-        small = rw add-one (omega arith);
-      }
-
-  -- 16 of them, or all
-  pub reading_end : (i ≡ min 16 (length word)) → n ≡ number_from 16 0 (take 16 word)
-  reading_end e = r.is ∙ ap (number_from 16 0) (front i 16 word e)
-    where
-      front : (i n : ℕ) (l : List ℕ) → i ≡ min n (length l) → take i l ≡ take n l
-      front i zero l e = let z : i ≡ 0 = omega arith in rw z
-      front i (suc n) [] e = let z : i ≡ 0 = omega arith in rw z
-      front zero (suc n) (x ∷ l) e = absurd (omega arith)
-      front (suc i) (suc n) (x ∷ l) e = ap (λ (t : List ℕ). x ∷ t) (front i n l (omega arith))
+-- the first n, or all
+pub take_min : (l : List ℕ) (n : ℕ) → take (min (length l) n) l ≡ take n l
+take_min l zero = let e : min (length l) 0 ≡ 0 = omega arith in rw e
+take_min [] (suc n) = let e : min 0 (suc n) ≡ 0 = omega arith in rw e
+take_min (x ∷ l) (suc n) = let e : min (suc (length l)) (suc n) ≡ suc (min (length l) n) = omega arith in rw e (ap (λ (t : List ℕ). x ∷ t) (take_min l n))
 
 -- ---- decimal numbers: i digits are read, the number is cut at the most
 
 module _ (word : List ℕ) (most i : ℕ) {n : ℕ} (e : n ≡ min most (number_from 10 0 (take i word))) where
   pub decimal_next : i < length word → {d r : ℕ} → d ≡ digit_of (get_or word i 0) → r ≡ min (n * 10 + d) most → r ≡ min most (number_from 10 0 (take (i + 1) word))
   decimal_next h {d} f g = rw (add-one, take-suc word i 0 h, number_snoc 10 0 (take i word) (get_or word i 0), ← f) (omega (arith, e, g))
-
-  pub decimal_end : length word ≤ i → n ≡ min most (number_from 10 0 word)
-  decimal_end h = rw (take_all i word h) at e
 
 -- ---- bytes: n of them are read, which took the word up to `at`
 
@@ -78,11 +58,14 @@ module _ (word to : List ℕ) (n at : ℕ) (e : take n to ++ bytes_of (drop at w
       let b : bytes_of (drop at word) ≡ (x * 16 + y) ∷ bytes_of (drop (suc (suc at)) word) = rw (d, f, g, add-one) in
       rw (two, add-one, take-suc-set to n (x * 16 + y) l, append_snoc (take n to) (x * 16 + y) (bytes_of (drop (suc (suc at)) word)), ← b) e
 
-  pub bytes_full : {size : ℕ} → n ≡ size → take n to ≡ take size (bytes_of word)
-  bytes_full {size} f = rw (← e, take_at (take n to) (bytes_of (drop at word)) size (length-take-le n to h ∙ f))
-
-  pub bytes_end : {size : ℕ} → n ≤ size → length word < at + 2 → take n to ≡ take size (bytes_of word)
-  bytes_end {size} f l =
-      let z : bytes_of (drop at word) ≡ [] = bytes_none (drop at word) (rw (length-drop at word) (omega arith)) in
-      let a : take n to ≡ bytes_of word = sym (append-nil (take n to)) ∙ rw z at e in
-      rw (← a) (sym (take_all size (take n to) (rw (length-take-le n to h) f)))
+  -- all that the word has, or that there is room for
+  pub bytes_end : (size : ℕ) → at ≡ 2 * n → n ≡ min size (length word / 2) → take n to ≡ take size (bytes_of word)
+  bytes_end size two f = go (ltb n size) refl
+    where
+      go : (b : Bool) → ltb n size ≡ b → take n to ≡ take size (bytes_of word)
+      go false g = rw (← e, take_at (take n to) (bytes_of (drop at word)) size (length-take-le n to h ∙ omega (arith, f, ltb-false n size g)))
+      go true g =
+          let l = ltb-true n size g in
+          let z : bytes_of (drop at word) ≡ [] = bytes_none (drop at word) (rw (length-drop at word) (omega arith)) in
+          let a : take n to ≡ bytes_of word = sym (append-nil (take n to)) ∙ rw z at e in
+          rw (← a) (sym (take_all size (take n to) (rw (length-take-le n to h) (omega arith))))

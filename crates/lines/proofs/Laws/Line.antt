@@ -1,138 +1,143 @@
--- Lines, place by place: what is passed and what is left. A scan of a line is at place i, and what the definition gives of the rest is where the scan
--- will end. Assumes nothing.
-use mathlib.Core.Bool.{Bool, true, false, cond, false≢true}
+-- Lines: their fields are the parts that std's `split` gives, and their inputs stand before the first window that is ` = `. Assumes nothing.
+use mathlib.Core.Bool.{Bool, true, false, cond, not, ◌&&◌}
 use mathlib.Core.Path.{◌≡◌, refl, sym, ap, ◌∙◌}
 use mathlib.Core.List.{List, [], ◌∷◌}
-use Prim.Native.Nat.{ℕ, zero, suc, ◌+◌, ◌-◌, ◌≤◌, ◌<◌, min}
+use Prim.Native.Nat.{ℕ, zero, suc, ◌+◌, ◌≤◌, ◌<◌}
 use native.Mathlib.Omega.{arith}
-use lib.Dec.{eqb}
-use lib.ListN.{length, get_or, take, drop, length-drop, drop_of_length-le}
-use lib.Seq.{take_all, drop-cons, drop-drop}
-use borrow.Author.Tests.{eqb-true, eq-eqb, ne_eqb}
+use lib.Dec.{eqb, ltb}
+use lib.ListN.{length, take, drop}
+use Rattle.std.proofs.Common.{Some, None}
+use borrow.Author.Tests.{eqb-true, eq-eqb, lt-ltb}
+use Rattle.std.proofs.lemmas.Bool.Decides.{same_from_decides, Decides-eqb, nat_tests}
+use Rattle.std.proofs.lemmas.Iterator.{YieldsList}
+use Rattle.std.proofs.lemmas.Iterator.Splits.{YieldsList-from_shown_while}
+use Rattle.std.specs.Cmp.Lexicographic.{pointwise}
+use Rattle.std.specs.List.{slice_split, onto_first, slice_get, position_or_len}
+use Rattle.std.specs.Option.{unwrap_or}
+use Rattle.std.specs.Slice.Iter.{windows_rest, windows_size, windows_steps}
 use Rattle.lines.specs.Line.{before, beyond, field_of, starts_with, inputs_of}
 
--- ---- up to a byte
+-- ---- fields
 
-module _ (s : List ℕ) (stop i : ℕ) where
-  -- the byte stands here
-  pub before_here : i < length s → get_or s i 0 ≡ stop → length (before stop (drop i s)) ≡ 0
-  before_here h e = rw (drop-cons s i 0 h, eq-eqb (get_or s i 0) stop e)
+field_none : (k : ℕ) → field_of k [] ≡ []
+field_none zero = refl
+field_none (suc k) = field_none k
 
-  -- another byte stands here
-  pub before_next : i < length s → (get_or s i 0 ≡ stop → ⊥) → length (before stop (drop i s)) ≡ suc (length (before stop (drop (suc i) s)))
-  before_next h n = rw (drop-cons s i 0 h, ne_eqb (get_or s i 0) stop n)
+onto_here : (x : ℕ) (parts : List (List ℕ)) → unwrap_or (slice_get (onto_first x parts) 0) [] ≡ x ∷ unwrap_or (slice_get parts 0) []
+onto_here x [] = refl
+onto_here x (part ∷ parts) = refl
 
-  pub before_end : length s ≤ i → length (before stop (drop i s)) ≡ 0
-  before_end h = rw (drop_of_length-le s {i = i} h)
+onto_behind : (x : ℕ) (parts : List (List ℕ)) (k : ℕ) → slice_get (onto_first x parts) (suc k) ≡ slice_get parts (suc k)
+onto_behind x [] k = refl
+onto_behind x (part ∷ parts) k = refl
 
-pub take_before : (stop : ℕ) (l : List ℕ) → take (length (before stop l)) l ≡ before stop l
-take_before stop [] = refl
-take_before stop (x ∷ l) = go (take_before stop l) (eqb x stop)
+-- the parts of a line at its spaces are its fields; past the last, a field is empty
+pub field_parts : (line : List ℕ) (k : ℕ) → unwrap_or (slice_get (slice_split (λ b. eqb b 32) line) k) [] ≡ field_of k line
+field_parts [] zero = refl
+field_parts [] (suc k) = sym (field_none k)
+field_parts (x ∷ l) zero = go (field_parts l 0) (eqb x 32)
   where
-    go : take (length (before stop l)) l ≡ before stop l → (b : Bool) → take (length (cond b [] (x ∷ before stop l))) (x ∷ l) ≡ cond b [] (x ∷ before stop l)
-    go h true = refl
-    go h false = ap (λ (t : List ℕ). x ∷ t) h
+    parts : List (List ℕ)
+    parts = slice_split (λ b. eqb b 32) l
 
-drop_before : (stop : ℕ) (l : List ℕ) → drop (suc (length (before stop l))) l ≡ beyond stop l
-drop_before stop [] = refl
-drop_before stop (x ∷ l) = go (drop_before stop l) (eqb x stop)
+    go : unwrap_or (slice_get parts 0) [] ≡ before 32 l → (b : Bool) → unwrap_or (slice_get (cond b ([] ∷ parts) (onto_first x parts)) 0) [] ≡ cond b [] (x ∷ before 32 l)
+    go h true = refl
+    go h false = onto_here x parts ∙ ap (λ (t : List ℕ). x ∷ t) h
+field_parts (x ∷ l) (suc k) = go (λ j. field_parts l j) (eqb x 32)
   where
-    go : drop (suc (length (before stop l))) l ≡ beyond stop l → (b : Bool) → drop (length (cond b [] (x ∷ before stop l))) l ≡ cond b l (beyond stop l)
-    go h true = refl
-    go h false = h
+    parts : List (List ℕ)
+    parts = slice_split (λ b. eqb b 32) l
 
-drop_min : (n : ℕ) (l : List ℕ) → drop (min n (length l)) l ≡ drop n l
-drop_min zero l = let e : min 0 (length l) ≡ 0 = omega arith in rw e
-drop_min (suc n) [] = let e : min (suc n) 0 ≡ 0 = omega arith in rw e
-drop_min (suc n) (x ∷ l) = let e : min (suc n) (suc (length l)) ≡ suc (min n (length l)) = omega arith in rw e (drop_min n l)
-
--- past the byte that ends what stands at a place
-pub drop_beyond : (s : List ℕ) (stop at : ℕ) → drop (min (at + length (before stop (drop at s)) + 1) (length s)) s ≡ beyond stop (drop at s)
-drop_beyond s stop at =
-    let e : at + length (before stop (drop at s)) + 1 ≡ at + suc (length (before stop (drop at s))) = omega arith in
-    rw (e, drop_min (at + suc (length (before stop (drop at s)))) s, ← drop-drop (suc (length (before stop (drop at s)))) at s)
-    (drop_before stop (drop at s))
-
--- ---- fields: at the start of field i
-
-pub field_start : (line : List ℕ) (k : ℕ) → field_of (k - 0) (drop 0 line) ≡ field_of k line
-field_start line k = let z : k - 0 ≡ k = omega arith in rw z
-
-module _ (line : List ℕ) (k i at : ℕ) {end : ℕ} {f : List ℕ} (e : end ≡ at + length (before 32 (drop at line))) (h : field_of (k - i) (drop at line) ≡ f) where
-  pub field_next : i < k → {next : ℕ} → next ≡ min (end + 1) (length line) → field_of (k - (i + 1)) (drop next line) ≡ f
-  field_next l {next} n =
-      let s : k - i ≡ suc (k - (i + 1)) = omega arith in
-      let g : field_of (suc (k - (i + 1))) (drop at line) ≡ f = rw s at h in
-      rw (n, e, drop_beyond line 32 at) g
-
-  pub field_end : k ≤ i → take (end - at) (drop at line) ≡ f
-  field_end l =
-      let z : k - i ≡ 0 = omega arith in
-      let g : before 32 (drop at line) ≡ f = rw z at h in
-      let m : end - at ≡ length (before 32 (drop at line)) = omega arith in
-      rw (m, take_before 32 (drop at line)) g
+    go : ((j : ℕ) → unwrap_or (slice_get parts j) [] ≡ field_of j l) → (b : Bool)
+        → unwrap_or (slice_get (cond b ([] ∷ parts) (onto_first x parts)) (suc k)) [] ≡ field_of k (cond b l (beyond 32 l))
+    go h true = h k
+    go h false = rw (onto_behind x parts k) (h (suc k))
 
 -- ---- the beginning
 
-take_min : (n : ℕ) (l : List ℕ) → take (min n (length l)) l ≡ take n l
-take_min zero l = let e : min 0 (length l) ≡ 0 = omega arith in rw e
-take_min (suc n) [] = let e : min (suc n) 0 ≡ 0 = omega arith in rw e
-take_min (suc n) (x ∷ l) =
-    let e : min (suc n) (suc (length l)) ≡ suc (min n (length l)) = omega arith in
-    rw e (ap (λ (t : List ℕ). x ∷ t) (take_min n l))
-
-starts_take : (w l : List ℕ) → starts_with w l ≡ true → take (length w) l ≡ w
-starts_take [] l t = refl
-starts_take (w ∷ ws) [] t = absurd (false≢true t)
-starts_take (w ∷ ws) (x ∷ l) t = go (starts_take ws l) (eqb w x) refl t
+-- std's test of a beginning
+pub begins_same : (word line : List ℕ) → pointwise eqb word (take (length word) line) ≡ starts_with word line
+begins_same [] line = refl
+begins_same (w ∷ word) [] = refl
+begins_same (w ∷ word) (x ∷ line) = go (begins_same word line) (eqb w x)
   where
-    go : (starts_with ws l ≡ true → take (length ws) l ≡ ws) → (b : Bool) → eqb w x ≡ b → cond b (starts_with ws l) false ≡ true → x ∷ take (length ws) l ≡ w ∷ ws
-    go r true e s = let q : w ≡ x = eqb-true w x e in rw (q, r s)
-    go r false e s = absurd (false≢true s)
-
-take_starts : (w l : List ℕ) → take (length w) l ≡ w → starts_with w l ≡ true
-take_starts [] l e = refl
-take_starts (w ∷ ws) [] e = let n : 0 ≡ suc (length ws) = ap length e in absurd (omega arith)
-take_starts (w ∷ ws) (x ∷ l) e =
-    let h : w ≡ x = sym (ap (λ (t : List ℕ). get_or t 0 0) e) in
-    rw (eq-eqb w x h) (take_starts ws l (ap (drop 1) e))
-
--- a test of the beginning, as `check::same` answers it
-pub starts_is : (w l : List ℕ) (k : ℕ) (r : Bool) → k ≡ min (length w) (length l) → (r ≡ true → take k l ≡ w) → (take k l ≡ w → r ≡ true) → r ≡ starts_with w l
-starts_is w l k r e f g =
-    let m : take k l ≡ take (length w) l = ap (λ (n : ℕ). take n l) e ∙ take_min (length w) l in
-    go r (starts_with w l) (λ t. take_starts w l (sym m ∙ f t)) (λ t. g (m ∙ starts_take w l t))
-  where
-    go : (a b : Bool) → (a ≡ true → b ≡ true) → (b ≡ true → a ≡ true) → a ≡ b
-    go true b h j = sym (h refl)
-    go false true h j = j refl
-    go false false h j = refl
+    go : pointwise eqb word (take (length word) line) ≡ starts_with word line → (b : Bool)
+        → (b && pointwise eqb word (take (length word) line)) ≡ cond b (starts_with word line) false
+    go h true = h
+    go h false = refl
 
 -- ---- up to the results
 
--- the part of a slice from a place on
-from : (s : List ℕ) (i : ℕ) → take (length s - i) (drop i s) ≡ drop i s
-from s i = take_all (length s - i) (drop i s) (rw (length-drop i s) (omega arith))
+-- the test of a window
+abbrev pub is_mark : List ℕ → Bool
+is_mark w = pointwise eqb w (32 ∷ 61 ∷ 32 ∷ [])
 
--- what a place shows: its test, on the part from there on
-module _ (s : List ℕ) (i : ℕ) {b : Bool} (e : b ≡ starts_with (32 ∷ 61 ∷ 32 ∷ []) (take (length s - i) (drop i s))) (h : i < length s) where
-  shown : b ≡ starts_with (32 ∷ 61 ∷ 32 ∷ []) (get_or s i 0 ∷ drop (suc i) s)
-  shown = e ∙ ap (starts_with (32 ∷ 61 ∷ 32 ∷ [])) (from s i ∙ drop-cons s i 0 h)
+-- the windows of three bytes
+abbrev pub threes : List ℕ → List (List ℕ)
+threes [] = []
+threes (x ∷ []) = []
+threes (x ∷ y ∷ []) = []
+threes (x ∷ y ∷ z ∷ l) = (x ∷ y ∷ z ∷ []) ∷ threes (y ∷ z ∷ l)
 
-  pub inputs_here : b ≡ true → length (inputs_of (drop i s)) ≡ 0
-  inputs_here t = rw (drop-cons s i 0 h) (go (get_or s i 0) (drop (suc i) s) (sym shown ∙ t))
-    where
-      go : (x : ℕ) (l : List ℕ) → starts_with (32 ∷ 61 ∷ 32 ∷ []) (x ∷ l) ≡ true → length (inputs_of (x ∷ l)) ≡ 0
-      go x l t = rw t
+threes_none : (l : List ℕ) → length l < 3 → length (threes l) ≡ 0
+threes_none [] h = refl
+threes_none (x ∷ []) h = refl
+threes_none (x ∷ y ∷ []) h = refl
+threes_none (x ∷ y ∷ z ∷ l) h = absurd (omega arith)
 
-  pub inputs_next : b ≡ false → length (inputs_of (drop i s)) ≡ suc (length (inputs_of (drop (suc i) s)))
-  inputs_next t = rw (drop-cons s i 0 h) (go (get_or s i 0) (drop (suc i) s) (sym shown ∙ t))
-    where
-      go : (x : ℕ) (l : List ℕ) → starts_with (32 ∷ 61 ∷ 32 ∷ []) (x ∷ l) ≡ false → length (inputs_of (x ∷ l)) ≡ suc (length (inputs_of l))
-      go x l t = rw t
+threes_some : (l w : List ℕ) → 3 ≤ length l → w ≡ take 3 l → threes l ≡ w ∷ threes (drop 1 l)
+threes_some [] w h e = absurd (omega arith)
+threes_some (x ∷ []) w h e = absurd (omega arith)
+threes_some (x ∷ y ∷ []) w h e = absurd (omega arith)
+threes_some (x ∷ y ∷ z ∷ l) w h e = rw e
 
-pub inputs_end : (s : List ℕ) (i : ℕ) → length s ≤ i → length (inputs_of (drop i s)) ≡ 0
-inputs_end s i h = rw (drop_of_length-le s {i = i} h)
+-- std's `windows` gives them
+pub windows_threes : {s : _} (l : List ℕ) → windows_rest s ≡ l → windows_size s ≡ 3 → YieldsList (windows_steps {A = ℕ}) (λ w. w.now) s (threes l)
+windows_threes {s} l e n =
+    rw (← e)
+    (YieldsList-from_shown_while windows_steps (λ w. w.now) (λ t. threes (windows_rest t)) (λ t. windows_size t ≡ 3)
+    (λ s t h g. threes_none (windows_rest s) (omega (arith, g.1.0)))
+    (λ s w t h g. (g.0 ∙ h, rw g.1.2 (threes_some (windows_rest s) w.now (omega (arith, g.1.0)) (rw h at g.1.1))))
+    s n)
+
+-- where the first ` = ` stands, or the end
+abbrev pub found : ℕ → ℕ → ℕ → ℕ
+found p n end = unwrap_or (cond (ltb p n) (Some p) None) end
+
+-- a window that is no mark is passed
+found_next : (p n end : ℕ) → found (suc p) (suc n) (suc end) ≡ suc (found p n end)
+found_next p n end = let e : ltb (suc p) (suc n) ≡ ltb p n = grind (arith, nat_tests) in rw e (go (ltb p n))
+  where
+    go : (b : Bool) → unwrap_or (cond b (Some (suc p)) None) (suc end) ≡ suc (unwrap_or (cond b (Some p) None) end)
+    go true = refl
+    go false = refl
+
+found_step : (b : Bool) (p n end : ℕ) (x : ℕ) (l : List ℕ) → found p n end ≡ length l → found (cond (not b) (1 + p) 0) (suc n) (suc end) ≡ length (cond b [] (x ∷ l))
+found_step true p n end x l h = rw (lt-ltb 0 (suc n) (omega arith))
+found_step false p n end x l h = let e : 1 + p ≡ suc p = omega arith in rw e (found_next p n end ∙ ap suc h)
+
+short_one : (b : Bool) → cond b false false ≡ false
+short_one true = refl
+short_one false = refl
+
+turned : (a b : ℕ) → eqb a b ≡ eqb b a
+turned a b = same_from_decides (eqb a b) (eqb b a) (Decides-eqb a b) (λ t. sym (eqb-true b a t), λ e. eq-eqb b a (sym e))
+
+marks_same : (x y z : ℕ) (l : List ℕ) → is_mark (x ∷ y ∷ z ∷ []) ≡ starts_with (32 ∷ 61 ∷ 32 ∷ []) (x ∷ y ∷ z ∷ l)
+marks_same x y z l = rw (turned x 32, turned y 61, turned z 32, same (eqb 32 x) (eqb 61 y) (eqb 32 z))
+  where
+    same : (a b c : Bool) → (a && (b && (c && true))) ≡ cond a (cond b (cond c true false) false) false
+    same true true true = refl
+    same true true false = refl
+    same true false c = refl
+    same false b c = refl
+
+pub results_found : (l : List ℕ) → found (position_or_len is_mark (threes l)) (length (threes l)) (length l) ≡ length (inputs_of l)
+results_found [] = refl
+results_found (x ∷ []) = rw (short_one (eqb 32 x))
+results_found (x ∷ y ∷ []) = rw (short_one (eqb 61 y), short_one (eqb 32 x), short_one (eqb 32 y))
+results_found (x ∷ y ∷ z ∷ l) =
+    rw (marks_same x y z l) (found_step _ (position_or_len is_mark (threes (y ∷ z ∷ l))) _ _ x (inputs_of (y ∷ z ∷ l)) (results_found (y ∷ z ∷ l)))
 
 pub take_inputs : (l : List ℕ) → take (length (inputs_of l)) l ≡ inputs_of l
 take_inputs [] = refl

@@ -1,8 +1,7 @@
--- `lines::begins` meets its contract. The front of the line is compared with the word. Assumes nothing.
-use Rattle.lines.proofs.Laws.Line.{starts_is}
+-- `lines::begins` meets its contract. std's test of a beginning is the definition's. Assumes nothing.
+use mathlib.Core.Path.{◌∙◌}
+use Rattle.lines.proofs.Laws.Line.{begins_same}
 use Rattle.lines.proofs.begins.Goals as goal
 
 pub returns : goal.returns
-returns c =
-    let a = c.args in
-    starts_is a.word.now a.line.now _ _ c.clip-k.ensures.value c.same.ensures.0 c.same.ensures.1
+returns c = c.starts_with.ensures.value ∙ begins_same c.args.word.now c.args.line.now

@@ -1,25 +1,27 @@
 -- `lines::hex_number` meets its contract. The loop reads the first 16 digits, one at a turn, and 16 of them fit 64 bits. Assumes nothing.
+use mathlib.Core.Path.{◌≡◌, ◌∙◌, ap}
+use Prim.Native.Nat.{ℕ}
 use native.Mathlib.Omega.{arith}
-use Rattle.lines.proofs.Laws.Hex.{reading_start, reading_room, reading_next, reading_end}
+use lib.ListN.{length-take, take}
+use lib.Seq.{take_all}
+use Rattle.lines.specs.Hex.{number_from}
+use Rattle.lines.proofs.Laws.Hex.{digit_small, digit_room, number_next, take_min}
 use Rattle.lines.proofs.hex_number.Goals as goal
 
-pub loop-i-init : goal.loop-i-init
-loop-i-init c = reading_start c.args.word.now
-
-pub returns-then-i-word : goal.returns-then-i-word
-returns-then-i-word c = let r = c.loop-i.invariant in let l = r.there in let m = r.most in reading_end r (omega arith)
-
 pub overflow_mul-n : goal.overflow_mul-n
-overflow_mul-n c = let m = reading_room c.loop-i.invariant c.loop-i-test.true {d = 0} (omega arith) in omega arith
-
-pub bounds-word-i : goal.bounds-word-i
-bounds-word-i c = let r = c.loop-i.invariant in let l = r.there in omega arith
+overflow_mul-n c = let m = digit_room c.loop-x.x-index 0 c.loop-x.invariant.small (omega arith) (omega (arith, length-take {A = ℕ})) in omega arith
 
 pub overflow_add-n : goal.overflow_add-n
-overflow_add-n c = let m = reading_room c.loop-i.invariant c.loop-i-test.true c.digit.ensures.upper_bound in omega arith
+overflow_add-n c = let m = digit_room c.loop-x.x-index c.from.result c.loop-x.invariant.small (omega arith) (omega (arith, length-take {A = ℕ})) in omega arith
 
-pub loop-i-preserved : goal.loop-i-preserved
-loop-i-preserved c = let r = c.loop-i.invariant in let l = r.there in reading_next r c.loop-i-test.true (omega arith) c.digit.ensures.value c.digit.ensures.upper_bound
+pub loop-x-preserved : goal.loop-x-preserved
+loop-x-preserved c = record {
+  is = number_next 16 _ c.loop-x.invariant.is c.loop-x-test.true (c.from.ensures ∙ c.digit.ensures.value);
+  small = digit_small c.loop-x.x-index c.from.result c.loop-x.invariant.small (omega arith);
+}
 
 pub returns : goal.returns
-returns c = let r = c.loop-i.invariant in let l = r.there in let m = r.most in reading_end r (omega arith)
+returns c =
+    let word = c.args.word.now in
+    let e : take c.min.result word ≡ take 16 word = ap (λ (n : ℕ). take n word) c.min.ensures ∙ take_min word 16 in
+    c.loop-x.invariant.is ∙ ap (number_from 16 0) (take_all c.loop-x.x-index _ (omega arith) ∙ e)

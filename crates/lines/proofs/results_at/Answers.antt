@@ -1,24 +1,16 @@
--- `lines::results_at` meets its contract. The loop's invariant: i is within the line, and what stands before the results from i on ends where it does from
--- the start on. Assumes nothing.
-use mathlib.Core.Path.{sym}
-use native.Mathlib.Numerals.{add-one}
-use native.Mathlib.Omega.{arith}
-use lib.Seq.{length-take-le}
-use Rattle.lines.proofs.Laws.Line.{inputs_here, inputs_next, inputs_end}
+-- `lines::results_at` meets its contract. The first window that is ` = ` stands where the inputs end. Assumes nothing.
+use borrow.Author.Rules.{rules}
+use borrow.Author.Tests.{tests}
+use mathlib.Core.Path.{ap, ◌∙◌}
+use lib.ListN.{length}
+use Rattle.std.proofs.lemmas.Iterator.Search.{position_from_yields_List}
+use Rattle.std.specs.Option.{unwrap_or}
+use Rattle.lines.proofs.Laws.Line.{is_mark, windows_threes, results_found}
 use Rattle.lines.proofs.results_at.Goals as goal
 
-pub loop-i-init : goal.loop-i-init
-loop-i-init c = (omega arith, omega arith)
-
-pub returns-then-begins : goal.returns-then-begins
-returns-then-begins c =
-    let z = inputs_here c.args.line.now c.loop-i.i c.begins.ensures c.loop-i-test.true c.if-begins.true in record { prefix_len = (omega arith, sym (length-take-le _ _ (omega arith))); value = omega (arith, z, c.loop-i.invariant.1) }
-
-pub loop-i-preserved : goal.loop-i-preserved
-loop-i-preserved c =
-    let z = inputs_next c.args.line.now c.loop-i.i c.begins.ensures c.loop-i-test.true c.if-begins.false in
-    (omega arith, rw add-one (omega (arith, z, c.loop-i.invariant.1)))
-
-pub returns : goal.returns
-returns c =
-    let z = inputs_end c.args.line.now c.loop-i.i (omega arith) in record { prefix_len = (omega arith, sym (length-take-le _ _ (omega arith))); value = omega (arith, z, c.loop-i.invariant.1) }
+pub returns-clause-value : goal.returns-clause-value
+returns-clause-value c =
+    let line = c.args.line.now in
+    let e =
+    position_from_yields_List is_mark _ _ c.position.result c.position.ensures.ran (windows_threes line c.windows.ensures.rest c.windows.ensures.size) (λ x b q k. search (rules, tests)) in
+    c.unwrap_or.ensures ∙ ap (λ r. unwrap_or r (length line)) e ∙ results_found line

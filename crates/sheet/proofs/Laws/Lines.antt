@@ -5,13 +5,13 @@ use Prim.Native.Nat.{ℕ, zero, suc, ◌+◌, ◌-◌, ◌≤◌, ◌<◌}
 use native.Mathlib.Omega.{arith}
 use native.Mathlib.Numerals.{add-one}
 use lib.ListN.{length, get_or, take, drop, length-append, length-drop}
-use lib.Seq.{take-suc, take_all, take-length, drop-drop}
+use lib.Seq.{take-suc, take_all, take-length}
 use borrow.Author.Tests.{lt-ltb, le-ltb}
 use Rattle.book.specs.Encode.{run}
 use Rattle.writing.specs.Wrote.{Room, Wrote}
 use Rattle.printing.specs.Sheet.{after, field, slashed, line, listing}
 use Rattle.sheet.specs.Records.{listed_count, listed_in, trail_in, line_in, lines_in}
-use Rattle.writing.proofs.Laws.Wrote.{wrote_nil, wrote_append, wrote_as, wrote_length, room_first, room_second}
+use Rattle.writing.proofs.Laws.Wrote.{wrote_append, wrote_as, wrote_length, room_first, room_second}
 use Rattle.writing.proofs.Laws.Chunks.{Chunks}
 use Rattle.writing.proofs.Laws.Runs.{run_snoc}
 
@@ -149,99 +149,60 @@ module _ (letter lead : ℕ) (none : List ℕ) (trail : ℕ) where
   lines_end zero s h = refl
   lines_end (suc k) s h = rw (lt-ltb (length s) (3 + lead + trail) h)
 
--- a record takes something from what is left
-left_less : (l i k f : ℕ) → 0 < k → l - i ≤ f → l - (i + k) ≤ f - 1
-left_less l i k f h e = omega arith
-
--- the loop over them: what is written so far, with the lines of the records from i on, is the whole
-pub record Lining (letter lead : ℕ) (none : List ℕ) (trail : ℕ) (image whole out : List ℕ) (at : ℕ) (now : List ℕ) (p i : ℕ) : Type 0 where
-  pub small : lead + trail ≤ 2
-  pub most : i ≤ length image
+-- the loop over them: what is written so far, with the lines of the records that are left, is the whole
+pub record Lining (letter lead : ℕ) (none : List ℕ) (trail : ℕ) (whole out : List ℕ) (at : ℕ) (now : List ℕ) (p : ℕ) (rest : List ℕ) : Type 0 where
   pub room : Room out at whole
   pub done : List ℕ
   pub wrote : Wrote out now at p done
   pub fuel : ℕ
-  pub enough : length image - i ≤ fuel
-  pub is : done ++ lines_in letter lead none trail fuel (drop i image) ≡ whole
+  pub enough : length rest ≤ fuel
+  pub is : done ++ lines_in letter lead none trail fuel rest ≡ whole
 
-module _ {letter lead trail at : ℕ} {none image whole out : List ℕ} where
-  pub lining_start : lead + trail ≤ 2 → Room out at whole → lines_in letter lead none trail (length image) image ≡ whole
-      → Lining letter lead none trail image whole out at out at 0
-  lining_start l r e =
-      record { small = l; most = omega arith; room = r; done = []; wrote = wrote_nil out at; fuel = length image; enough = omega arith; is = e }
+module _ {letter lead trail at p : ℕ} {none whole out now rest : List ℕ} (w : Lining letter lead none trail whole out at now p rest) where
+  lining_length : length now ≡ length out
+  lining_length = wrote_length w.wrote
 
-  module _ {now : List ℕ} {p i : ℕ} (w : Lining letter lead none trail image whole out at now p i) where
-    pub lining_length : length now ≡ length out
-    lining_length = wrote_length w.wrote
+  pub lining_end : length rest < 3 + lead + trail → Wrote out now at p whole
+  lining_end h =
+      let e = lines_end letter lead none trail w.fuel rest h in
+      wrote_as (sym (append-nil w.done) ∙ ap (λ (t : List ℕ). w.done ++ t) (sym e) ∙ w.is) w.wrote
 
-    pub lining_end : length image - i < 3 + lead + trail → Wrote out now at p whole
-    lining_end h =
-        let l = length-drop i image in
-        let e = lines_end letter lead none trail w.fuel (drop i image) (omega arith) in
-        wrote_as (sym (append-nil w.done) ∙ ap (λ (t : List ℕ). w.done ++ t) (sym e) ∙ w.is) w.wrote
+  -- the next record's line is written where there is room, and then the records after it are left
+  module _ (h : 3 + lead + trail ≤ length rest) where
+    abbrev line· : List ℕ
+    line· = line_in letter lead none trail rest
 
-    -- the next record's line is written where there is room, and then the records after it are left
-    module _ (h : 3 + lead + trail ≤ length image - i) where
-      rest : ℕ → List ℕ
-      rest k = lines_in letter lead none trail k (drop (i + (3 + lead + trail + listed_count lead trail (drop i image))) image)
+    abbrev more : ℕ → List ℕ
+    more n = lines_in letter lead none trail (w.fuel - 1) (drop (3 + lead + trail + n) rest)
 
-      going : (k : ℕ) → w.fuel ≡ suc k → w.done ++ (line_in letter lead none trail (drop i image) ++ rest k) ≡ whole
-      unfolding rest
-      going k f =
-          let l = length-drop i image in
-          let n = 3 + lead + trail + listed_count lead trail (drop i image) in
-          let d = ap (λ (t : List ℕ). line_in letter lead none trail (drop i image) ++ lines_in letter lead none trail k t) (drop-drop n i image) in
-          let e = ap (λ (k : ℕ). lines_in letter lead none trail k (drop i image)) f ∙ lines_next letter lead none trail k (drop i image) (omega arith) ∙ d in
-          ap (λ (t : List ℕ). w.done ++ t) (sym e) ∙ w.is
+    going : w.done ++ (line· ++ more (listed_count lead trail rest)) ≡ whole
+    going =
+        let f = w.enough in
+        let e : suc (w.fuel - 1) ≡ w.fuel = omega arith in
+        let d = ap (λ (k : ℕ). lines_in letter lead none trail k rest) (sym e) ∙ lines_next letter lead none trail (w.fuel - 1) rest h in
+        ap (λ (t : List ℕ). w.done ++ t) (sym d) ∙ w.is
 
-      one_less : suc (w.fuel - 1) ≡ w.fuel
-      one_less = let e = w.enough in omega arith
+    pub lining_room : Room now p line·
+    lining_room =
+        let m = more (listed_count lead trail rest) in
+        let e = ap length going in
+        let f = length-append w.done (line· ++ m) in
+        let g = length-append line· m in
+        let r = w.room in
+        let d = w.wrote.ends in
+        let l = lining_length in
+        omega arith
 
-      line_room : Room now p (line_in letter lead none trail (drop i image))
-      line_room =
-          let line = line_in letter lead none trail (drop i image) in
-          let k = w.fuel - 1 in
-          let e = ap length (going k (sym one_less)) in
-          let f = length-append w.done (line ++ rest k) in
-          let g = length-append line (rest k) in
-          let r = w.room in
-          let d = w.wrote.ends in
-          let l = lining_length in
-          omega arith
-
-      -- with the records from i on as the code lends them
-      module _ {s : List ℕ} (e : s ≡ drop i image) where
-        pub lining_asks : (lead + trail ≤ 2) × (3 + lead + trail ≤ length s) × Room now p (line_in letter lead none trail s)
-        lining_asks =
-            let l = length-drop i image in
-            let f = ap length e in
-            let g = ap (λ (t : List ℕ). length (line_in letter lead none trail t)) e in
-            let r = line_room in
-            (w.small, omega arith, omega arith)
-
-        pub lining_most : {n : ℕ} → n ≡ listed_count lead trail s → i + (3 + lead + trail + n) ≤ length image
-        lining_most size =
-            let l = length-drop i image in
-            let f = ap length e in
-            let m = listed_most lead trail s (omega arith) in
-            omega arith
-
-        pub lining_next : {after : List ℕ} {q n : ℕ} → n ≡ listed_count lead trail s → Wrote now after p q (line_in letter lead none trail s)
-            → Lining letter lead none trail image whole out at after q (i + (3 + lead + trail + n))
-        unfolding rest
-        lining_next {after} {q} {n} size v =
-            let line = line_in letter lead none trail (drop i image) in
-            let k = w.fuel - 1 in
-            let m = lining_most size in
-            let f = w.enough in
-            let z : n ≡ listed_count lead trail (drop i image) = size ∙ ap (listed_count lead trail) e in
-            record {
-              small = w.small;
-              most = m;
-              room = w.room;
-              done = w.done ++ line;
-              wrote = wrote_append w.wrote (wrote_as (ap (line_in letter lead none trail) e) v);
-              fuel = k;
-              enough = left_less (length image) i (3 + lead + trail + n) w.fuel (omega arith) f;
-              is = rw z (append_assoc w.done line (rest k) ∙ going k (sym one_less));
-            }
+    pub lining_next : {after left : List ℕ} {q n : ℕ} → n ≡ listed_count lead trail rest → left ≡ drop (3 + lead + trail + n) rest → Wrote now after p q line·
+        → Lining letter lead none trail whole out at after q left
+    lining_next {n = n} size e v =
+        let f = w.enough in
+        let l = ap length e ∙ length-drop (3 + lead + trail + n) rest in
+        record {
+          room = w.room;
+          done = w.done ++ line·;
+          wrote = wrote_append w.wrote v;
+          fuel = w.fuel - 1;
+          enough = omega arith;
+          is = append_assoc w.done line· _ ∙ ap (λ (t : List ℕ). w.done ++ (line· ++ lines_in letter lead none trail (w.fuel - 1) t)) e ∙ ap (λ (n : ℕ). w.done ++ (line· ++ more n)) size ∙ going;
+        }

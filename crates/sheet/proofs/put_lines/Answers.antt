@@ -1,52 +1,24 @@
--- `sheet::put_lines` meets its contract. The loop's invariant: what is written, with the lines of the records from i on, is the whole. Assumes nothing.
-use mathlib.Core.Path.{refl}
-use Prim.Native.Nat.{◌+◌, ◌≤◌}
+-- `sheet::put_lines` meets its contract. The loop's invariant: what is written, with the lines of the records that are left, is the whole. Assumes nothing.
 use native.Mathlib.Omega.{arith}
-use lib.ListN.{length}
-use Rattle.sheet.proofs.Laws.Lines.{from, lining_start, lining_length, lining_asks, lining_most, lining_next, lining_end}
-use Rattle.sheet.proofs.put_lines.Lts
-use Rattle.sheet.proofs.put_lines.Reads
-use Rattle.sheet.proofs.put_lines.Tie
+use lib.ListN.{length-drop, length-take}
+use Prim.Native.Nat.{ℕ}
+use Rattle.sheet.proofs.Laws.Lines.{from, listed_most, lining_room, lining_next, lining_end}
 use Rattle.sheet.proofs.put_lines.Goals as goal
 
--- places that several goals come past
-abbrev After-listed : Type 0
-After-listed = Lts.After-listed Tie.the-claims Reads.Pre Reads.Post goal.the-invariant-loop-i goal.the-decreases-loop-i
-
-pub loop-i-init : goal.loop-i-init
-loop-i-init c = lining_start c.requires.0 c.requires.1 refl
-
 pub put_line-p-requires : goal.put_line-p-requires
-put_line-p-requires c =
-    lining_asks c.loop-i.invariant (omega arith) (from c.loop-i.i c.args.image.now)
+put_line-p-requires c = (omega arith, lining_room c.loop-rest.invariant.lining (omega arith))
 
-pub listed-requires : goal.listed-requires
-listed-requires c =
-    let asks = lining_asks c.loop-i.invariant (omega arith) (from c.loop-i.i c.args.image.now) in
-    (asks.0, asks.1)
+pub overflow_add-rest-in-loop-rest-2 : goal.overflow_add-rest-in-loop-rest-2
+overflow_add-rest-in-loop-rest-2 c =
+    let f = c.args.form.now in
+    let m = listed_most f.lead f.trail c.loop-rest.rest.now c.loop-rest-test.true in
+    omega (arith, c.listed.ensures)
 
--- the record ends where the image does, or before
-record_ends : (c : After-listed) → let k = c.before.before.before.before.before.before.before.before in
-    let s = k.args in k.loop-i.i + (3 + s.lead + s.trail + c.listed.result) ≤ length s.image.now
-record_ends c =
-    lining_most c.loop-i.invariant (omega arith) (from c.loop-i.i c.args.image.now) c.listed.ensures
-
-pub overflow_add-i-in-loop-i-2 : goal.overflow_add-i-in-loop-i-2
-overflow_add-i-in-loop-i-2 c = let m = record_ends c.before in omega arith
-
-pub overflow_add-i-in-loop-i-3 : goal.overflow_add-i-in-loop-i-3
-overflow_add-i-in-loop-i-3 c = let m = record_ends c.before in omega arith
-
-pub loop-i-smaller : goal.loop-i-smaller
-loop-i-smaller c = let m = record_ends c.before in omega arith
-
-pub loop-i-preserved : goal.loop-i-preserved
-loop-i-preserved c =
-    let rest = from c.loop-i.i c.args.image.now in
-    lining_next c.loop-i.invariant (omega arith) rest c.listed.ensures c.put_line-p.ensures
-
-pub shape_of-text : goal.shape_of-text
-shape_of-text c = lining_length c.loop-i.invariant
+pub loop-rest-preserved : goal.loop-rest-preserved
+loop-rest-preserved c = record {
+  within = omega (arith, length-take {A = ℕ}, length-drop {A = ℕ});
+  lining = lining_next c.loop-rest.invariant.lining (omega arith) c.listed.ensures (from _ c.loop-rest.rest.now) c.put_line-p.ensures;
+}
 
 pub returns : goal.returns
-returns c = lining_end c.loop-i.invariant (omega arith)
+returns c = lining_end c.loop-rest.invariant.lining (omega arith)

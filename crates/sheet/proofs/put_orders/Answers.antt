@@ -4,106 +4,104 @@ use mathlib.Core.Path.{◌≡◌, sym, ap, ◌∙◌, subst}
 use mathlib.Core.List.{List, [], ◌++◌}
 use Prim.Native.Nat.{ℕ, ◌+◌, ◌-◌, ◌≤◌}
 use native.Mathlib.Omega.{arith}
-use lib.ListN.{length, take, drop, length-replicate}
+use lib.ListN.{length, take, drop, replicate, length-replicate}
 use borrow.Author.Rules.{rules}
+use Rattle.masks.specs.declared.reply.Reply.{Reply}
+use Rattle.masks.specs.Outcome.{Answers}
 use Rattle.book.specs.Format.{judge}
 use Rattle.writing.specs.Wrote.{Room}
 use Rattle.choices.specs.Plan.{planning}
 use Rattle.printing.specs.Sheet.{refusal_line}
-use Rattle.sheet.specs.Records.{line_in, lines_in, judged_orders}
+use Rattle.sheet.specs.Records.{listed_count, line_in, lines_in, judged_orders}
 use Rattle.masks.proofs.Laws.Outcome.{Told, refusal_told, result_told}
 use Rattle.book.specs.Limits.{longest_plan}
 use Rattle.writing.proofs.Laws.Wrote.{wrote_as, wrote_append, room_first, room_second}
 use Rattle.sheet.proofs.Laws.Lines.{listed_most, from}
 use Rattle.sheet.proofs.Laws.Printed.{planning_sized, orders_in, plan_lines, planning_lines}
-use Rattle.sheet.proofs.put_orders.Lts
-use Rattle.sheet.proofs.put_orders.Reads
-use Rattle.sheet.proofs.put_orders.Tie
 use Rattle.sheet.proofs.put_orders.Goals as goal
 
--- places that several goals come past
-abbrev Then-r-ne0 : Type 0
-Then-r-ne0 = Lts.Then1 Tie.the-claims Reads.Pre Reads.Post
+-- the planning of the bytes s, in a room of its own
+module _ (s : List ℕ) {new : List ℕ} {r : Reply} (e : Answers (planning s) (replicate longest_plan 0) r new) where
+  -- ---- was refused
 
-abbrev Else-r-ne0 : Type 0
-Else-r-ne0 = Lts.Else1 Tie.the-claims Reads.Pre Reads.Post
+  refused : (r.number ≡ 0 → ⊥) → refusal_line r.number r.value ≡ judged_orders (judge s)
+  refused h = ap plan_lines (sym (refusal_told 3 longest_plan (planning s) (planning_sized s) e (length-replicate {A = ℕ} longest_plan 0) h)) ∙ planning_lines s
 
-abbrev After-listed-rows : Type 0
-After-listed-rows = Lts.After-listed Tie.the-claims Reads.Pre Reads.Post
+  -- ---- or it has a result, whose image has the lines
 
--- ---- the planning was refused
+  module _ (h : r.number ≡ 0) where
+    found : Told 3 longest_plan (planning s) r new
+    found = result_told 3 longest_plan (planning s) (planning_sized s) e (length-replicate {A = ℕ} longest_plan 0) h
 
-refused : (c : Then-r-ne0) → let p = c.plan-r.result in refusal_line p.number p.value ≡ judged_orders (judge c.args.book.now)
-refused c =
-    let s = c.args.book.now in
-    ap plan_lines (sym (refusal_told 3 longest_plan (planning s) (planning_sized s) c.plan-r.ensures (length-replicate {A = ℕ} longest_plan 0) c.if-r-ne0.true))
-    ∙ planning_lines s
+    abbrev image : List ℕ
+    image = take r.value new
 
--- ---- or it has a result, whose image has the lines
+    abbrev of_query : List ℕ
+    of_query = line_in 81 0 [] 0 image
 
-found : (c : Else-r-ne0) → Told 3 longest_plan (planning c.args.book.now) c.plan-r.result c.plan-r.new.out
-found c =
-    let s = c.args.book.now in
-    result_told 3 longest_plan (planning s) (planning_sized s) c.plan-r.ensures (length-replicate {A = ℕ} longest_plan 0) c.if-r-ne0.false
+    abbrev of_orders : List ℕ
+    of_orders = lines_in 79 2 [] 0 (length (orders_in image)) (orders_in image)
 
-abbrev image : Else-r-ne0 → List ℕ
-image c = take c.plan-r.result.value c.plan-r.new.out
+    printed : of_query ++ of_orders ≡ judged_orders (judge s)
+    printed = ap plan_lines (sym found.is) ∙ planning_lines s
 
-printed : (c : Else-r-ne0) → let e = orders_in (image c) in line_in 81 0 [] 0 (image c) ++ lines_in 79 2 [] 0 (length e) e ≡ judged_orders (judge c.args.book.now)
-printed c = ap plan_lines (sym (found c).is) ∙ planning_lines c.args.book.now
+    room : (text : List ℕ) (at : ℕ) → Room text at (judged_orders (judge s)) → Room text at (of_query ++ of_orders)
+    room text at q = subst (Room text at) (sym printed) q
 
-room : (c : Else-r-ne0) → let e = orders_in (image c) in Room c.args.text.now c.args.at (line_in 81 0 [] 0 (image c) ++ lines_in 79 2 [] 0 (length e) e)
-room c = subst (Room c.args.text.now c.args.at) (sym (printed c)) c.requires
+    module _ {n : ℕ} (f : n ≡ listed_count 0 0 image) where
+      -- the records behind the query's are in it
+      behind : 3 + n ≤ length image
+      behind = rw f (listed_most 0 0 image found.long)
 
--- the records behind the query's are in it
-behind : (c : After-listed-rows) → 3 + c.listed-rows.result ≤ length (image c.before.before.before.before.before.before.before.before)
-behind c = rw c.listed-rows.ensures (listed_most 0 0 (image c.before.before.before.before.before.before.before.before) (found c.before.before.before.before.before.before.before.before).long)
-
--- and they are what is lent
-lent : (c : After-listed-rows) → let k = c.before.before.before.before.before.before.before.before in take (length (image k) - (3 + c.listed-rows.result)) (drop (3 + c.listed-rows.result) (image k)) ≡ orders_in (image k)
-lent c = let k = c.before.before.before.before.before.before.before.before in from (3 + c.listed-rows.result) (image k) ∙ ap (λ (n : ℕ). drop (3 + n) (image k)) c.listed-rows.ensures
+      -- and they are what is lent
+      lent : take (length image - (3 + n)) (drop (3 + n) image) ≡ orders_in image
+      lent = from (3 + n) image ∙ ap (λ (n : ℕ). drop (3 + n) image) f
 
 pub put_refusal-requires : goal.put_refusal-requires
-put_refusal-requires c = rw (refused c.before.before) c.requires
+put_refusal-requires c = rw (refused c.args.book.now c.plan-r.ensures c.if-r-ne0.true) c.requires
 
 pub returns-then-r-ne0 : goal.returns-then-r-ne0
-returns-then-r-ne0 c = wrote_as (refused c.before.before.before.before.before) c.put_refusal.ensures
+returns-then-r-ne0 c = wrote_as (refused c.args.book.now c.plan-r.ensures c.if-r-ne0.true) c.put_refusal.ensures
 
 pub slice_bounds-image-end : goal.slice_bounds-image-end
-slice_bounds-image-end c = (found c.before).fits
+slice_bounds-image-end c = (found c.args.book.now c.plan-r.ensures c.if-r-ne0.false).fits
 
 pub slice_bounds-orders-end : goal.slice_bounds-orders-end
-slice_bounds-orders-end c = (found c.before.before).size
+slice_bounds-orders-end c = (found c.args.book.now c.plan-r.ensures c.if-r-ne0.false).size
 
 pub put_line-p-requires : goal.put_line-p-requires
 put_line-p-requires c =
-    let k = c.before.before.before.before.before in
-    let e = orders_in (image k) in
-    let a = k.args in
-    (omega arith, (found k).long, room_first a.text.now a.at (line_in 81 0 [] 0 (image k)) (lines_in 79 2 [] 0 (length e) e) (room k))
+    let s = c.args.book.now in
+    let e = c.plan-r.ensures in
+    let h = c.if-r-ne0.false in
+    let a = c.args in
+    ((found s e h).long, room_first a.text.now a.at (of_query s e h) (of_orders s e h) (room s e h a.text.now a.at c.requires))
 
 pub listed-rows-requires : goal.listed-rows-requires
-listed-rows-requires c = (omega arith, (found c.before.before.before.before.before.before.before.before).long)
+listed-rows-requires c = (found c.args.book.now c.plan-r.ensures c.if-r-ne0.false).long
 
 pub overflow_add-rows : goal.overflow_add-rows
-overflow_add-rows c = omega (arith, behind c.before, (found c.before.before.before.before.before.before.before.before.before).size, (found c.before.before.before.before.before.before.before.before.before).most)
+overflow_add-rows c =
+    let f = found c.args.book.now c.plan-r.ensures c.if-r-ne0.false in
+    omega (arith, behind c.args.book.now c.plan-r.ensures c.if-r-ne0.false c.listed-rows.ensures, f.size, f.most)
 
 pub slice_bounds-put_lines-count : goal.slice_bounds-put_lines-count
-slice_bounds-put_lines-count c = behind c.before.before.before.before
+slice_bounds-put_lines-count c = behind c.args.book.now c.plan-r.ensures c.if-r-ne0.false c.listed-rows.ensures
 
 pub slice_bounds-put_lines-start : goal.slice_bounds-put_lines-start
-slice_bounds-put_lines-start c = search (rules, behind c.before.before.before.before)
+slice_bounds-put_lines-start c = search (rules, behind c.args.book.now c.plan-r.ensures c.if-r-ne0.false c.listed-rows.ensures)
 
 pub put_lines-requires : goal.put_lines-requires
 put_lines-requires c =
-    let l = c.before.before.before.before.before in
-    let k = l.before.before.before.before.before.before.before.before in
-    let e = orders_in (image k) in
-    (omega arith, rw (lent l) (room_second (lines_in 79 2 [] 0 (length e) e) l.put_line-p.ensures (room k)))
+    let s = c.args.book.now in
+    let e = c.plan-r.ensures in
+    let h = c.if-r-ne0.false in
+    rw (lent s e h c.listed-rows.ensures) (room_second (of_orders s e h) c.put_line-p.ensures (room s e h c.args.text.now c.args.at c.requires))
 
 pub returns : goal.returns
 returns c =
-    let l = c.before.before.before.before.before.before.before.before in
-    let k = l.before.before.before.before.before.before.before.before in
-    wrote_as (ap (λ (e : List ℕ). line_in 81 0 [] 0 (image k) ++ lines_in 79 2 [] 0 (length e) e) (lent l) ∙ printed k)
-    (wrote_append l.put_line-p.ensures c.put_lines.ensures)
+    let s = c.args.book.now in
+    let e = c.plan-r.ensures in
+    let h = c.if-r-ne0.false in
+    wrote_as (ap (λ (l : List ℕ). of_query s e h ++ lines_in 79 2 [] 0 (length l) l) (lent s e h c.listed-rows.ensures) ∙ printed s e h)
+    (wrote_append c.put_line-p.ensures c.put_lines.ensures)

@@ -1,10 +1,6 @@
--- `cases::same::is_left` meets its contract. What is compared of the one is no longer than what was passed of the other; the bytes left fall. Assumes nothing.
-use Prim.Native.Nat.{◌-◌, ◌≤◌}
+-- `cases::same::is_left` meets its contract. Each turn takes a record off what is left of the full plan. Assumes nothing.
 use lib.ListN.{length}
 use Rattle.cases.proofs.same.is_left.Given as goal
 
-abbrev pub invariant-loop-i : goal.invariant-loop-i
-invariant-loop-i l = (l.j ≤ l.i) × (l.j ≤ length l.left)
-
-abbrev pub decreases-loop-i : goal.decreases-loop-i
-decreases-loop-i l = length l.full - l.i
+abbrev pub decreases-loop-full : goal.decreases-loop-full
+decreases-loop-full l = length l.full
