@@ -1,5 +1,5 @@
--- The loops over the arguments of a call: what the first of them come to in each lane. One invariant for each loop, with a law for its start, its next
--- turn and its end. Assumes nothing.
+-- The loops over the arguments of a call: what the first of them come to in each lane. One invariant for each loop, with laws for what the check does
+-- not find of its start, its next turn and its end. Assumes nothing.
 use mathlib.Core.Path.{◌≡◌, refl, sym, ap, ap₂, ◌∙◌}
 use mathlib.Core.Bool.{Bool, true, false, cond, ◌&&◌, and-true}
 use mathlib.Core.List.{List, [], ◌∷◌}
