@@ -106,11 +106,11 @@ fn keep_clauses(rules: &mut [u64; RULES_SIZE], clauses: u8, set: u64) -> u8
     requires { (clauses ≤ max_clauses) × Known rules.old clauses }
     ensures { ClausesKept (bit_at set) rules.old clauses rules.new result }
 {
-    let mut n: u8 = 0;
-    for k in 0..clauses {
-        let p = predicate(head_at(rules, k as usize));
+    let mut n = 0;
+    for k in 0..clauses as usize {
+        let p = predicate(head_at(rules, k));
         if !has_member(set, p) {
-            move_clause(rules, k as usize, n as usize);
+            move_clause(rules, k, n as usize);
             n += 1;
         }
     }
