@@ -56,7 +56,7 @@ fn good_patterns<'a>(
     set
 }
 
-// Two tables have the same entries, all 64. `==`, which looks at one at a time, makes the analysis of a chain of rounds 7 percent slower.
+// Two tables have the same entries, all 64. `==`, which looks at one at a time, makes the analysis of a chain of rounds some 7 percent slower.
 fn same(old: &[u64; MAX_PREDICATES], new: &[u64; MAX_PREDICATES]) -> bool
     ensures { Compares old.now new.now result }
 {
