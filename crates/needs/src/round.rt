@@ -53,7 +53,7 @@ fn good_patterns(book: &RuleBook, own: u64, table: &[u64; MAX_PREDICATES], had: 
     set
 }
 
-// Two tables have the same entries, all 64. `==`, which stops at the first that differs, makes an analysis of many rounds 7 percent slower.
+// Two tables have the same entries, all 64. `==`, which looks at one at a time, makes the analysis of a chain of rounds some 7 percent slower.
 fn same(old: &[u64; MAX_PREDICATES], new: &[u64; MAX_PREDICATES]) -> bool
     ensures { Compares old.now new.now result }
 {
