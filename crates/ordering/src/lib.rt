@@ -1,4 +1,4 @@
-// A body's first good order, and what is bound on the way.
+// A body's first good order, and what is bound on the way. An order, as it is held, is in `order`.
 //
 // What is bound is a word: bit v is set where variable v is bound. Inside an order the word has 32 bits: bit 31 is always set and stands for literals,
 // bit 30 is never set and stands for wildcards. The five lowest bits of an argument's byte, 0 to 15, 254 or 255, are then the place of its bit, so that
