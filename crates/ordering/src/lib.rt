@@ -5,7 +5,7 @@
 // an argument is looked up and bound by a shift, with no test of what it is.
 #![tactic(auto)]
 
-pub mod order;
+mod order;
 
 ghost use Rattle.std.specs.Prelude.{◌≡◌, true, ◌≤◌, ◌<◌, ◌^◌, ◌%◌, length, IfSome};
 ghost use Rattle.masks.specs.Lists.{all, values};
@@ -21,7 +21,7 @@ ghost use Rattle.ordering.specs.Good.{ready_at, first_good};
 ghost use Rattle.ordering.specs.Asks.{patterns_in};
 ghost use Rattle.ordering.specs.Held.{order_of, places_of, patterns_of, bound_of, Marked, marks, with_marks, picked, place_of, can_run, PatternAt};
 
-use crate::order::Order;
+pub use crate::order::Order;
 use book::clause::{argument, arguments, negated, predicate, subgoal_at, subgoals_at};
 use book::limits::{LAST_VARIABLE, MAX_PREDICATES, MAX_SUBGOALS, RULES_SIZE};
 use masks::constraint::has_member;
