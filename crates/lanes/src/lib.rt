@@ -28,11 +28,7 @@ pub struct Pass {
 
 // The head patterns under which clause k is good, bit a for pattern a: its subgoals have a good order, and every argument of its head is bound when they
 // have run. A variable that a subgoal binds is bound by then, so that asks for the others.
-pub fn good_lanes<'a>(
-    rules: &'a [u64; RULES_SIZE],
-    k: usize,
-    table: &'a [u64; MAX_PREDICATES],
-) -> u64
+pub fn good_lanes(rules: &[u64; RULES_SIZE], k: usize, table: &[u64; MAX_PREDICATES]) -> u64
     requires { (k ≤ max_clauses) × (callable (clause_at rules.now k).body ≡ true) }
     ensures { EachLane (λ a. bit_at result a ≡ good_clause (table_in table.now max_predicates) (clause_at rules.now k) a) }
 {
@@ -46,10 +42,10 @@ pub fn good_lanes<'a>(
 // The lanes in which the subgoals of clause k have a good order, with these variables bound at the start; and there, those bound when all have run.
 // Passes go over the subgoals as they stand, each of which is placed in the lanes in which it is ready. A pass is the last where every lane is good, where
 // nothing was placed, and where it has as many before it as there are other subgoals.
-fn body_lanes<'a>(
-    rules: &'a [u64; RULES_SIZE],
+fn body_lanes(
+    rules: &[u64; RULES_SIZE],
     k: usize,
-    table: &'a [u64; MAX_PREDICATES],
+    table: &[u64; MAX_PREDICATES],
     vars: &mut [u64; VARIABLES],
 ) -> u64
     requires { (k ≤ max_clauses) × (callable (clause_at rules.now k).body ≡ true) }
@@ -67,10 +63,10 @@ fn body_lanes<'a>(
 }
 
 // One pass over the subgoals of clause k. Those that are placed in every lane are passed over.
-fn one_pass<'a>(
-    rules: &'a [u64; RULES_SIZE],
+fn one_pass(
+    rules: &[u64; RULES_SIZE],
     k: usize,
-    table: &'a [u64; MAX_PREDICATES],
+    table: &[u64; MAX_PREDICATES],
     vars: &mut [u64; VARIABLES],
     placed: &mut [u64; MAX_SUBGOALS],
 ) -> Pass

@@ -34,7 +34,7 @@ pub fn reach(
     let mut work = mark_calls(rules, MAX_CLAUSES, query, reached);
     // No `for` over its members: a turn may put work back.
     while work != 0 {
-        let p = u64::trailing_zeros(work) as usize;
+        let p = work.trailing_zeros() as usize;
         let all = reached[p];
         let new = all ^ gone[p];
         gone[p] = all;
