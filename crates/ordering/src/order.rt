@@ -20,11 +20,4 @@ impl Order {
     {
         &self.places[..self.n as usize]
     }
-
-    // The patterns beside them.
-    pub fn patterns(&self) -> &[u8]
-        ensures { result.now ≡ take self.now.n self.now.patterns }
-    {
-        &self.patterns[..self.n as usize]
-    }
 }

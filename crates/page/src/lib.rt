@@ -22,8 +22,7 @@ use book::limits::{
 use book::mark::Phase;
 use masks::reply::Reply;
 use needs::settle;
-use ordering::first_order;
-use ordering::order::Order;
+use ordering::{Order, first_order};
 use plan::image::put_query;
 use reading::{ended, read_body, read_book};
 use records::turn::{is_mark, run_end};

@@ -13,8 +13,7 @@ use book::clause::{head_at, subgoals_at};
 use book::limits::{MAX_CLAUSES, MAX_PREDICATES, RULES_SIZE};
 use masks::constraint::count;
 use masks::members::Members;
-use ordering::order::Order;
-use ordering::{first_order, head_bound};
+use ordering::{Order, first_order, head_bound};
 use writing::put::{put_byte, put_bytes, put_mark};
 
 // How many bytes the plan has: each predicate's clauses have a row for each of its patterns.

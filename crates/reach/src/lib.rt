@@ -14,8 +14,7 @@ use book::clause::{head_at, predicate, subgoal_at};
 use book::limits::{MAX_CLAUSES, MAX_PREDICATES, RULES_SIZE};
 use masks::constraint::with_member;
 use masks::members::Members;
-use ordering::order::Order;
-use ordering::{first_order, head_bound};
+use ordering::{Order, first_order, head_bound};
 
 // "Patterns reached: those of the query's subgoals, and those of the subgoals of every clause of a reached predicate under a reached pattern", in the
 // first good orders against a table; the query's is given. They are marked in the words lent, which must be 0.
@@ -35,7 +34,7 @@ pub fn reach(
     let mut work = mark_calls(rules, MAX_CLAUSES, query, reached);
     // No `for` over its members: a turn may put work back.
     while work != 0 {
-        let p = u64::trailing_zeros(work) as usize;
+        let p = work.trailing_zeros() as usize;
         let all = reached[p];
         let new = all ^ gone[p];
         gone[p] = all;
