@@ -6,11 +6,11 @@ use mathlib.Core.List.{List, [], ◌∷◌, ◌++◌, map}
 use Prim.Native.Nat.{ℕ, ◌+◌, ◌*◌, ◌≤◌, ◌<◌}
 use native.Mathlib.Omega.{arith}
 use lib.ListN.{length, drop, set, drop_of_length-le}
+use Rattle.std.specs.Prelude.{Result, Ok, Err}
 use Rattle.book.specs.Limits.{max_clauses}
 use Rattle.book.specs.Book.{Call, Clause, no_clause}
 use Rattle.book.specs.Format.{spelling, leads, mark_at, turn, Bodied, many, fields, clause, query}
 use Rattle.book.specs.Held.{head_in, call_in, clause_size, rules_size, clauses_of}
-use Rattle.std.specs.Prelude.{Result, Ok, Err}
 use Rattle.book.specs.declared.fault.FaultAt.{FaultAt}
 use Rattle.book.specs.declared.fault.Fault.TheVariants.{TooMany}
 use Rattle.book.specs.declared.mark.Mark.TheVariants.{Cl}
