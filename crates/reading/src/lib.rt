@@ -179,12 +179,16 @@ fn read_clause(
     ended(s, end, Phase::Body, b"CL")
 }
 
-// The query whose record is at a place, stored behind the room of the clauses as the body of a clause whose head says nothing: the place after it.
+// The query whose record is at a place, stored behind the room of the clauses as the body of a clause whose head says nothing: the place after it. Mostly
+// the bytes end there, which is tried first.
 fn read_query<'a>(s: &'a [u8], ar: &'a [u8], at: usize, rules: &mut [u64]) -> Result<usize, FaultAt>
     requires { (at + 2 ≤ length s.now) × Arities ar.now }
     ensures { ReadsQuery Phase.Query ar.now s.now at result rules.old rules.new }
 {
     let end = read_body(s, ar, at + 2, rules, MAX_CLAUSES)?;
+    if end == s.len() {
+        return Ok(end);
+    }
     run_end(s, end, Phase::Query)
 }
 

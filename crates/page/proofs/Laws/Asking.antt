@@ -5,13 +5,13 @@ use mathlib.Core.List.{List, [], ◌∷◌, ◌++◌, map, map-append, append-ni
 use Prim.Native.Nat.{ℕ, ◌+◌, ◌-◌, ◌*◌, ◌≤◌, ◌<◌}
 use native.Mathlib.Omega.{arith}
 use lib.ListN.{length, drop}
+use Rattle.std.specs.Prelude.{Result, Ok, Err}
 use Rattle.book.specs.Limits.{max_clauses, max_queries, longest_page}
 use Rattle.book.specs.Book.{Call, Clause}
 use Rattle.book.specs.Format.{spelling, leads, mark_at, turn, Got, many, query}
 use Rattle.book.specs.Held.{rules_size, clause_at}
 use Rattle.book.specs.Sets.{callable}
 use Rattle.book.specs.Table.{Table}
-use Rattle.std.specs.Prelude.{Result, Ok, Err}
 use Rattle.book.specs.declared.fault.FaultAt.{FaultAt}
 use Rattle.book.specs.declared.fault.Fault.TheVariants.{TooMany}
 use Rattle.book.specs.declared.mark.Mark.TheVariants.{Qu}

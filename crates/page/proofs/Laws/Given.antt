@@ -8,6 +8,7 @@ use native.Mathlib.Omega.{arith}
 use lib.ListN.{length, take}
 use lib.Seq.{sets}
 use borrow.Author.Tests.{leb-true}
+use Rattle.std.specs.Prelude.{Result, Ok, Err}
 use Rattle.masks.specs.Lists.{all}
 use Rattle.masks.specs.Outcome.{refused, done, in_room}
 use Rattle.masks.specs.declared.reply.Reply.{Reply}
@@ -18,7 +19,6 @@ use Rattle.book.specs.Book.{Call, Book}
 use Rattle.book.specs.Format.{number, fault, judge}
 use Rattle.book.specs.Held.{book_in}
 use Rattle.book.specs.Table.{Table, table_in, Full}
-use Rattle.std.specs.Prelude.{Result, Ok, Err}
 use Rattle.book.specs.declared.fault.Fault.{Fault}
 use Rattle.book.specs.declared.fault.FaultAt.{FaultAt}
 use Rattle.book.proofs.Laws.Sets.{calls_below, fit_callable, fit_below}

@@ -8,6 +8,7 @@ use Prim.Native.Nat.{ℕ, zero, suc, ◌+◌, ◌*◌, min, ◌≤◌, ◌<◌}
 use native.Mathlib.Omega.{arith}
 use lib.ListN.{length, get_or, drop, set, length-set, length-map, get_or-map}
 use lib.Seq.{sets, length-sets, get_or-set_same, get_or-set_other, ext_get_or}
+use Rattle.std.specs.Prelude.{Result, Ok, Err}
 use Rattle.masks.specs.Lists.{values}
 use Rattle.masks.proofs.Laws.Logic.{by_range, clash, false_of, or_left, or_right, or_case}
 use Rattle.masks.proofs.Laws.Lists.{length_values, values_cong, get_or_values}
@@ -15,7 +16,6 @@ use Rattle.book.specs.Limits.{max_clauses, max_subgoals}
 use Rattle.book.specs.Book.{Head, Call}
 use Rattle.book.specs.Format.{spelling, leads, turn, Bodied, mark_at, many, subgoal}
 use Rattle.book.specs.Held.{head_in, call_in, clause_size, rules_size, clause_at, StoredClause}
-use Rattle.std.specs.Prelude.{Result, Ok, Err}
 use Rattle.book.specs.declared.fault.FaultAt.{FaultAt}
 use Rattle.book.specs.declared.fault.Fault.TheVariants.{TooMany}
 use Rattle.book.specs.declared.mark.Mark.{Mark}
@@ -66,9 +66,6 @@ module _ (ar s : List ℕ) (from k : ℕ) (before : List ℕ) where
 
     count : length l.words ≡ n
     count = sym (length-map l.words call_in) ∙ (l.going Body in_body).size
-
-    pub bodying_size : length now ≡ length before
-    bodying_size = ap length l.stored ∙ length-sets before (k * clause_size + 2) l.words
 
     -- a fault, of the run or of a subgoal
     faulty : {e : FaultAt}

@@ -5,17 +5,17 @@ use mathlib.Core.Bool.{true, false}
 use mathlib.Core.List.{List, [], ◌∷◌, ◌++◌, map}
 use Prim.Native.Nat.{ℕ, ◌+◌, ◌*◌, ◌≤◌, ◌<◌}
 use native.Mathlib.Omega.{arith}
-use lib.ListN.{length, drop, set}
+use lib.ListN.{length, drop, set, drop_of_length-le}
+use Rattle.std.specs.Prelude.{Result, Ok, Err}
 use Rattle.book.specs.Limits.{max_clauses}
 use Rattle.book.specs.Book.{Call, Clause, no_clause}
 use Rattle.book.specs.Format.{spelling, leads, mark_at, turn, Bodied, many, fields, clause, query}
 use Rattle.book.specs.Held.{head_in, call_in, clause_size, rules_size, clauses_of}
-use Rattle.std.specs.Prelude.{Result, Ok, Err}
 use Rattle.book.specs.declared.fault.FaultAt.{FaultAt}
 use Rattle.book.specs.declared.fault.Fault.TheVariants.{TooMany}
 use Rattle.book.specs.declared.mark.Mark.TheVariants.{Cl}
 use Rattle.book.specs.declared.mark.Phase.{Phase}
-use Rattle.book.specs.declared.mark.Phase.TheVariants.{Clauses, Body}
+use Rattle.book.specs.declared.mark.Phase.TheVariants.{Clauses, Body, Query}
 use Rattle.book.specs.declared.mark.Turn.TheVariants.{Mine}
 use Rattle.book.specs.declared.range.Range.TheVariants.{NoWildcard}
 use Rattle.book.proofs.Laws.Marks.{sole_clauses, in_body}
@@ -147,6 +147,11 @@ module _ (ar s : List ℕ) (from : ℕ) (before : List ℕ) where
           same v d = cc
 
 -- ---- the query
+
+-- it is over where the bytes are
+pub query_over : (s : List ℕ) (at : ℕ) → at ≡ length s → RunEnds Query s at (Ok at)
+unfolding mark_at
+query_over s at e = record { inside = omega arith; is = rw (drop_of_length-le s {i = at} (omega arith)) }
 
 module _ (p : Phase) (is : Bodied p) (ar s : List ℕ) (at : ℕ) {g : Result ℕ FaultAt} {before after : List ℕ} (b : ReadsBody ar s (at + 2) max_clauses g before after) where
   pub query_bad : {e : FaultAt} → g ≡ Err e → ReadsQuery p ar s at (Err e) before after

@@ -4,15 +4,14 @@ use mathlib.Core.Path.{◌≡◌, refl, sym, ap, ◌∙◌, subst}
 use mathlib.Core.List.{List}
 use Prim.Native.Nat.{ℕ}
 use lib.ListN.{length}
+use Rattle.std.specs.Prelude.{Result, Ok, Err}
 use Rattle.masks.specs.Set.{Holds}
 use Rattle.masks.specs.Outcome.{Outcome, Answers}
-use Rattle.masks.specs.declared.reply.Reply.{Reply}
 use Rattle.book.specs.Book.{Book}
 use Rattle.book.specs.Format.{number, Judged, fault, book, judge, read_book}
 use Rattle.book.specs.Encode.{encode, WellFormed}
 use Rattle.book.specs.Answer.{on_book}
 use Rattle.book.specs.Held.{has_mode, book_in, book_of}
-use Rattle.std.specs.Prelude.{Result, Ok, Err}
 use Rattle.book.specs.declared.fault.FaultAt.{FaultAt}
 use Rattle.reading.specs.declared.Reading.{Reading}
 use Rattle.book.specs.declared.held.RuleBook.{RuleBook}

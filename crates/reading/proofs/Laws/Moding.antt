@@ -9,6 +9,7 @@ use lib.Bits.{bit_or}
 use lib.Dec.{eqb}
 use lib.ListN.{length, drop, length-append, length-drop}
 use borrow.Author.Tests.{ltb-true, leb-true}
+use Rattle.std.specs.Prelude.{Result, Ok, Err}
 use Rattle.masks.specs.Lists.{any}
 use Rattle.masks.specs.Set.{bit_at, Holds}
 use Rattle.masks.proofs.Laws.Lists.{any_append}
@@ -18,7 +19,6 @@ use Rattle.book.specs.Book.{Mode}
 use Rattle.book.specs.Format.{allows, spelling, leads, low, low_from, mark_at, turn, many, mode, mode_fields}
 use Rattle.book.specs.Encode.{enc_mode}
 use Rattle.book.specs.Held.{NoModes, modes_size, mode_at, modes_of, has_mode}
-use Rattle.std.specs.Prelude.{Result, Ok, Err}
 use Rattle.book.specs.declared.fault.FaultAt.{FaultAt}
 use Rattle.book.specs.declared.mark.Mark.TheVariants.{Mo}
 use Rattle.book.specs.declared.mark.Phase.TheVariants.{Modes}

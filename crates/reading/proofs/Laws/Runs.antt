@@ -7,8 +7,8 @@ use native.Mathlib.Omega.{arith}
 use native.Mathlib.Numerals.{add-one}
 use lib.ListN.{length, take, drop, set, length-drop, length-append}
 use lib.Seq.{take-suc-set}
-use Rattle.book.specs.Format.{spelling, leads, mark_at, turn, Got, got, and_then, on_turn, many}
 use Rattle.std.specs.Prelude.{Result, Ok, Err}
+use Rattle.book.specs.Format.{spelling, leads, mark_at, turn, Got, got, and_then, on_turn, many}
 use Rattle.book.specs.declared.fault.FaultAt.{FaultAt}
 use Rattle.book.specs.declared.fault.Fault.TheVariants.{TooMany}
 use Rattle.book.specs.declared.mark.Mark.{Mark}

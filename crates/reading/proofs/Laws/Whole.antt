@@ -1,18 +1,18 @@
 -- A book is its four runs, one after the other: a fault of one is the book's, and the four values make the book. Assumes nothing.
 use mathlib.Core.Path.{◌≡◌, refl, sym, ap, ap₂, ◌∙◌}
+use mathlib.Core.Bool.{false}
 use mathlib.Core.List.{List, []}
 use Prim.Native.Nat.{ℕ, ◌+◌, ◌-◌, min, ◌≤◌}
 use native.Mathlib.Omega.{arith}
 use lib.ListN.{length, take, drop, length-drop}
-use mathlib.Core.Bool.{false}
 use lib.Seq.{length-take-le}
+use Rattle.std.specs.Prelude.{Result, Ok, Err}
 use Rattle.masks.specs.Limits.{max_arity}
 use Rattle.book.specs.Limits.{max_predicates, max_clauses}
 use Rattle.book.specs.Book.{Call, Mode, Clause, Book}
 use Rattle.book.specs.Format.{allows, spelling, leads, Got, many, predicate, clause, rules, read_book, fault, book, judged, judge}
 use Rattle.book.specs.Encode.{enc_predicate, enc_clause}
 use Rattle.book.specs.Held.{modes_of, clauses_of, clause_at, StoredClause, book_in}
-use Rattle.std.specs.Prelude.{Result, Ok, Err}
 use Rattle.book.specs.declared.fault.FaultAt.{FaultAt}
 use Rattle.book.specs.declared.mark.Mark.TheVariants.{Pr}
 use Rattle.book.specs.declared.mark.Phase.TheVariants.{Predicates, Clauses, Query}
@@ -24,8 +24,8 @@ use Rattle.book.proofs.Laws.Held.{clauses_of_before}
 use Rattle.records.specs.Read.{RunEnds, next, value, alone, Reads, Arities}
 use Rattle.reading.specs.declared.Reading.{Reading}
 use Rattle.reading.specs.Stored.{ReadsPredicates, ReadsModes, ReadsClauses, ReadsQuery, ReadsRules}
-use Rattle.reading.proofs.Laws.Runs.{Going, not_mine_at, going_end}
 use Rattle.records.proofs.Laws.Reads.{err_ok, reads_ok, reads_err, reads_fault, reads_as, then_bad, then_next, reads_map}
+use Rattle.reading.proofs.Laws.Runs.{Going, not_mine_at, going_end}
 
 -- an answer about the whole is the judgement of the bytes
 module _ {V : Type 0} {after : V → ℕ} {s : List ℕ} {q : Result V FaultAt} {b : Book} (w : Reads after s q (λ n. b) (read_book s)) where

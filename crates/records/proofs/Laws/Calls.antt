@@ -10,6 +10,7 @@ use lib.ListN.{length, get_or, take, drop}
 use lib.Seq.{ext_get_or}
 use lib.Pow.{are_bytes, pow-add, pow_mono, shl_exact}
 use borrow.Author.Tests.{lt-ltb, ltb-true, eqb-true, eqb-false}
+use Rattle.std.specs.Prelude.{Result, Ok, Err}
 use Rattle.masks.specs.Limits.{max_arity}
 use Rattle.masks.specs.Lists.{values}
 use Rattle.masks.proofs.Laws.Logic.{by_bool, and_intro, and_left, and_right}
@@ -17,7 +18,6 @@ use Rattle.masks.proofs.Laws.Lists.{length_values, get_or_values, take_values}
 use Rattle.book.specs.Book.{Head}
 use Rattle.book.specs.Format.{allows, byte, fields}
 use Rattle.book.specs.Held.{count_in, negated_in, byte_of, head_in}
-use Rattle.std.specs.Prelude.{Result, Ok, Err}
 use Rattle.book.specs.declared.fault.FaultAt.{FaultAt}
 use Rattle.book.specs.declared.range.Range.{Range}
 use Rattle.book.specs.declared.range.Range.TheVariants.{Below}

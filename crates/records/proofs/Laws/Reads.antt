@@ -9,12 +9,12 @@ use lib.Dec.{eqb, leb}
 use lib.ListN.{length, get_or, drop, length-drop, length-append, drop_of_length-le}
 use lib.Seq.{drop-cons, drop-drop}
 use borrow.Author.Tests.{leb-true, le-leb, ltb-true, eqb-true, eqb-false, eq-eqb}
+use Rattle.std.specs.Prelude.{Result, Ok, Err, IsErrAnd}
 use Rattle.masks.specs.Limits.{max_arity}
 use Rattle.masks.proofs.Laws.Logic.{by_bool, same, or_left, or_right, or_case}
 use Rattle.book.specs.Book.{subgoal_of}
 use Rattle.book.specs.Format.{spelling, leads, allows, Got, got, bad, and_then, byte, bytes, predicate, fields, argument_in, subgoal}
 use Rattle.book.specs.Held.{head_in, call_in}
-use Rattle.std.specs.Prelude.{Result, Ok, Err, IsErrAnd}
 use Rattle.book.specs.declared.fault.FaultAt.{FaultAt}
 use Rattle.book.specs.declared.fault.Fault.TheVariants.{PastEnd, OutOfRange}
 use Rattle.book.specs.declared.mark.Mark.TheVariants.{Ng}

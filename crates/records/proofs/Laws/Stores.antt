@@ -6,15 +6,15 @@ use mathlib.Core.List.{List, [], ◌∷◌, ◌++◌, append_assoc}
 use Prim.Native.Nat.{ℕ, zero, suc, ◌+◌, ◌-◌, ◌*◌, ◌^◌, ◌≤◌, ◌<◌}
 use native.Mathlib.Omega.{arith}
 use lib.ListN.{length, get_or, take, drop, set, length-append, length-drop}
-use lib.Seq.{sets, take-take, drop-drop, sets-eq, length-sets, take_at, drop_at, length-take-le}
+use lib.Seq.{sets, take-take, drop-drop, sets-eq, take_at, drop_at, length-take-le}
 use borrow.Author.Tests.{leb-true, le-leb, lt-leb}
+use Rattle.std.specs.Prelude.{Result, Ok, Err}
 use Rattle.masks.specs.Limits.{max_masks}
 use Rattle.masks.proofs.Laws.Lists.{sets_append}
 use Rattle.book.specs.Limits.{max_predicates}
 use Rattle.book.specs.Book.{Mode}
 use Rattle.book.specs.Format.{allows, byte, bytes, masks, mode_fields}
 use Rattle.book.specs.Held.{mode_size, modes_size, has_in, masks_in, mode_at, StoredMode}
-use Rattle.std.specs.Prelude.{Result, Ok, Err}
 use Rattle.book.specs.declared.fault.FaultAt.{FaultAt}
 use Rattle.book.specs.declared.fault.Fault.TheVariants.{Clash}
 use Rattle.book.specs.declared.range.Range.{Range}
@@ -48,9 +48,6 @@ module _ (r : Range) (s : List ℕ) (k from start : ℕ) (before : List ℕ) whe
   laying_start h = record { bytes = []; left = left_start r s k from h; stored = refl }
 
   module _ {at i : ℕ} {now : List ℕ} (l : Laying r s k from at i start before now) where
-    pub laying_size : length now ≡ length before
-    laying_size = ap length l.stored ∙ length-sets before start l.bytes
-
     module _ (h : i < k) {g : Result (ℕ × ℕ) FaultAt} (w : Reads next s g value (byte r (drop at s))) where
       pub laying_bad : {e : FaultAt} → g ≡ Err e → ReadsBytes s (Err e) start before now (bytes r k [] (drop from s))
       laying_bad e = record { bytes = l.bytes; reads = left_bad r s k from l.left h w e; stored = l.stored }
