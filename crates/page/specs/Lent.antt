@@ -1,13 +1,14 @@
 -- How a book and its final table are lent to what answers a page, and what is promised of the parts. Assumes nothing.
 use Rattle.std.specs.Prelude.{◌≡◌, List, map, ℕ, length, take, drop, Result, Ok, Err}
 use Rattle.masks.specs.declared.reply.Reply.{Reply}
-use Rattle.book.specs.Limits.{max_clauses}
+use Rattle.book.specs.Limits.{max_predicates, max_clauses}
 use Rattle.book.specs.Book.{Call, Book}
 use Rattle.book.specs.Format.{query}
 use Rattle.book.specs.Encode.{WellFormed}
 use Rattle.book.specs.Held.{clause_at}
 use Rattle.book.specs.Table.{Table, table_in, Admitted}
 use Rattle.book.specs.declared.fault.FaultAt.{FaultAt}
+use Rattle.book.specs.declared.held.RuleBook.{RuleBook}
 use Rattle.book.specs.declared.mark.Phase.TheVariants.{PageQuery}
 use Rattle.records.specs.Read.{alone, Reads}
 use Rattle.tables.specs.Table.{final}
@@ -19,22 +20,24 @@ use Rattle.paging.specs.Page.{accepts, answers, paged, verdicts_of}
 
 -- ---- what is lent
 
--- a book's arities, and the patterns that its final table admits
-pub record Lent (B : Book) (preds : ℕ) (arities table : List ℕ) : Type 0 where
+-- a book's arities as they are held, and a table of the patterns that its final table admits
+pub record Lent (B : Book) (b : RuleBook) (T : Table) : Type 0 where
   pub well : WellFormed B
-  pub preds· : length B.arities ≡ preds
-  pub arities· : B.arities ≡ take preds arities
+  pub preds· : length B.arities ≡ b.preds
+  pub arities· : B.arities ≡ take b.preds b.arities
   pub masks : List ℕ
-  pub final· : table_in masks preds ≡ final B
-  pub admitted : Admitted masks table
+  pub final· : table_in masks b.preds ≡ final B
+  pub words : List ℕ
+  pub admitted : Admitted masks words
+  pub table· : T ≡ table_in words max_predicates
 
 -- what is asked: there is such a book; and what is given, whatever that book is
-abbrev pub SomeLent : ℕ → List ℕ → List ℕ → Type 0
-SomeLent preds arities table = (B : Book) × Lent B preds arities table
+abbrev pub SomeLent : RuleBook → Table → Type 0
+SomeLent b T = (B : Book) × Lent B b T
 
-abbrev pub Gives : ℕ → List ℕ → List ℕ → List ℕ → List ℕ → Tally → Reply → List ℕ → Tally → Type 0
-Gives preds arities table run out old r after t =
-    (B : Book) → Lent B preds arities table → Tallies (paged B (judge_run B.arities run)) (verdicts_of B (judge_run B.arities run)) out old r after t
+abbrev pub Gives : RuleBook → Table → List ℕ → List ℕ → Tally → Reply → List ℕ → Tally → Type 0
+Gives b T run out old r after t =
+    (B : Book) → Lent B b T → Tallies (paged B (judge_run B.arities run)) (verdicts_of B (judge_run B.arities run)) out old r after t
 
 -- ---- the parts
 

@@ -2,6 +2,8 @@
 -- falls. Assumes nothing.
 use mathlib.Core.Path.{sym, ◌∙◌}
 use native.Mathlib.Omega.{arith}
+use Rattle.book.specs.Limits.{max_clauses}
+use Rattle.book.proofs.Laws.Held.{clause_at_few}
 use Rattle.records.proofs.Laws.Reads.{passed}
 use Rattle.page.proofs.Laws.Asking.{asking_start, asking_long, asking_there, asking_full, asking_bad, asking_callable, asking_next, asking_end_bad, asking_end}
 use Rattle.page.proofs.answer_run.Goals as goal
@@ -17,7 +19,7 @@ returns-then-n-ge-MAX_QUERIES c =
     rw c.at.ensures (asking_full _ _ _ c.loop-tally.invariant (sym c.is_mark.ensures ∙ c.loop-tally-test.true) c.if-n-ge-MAX_QUERIES.true _)
 
 pub read_page_query-requires : goal.read_page_query-requires
-read_page_query-requires c = (asking_there _ _ _ c.loop-tally.invariant (sym c.is_mark.ensures ∙ c.loop-tally-test.true), c.requires.0)
+read_page_query-requires c = (asking_there _ _ _ c.loop-tally.invariant (sym c.is_mark.ensures ∙ c.loop-tally-test.true), c.requires)
 
 pub returns-in_err-at : goal.returns-in_err-at
 returns-in_err-at c =
@@ -29,7 +31,9 @@ answer_query-v-requires c =
     let inv = c.loop-tally.invariant in
     let long = asking_long _ _ _ inv in
     let short = inv.short in
-    (asking_callable _ _ _ inv (sym c.is_mark.ensures ∙ c.loop-tally-test.true) c.read_page_query.ensures c.in_ok-at.was c.requires.0, c.requires.1, omega arith)
+    rw c.at-in-loop-tally.ensures
+    (asking_callable _ _ _ inv (sym c.is_mark.ensures ∙ c.loop-tally-test.true) c.read_page_query.ensures c.in_ok-at.was c.requires,
+    clause_at_few c.read_page_query.new.rules max_clauses, omega arith)
 
 pub stepped-tally-requires : goal.stepped-tally-requires
 stepped-tally-requires c =
@@ -40,7 +44,7 @@ pub loop-tally-preserved : goal.loop-tally-preserved
 loop-tally-preserved c =
     let v = c.answer_query-v.ensures in
     asking_next _ _ _ c.loop-tally.invariant (sym c.is_mark.ensures ∙ c.loop-tally-test.true) c.read_page_query.ensures c.in_ok-at.was (omega arith)
-    v.wrote v.accepted_value.1 v.accepted_value.0 c.stepped-tally.ensures
+    (rw (← c.at-in-loop-tally.ensures) v.wrote) v.accepted_value.1 (rw (← c.at-in-loop-tally.ensures) v.accepted_value.0) c.stepped-tally.ensures
 
 pub run_end-requires : goal.run_end-requires
 run_end-requires c = c.loop-tally.invariant.going.inside

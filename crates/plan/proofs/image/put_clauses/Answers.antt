@@ -6,14 +6,14 @@ use Rattle.plan.proofs.image.put_clauses.Goals as goal
 
 pub loop-k-init : goal.loop-k-init
 unfolding clause_rows
-loop-k-init c = rw (c.into_iter-k-iterator.ensures.into_iter_gives, c.of-k-items.ensures) (rows_start c.requires.2)
+loop-k-init c = rw (c.into_iter-k-iterator.ensures.into_iter_gives, c.of-k-items.ensures) (rows_start c.requires.1)
 
 pub put_row-p-requires : goal.put_row-p-requires
 put_row-p-requires c =
     let m = c.loop-k.invariant in
     let e = c.in-Some.ensures.steps in
     let l = rows_low m e in
-    (l, c.requires.0 _ l (rows_member m e), c.requires.1, rows_room m e)
+    (l, c.requires.0 _ l (rows_member m e), rows_room m e)
 
 pub loop-k-preserved : goal.loop-k-preserved
 loop-k-preserved c = rows_next c.loop-k.invariant c.in-Some.ensures.steps c.put_row-p.ensures

@@ -6,10 +6,10 @@ use Rattle.plan.proofs.image.put_patterns.Goals as goal
 
 pub loop-a-init : goal.loop-a-init
 unfolding pattern_rows
-loop-a-init c = rw (c.into_iter-a-iterator.ensures.into_iter_gives, c.of-a-items.ensures) (rows_start c.requires.2)
+loop-a-init c = rw (c.into_iter-a-iterator.ensures.into_iter_gives, c.of-a-items.ensures) (rows_start c.requires.1)
 
 pub put_clauses-p-requires : goal.put_clauses-p-requires
-put_clauses-p-requires c = (c.requires.0, c.requires.1, rows_room c.loop-a.invariant c.in-Some.ensures.steps)
+put_clauses-p-requires c = (c.requires.0, rows_room c.loop-a.invariant c.in-Some.ensures.steps)
 
 pub loop-a-preserved : goal.loop-a-preserved
 loop-a-preserved c = rows_next c.loop-a.invariant c.in-Some.ensures.steps c.put_clauses-p.ensures
