@@ -1,6 +1,6 @@
 // All the queries of a page in one go: document 02, W1. The book is read and settled once. The run is read once, too: each query is ordered against the
 // final table as it is read, and its answer waits in an image of a page's full length; only a run without a fault, whose answers have room, is copied to the
-// output. The tally goes through by value, and is lent to one step for each query.
+// output. The run's tally goes through by value, is lent to one step for each query, and is given back where the call is not refused.
 #![tactic(auto)]
 
 ghost use Rattle.std.specs.Prelude.{◌≡◌, true, ◌+◌, ◌≤◌, length};
@@ -59,10 +59,7 @@ pub fn page(book: &[u8], run: &[u8], out: &mut [u8], tally: Tally) -> Paged
 {
     let mut left = tally;
     let reply = answer_page(book, run, out, &mut left).unwrap_or_else(Reply::from);
-    Paged {
-        reply,
-        tally: left,
-    }
+    Paged { reply, tally: left }
 }
 
 // The same, with the tally lent: a refusal leaves it as it was.

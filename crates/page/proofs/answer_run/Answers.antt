@@ -31,9 +31,11 @@ answer_query-v-requires c =
     let inv = c.loop-tally.invariant in
     let long = asking_long _ _ _ inv in
     let short = inv.short in
-    rw c.at-in-loop-tally.ensures
-    (asking_callable _ _ _ inv (sym c.is_mark.ensures ∙ c.loop-tally-test.true) c.read_page_query.ensures c.in_ok-at.was c.requires,
-    clause_at_few c.read_page_query.new.rules max_clauses, omega arith)
+    rw c.at-in-loop-tally.ensures (
+      asking_callable _ _ _ inv (sym c.is_mark.ensures ∙ c.loop-tally-test.true) c.read_page_query.ensures c.in_ok-at.was c.requires,
+      clause_at_few c.read_page_query.new.rules max_clauses,
+      omega arith,
+    )
 
 pub stepped-tally-requires : goal.stepped-tally-requires
 stepped-tally-requires c =
