@@ -21,7 +21,7 @@ use Rattle.choices.specs.Plan.{enc_row}
 use Rattle.plan.specs.Lent.{row_by}
 use Rattle.masks.proofs.Laws.Loops.{Over, over_start, over_end, over_small, over_member, over_here, over_next}
 use Rattle.writing.proofs.Laws.Wrote.{wrote_as}
-use Rattle.writing.proofs.Laws.Chunks.{Writing, joined_chunks, writing_start, writing_length, writing_room, writing_next, writing_none, writing_end}
+use Rattle.writing.proofs.Laws.Chunks.{Writing, joined_chunks, writing_start, writing_room, writing_next, writing_none, writing_end}
 
 -- clause k under a head pattern: its head, what that binds, and the order found, if there is one
 pub row_found : (rules : List ℕ) (T : Table) (k a head bound : ℕ) (o : Option (List ℕ)) → head_in head ≡ (clause_at rules k).head
@@ -56,9 +56,6 @@ module _ {set : ℕ} {rows : ℕ → List ℕ} {out : List ℕ} {at : ℕ} where
   module _ {left now : List ℕ} {p : ℕ} (m : Rows set rows out at left now p) where
     abbrev P : ℕ → Type 0
     P = Below set rows out at now p
-
-    pub rows_same : length now ≡ length out
-    rows_same = writing_length (m.over.done m.over.most)
 
     skip : (i : ℕ) → bit_at set i ≡ false → P i → P (suc i)
     skip i t w h = let v = writing_none (w (omega arith)) h (rw t) in rw add-one at v

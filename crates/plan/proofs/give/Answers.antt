@@ -28,9 +28,6 @@ reach-requires c =
       found = (record { first = rw (c.query.ensures, bound_of_zero) at o.order; beside = rw (c.query.ensures, bound_of_zero) at o.patterns }, cleared_zeros);
     }
 
-pub plan_length-requires : goal.plan_length-requires
-plan_length-requires c = few_preds c.requires.1
-
 pub put_plan-requires : goal.put_plan-requires
 put_plan-requires c =
     let l = c.requires.1 in

@@ -8,9 +8,6 @@ use borrow.Author.Rules.{rules}
 use Rattle.reach.proofs.Laws.Working.{working_start, Step, working_next, working_less, working_end}
 use Rattle.reach.proofs.reach.Goals as goal
 
-pub mark_calls-work-requires : goal.mark_calls-work-requires
-mark_calls-work-requires c = rw c.query.ensures (c.requires.clauses_le_max_clauses.2, (_, _, c.requires.found.0))
-
 pub loop-work-init : goal.loop-work-init
 loop-work-init c =
     let m = rw c.query.ensures at (c.mark_calls-work.ensures) in

@@ -1,7 +1,7 @@
 -- `plan::image::put_clauses` meets its contract. The loop goes over the clauses of the set; its invariant: the rows of those passed are written.
 -- Assumes nothing.
 use Rattle.plan.specs.Lent.{clause_rows}
-use Rattle.plan.proofs.Laws.Rows.{rows_start, rows_same, rows_low, rows_member, rows_room, rows_next, rows_end}
+use Rattle.plan.proofs.Laws.Rows.{rows_start, rows_low, rows_member, rows_room, rows_next, rows_end}
 use Rattle.plan.proofs.image.put_clauses.Goals as goal
 
 pub loop-k-init : goal.loop-k-init
@@ -17,9 +17,6 @@ put_row-p-requires c =
 
 pub loop-k-preserved : goal.loop-k-preserved
 loop-k-preserved c = rows_next c.loop-k.invariant c.in-Some.ensures.steps c.put_row-p.ensures
-
-pub shape_of-out : goal.shape_of-out
-shape_of-out c = rows_same c.loop-k.invariant
 
 pub returns : goal.returns
 unfolding clause_rows

@@ -1,7 +1,7 @@
 -- `plan::image::put_patterns` meets its contract. The loop goes over the patterns of the set; its invariant: the rows under those passed are
 -- written. Assumes nothing.
 use Rattle.plan.specs.Lent.{pattern_rows}
-use Rattle.plan.proofs.Laws.Rows.{rows_start, rows_same, rows_room, rows_next, rows_end}
+use Rattle.plan.proofs.Laws.Rows.{rows_start, rows_room, rows_next, rows_end}
 use Rattle.plan.proofs.image.put_patterns.Goals as goal
 
 pub loop-a-init : goal.loop-a-init
@@ -13,9 +13,6 @@ put_clauses-p-requires c = (c.requires.0, rows_room c.loop-a.invariant c.in-Some
 
 pub loop-a-preserved : goal.loop-a-preserved
 loop-a-preserved c = rows_next c.loop-a.invariant c.in-Some.ensures.steps c.put_clauses-p.ensures
-
-pub shape_of-out : goal.shape_of-out
-shape_of-out c = rows_same c.loop-a.invariant
 
 pub returns : goal.returns
 unfolding pattern_rows

@@ -15,9 +15,6 @@ use Rattle.plan.proofs.image.put_row.Goals as goal
 abbrev counted : List ℕ → List ℕ
 counted σ = length σ ∷ σ
 
-pub first_order-order-requires : goal.first_order-order-requires
-first_order-order-requires c = rw c.clause-clause.ensures c.requires.1
-
 pub put_places-requires-clause-room : goal.put_places-requires-clause-room
 put_places-requires-clause-room c =
     let s = c.args in

@@ -10,11 +10,6 @@ loop-k-init c = rw (c.into_iter-k-iterator.ensures.into_iter_gives, c.of-k-items
 pub clause-requires : goal.clause-requires
 clause-requires c = let l = adding_low c.loop-k.invariant c.in-Some.ensures.steps in omega arith
 
-pub overflow_add-total : goal.overflow_add-total
-overflow_add-total c =
-    let m = adding_most c.loop-k.invariant c.in-Some.ensures.steps (rw c.clause.ensures at c.subgoals.ensures.value) in
-    omega arith
-
 pub overflow_add-total-in-loop-k : goal.overflow_add-total-in-loop-k
 overflow_add-total-in-loop-k c =
     let m = adding_most c.loop-k.invariant c.in-Some.ensures.steps (rw c.clause.ensures at c.subgoals.ensures.value) in
