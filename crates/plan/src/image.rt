@@ -13,8 +13,7 @@ use book::limits::MAX_PREDICATES;
 use masks::constraint::count;
 use masks::members::Members;
 use ordering::admits::Admits;
-use ordering::Order;
-use ordering::{first_order, head_bound};
+use ordering::{Order, first_order, head_bound};
 use writing::put::{put_byte, put_bytes, put_mark};
 
 // How many bytes the plan has: each predicate's clauses have a row for each of its patterns.

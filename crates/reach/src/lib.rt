@@ -15,8 +15,7 @@ use book::limits::MAX_PREDICATES;
 use masks::constraint::with_member;
 use masks::members::Members;
 use ordering::admits::Admits;
-use ordering::Order;
-use ordering::{first_order, head_bound};
+use ordering::{Order, first_order, head_bound};
 
 // "Patterns reached: those of the query's subgoals, and those of the subgoals of every clause of a reached predicate under a reached pattern", in the
 // first good orders against a table; the query's is given. They are marked in the words lent, which must be 0.
