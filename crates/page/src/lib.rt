@@ -31,7 +31,7 @@ use records::turn::{is_mark, run_end};
 use tally::{Tally, stepped};
 use writing::put::{put_byte, put_bytes};
 
-// What a page comes to: the reply, and the tally that it leaves.
+// What a page comes to: the reply, and the tally that it leaves, also where it is refused.
 #[derive(Clone, Copy)]
 pub struct Paged {
     pub reply: Reply,
@@ -45,7 +45,7 @@ struct Answered {
     tally: Tally,
 }
 
-// What a query comes to: the place after its answer, and whether it is accepted.
+// What a query comes to: the place after its answer, and whether it is accepted. A query that is not has an answer, too, so this is no `Option`.
 #[derive(Clone, Copy)]
 struct Verdict {
     next: usize,

@@ -71,7 +71,7 @@ fn printed(book: &[u8], out: &mut [u8]) -> Result<Reply, TooShort>
     Ok(r)
 }
 
-// The `C` lines and the `R` line, and what follows them; or the one line of a fault.
+// The `C` lines and the `R` line, and what follows them; or the one line of a fault. A reply is read by its number, as it is laid out for C.
 fn put_sheet(text: &mut [u8; LONGEST_SHEET], book: &[u8]) -> usize
     ensures { Wrote text.old text.new 0 result (judged_sheet (judge book.now)) }
 {
