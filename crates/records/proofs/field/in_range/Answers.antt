@@ -1,8 +1,5 @@
--- `records::field::in_range` meets its contract. Case by case; a byte from 254 on is 254 or 255. Assumes nothing.
-use mathlib.Core.Path.{◌∙◌}
-use native.Mathlib.Omega.{arith}
+-- `records::field::in_range` meets its contract. Case by case. Assumes nothing.
 use Rattle.book.specs.Format.{allows}
-use Rattle.records.proofs.Laws.Reads.{argument_is, no_wildcard_is}
 use Rattle.records.proofs.field.in_range.Goals as goal
 
 pub returns-in-Below : goal.returns-in-Below
@@ -14,7 +11,7 @@ unfolding allows
 returns-in-AtMost c = rw c.in-AtMost.is
 
 pub returns-in-Argument : goal.returns-in-Argument
-returns-in-Argument c = rw c.in-Argument.is (c.is_argument.ensures ∙ argument_is _ (omega arith))
+returns-in-Argument c = rw c.in-Argument.is c.is_argument.ensures
 
 pub returns-in-NoWildcard : goal.returns-in-NoWildcard
-returns-in-NoWildcard c = rw c.in-NoWildcard.is (c.is_argument-in-NoWildcard.ensures ∙ no_wildcard_is _ (omega arith))
+returns-in-NoWildcard c = rw c.in-NoWildcard.is c.is_argument-in-NoWildcard.ensures

@@ -4,4 +4,4 @@ use Rattle.records.proofs.Laws.Calls.{Calling}
 use Rattle.records.proofs.field.read_args.Given as goal
 
 abbrev pub invariant-loop-i : goal.invariant-loop-i
-invariant-loop-i l = Calling (argument_from l.least) l.s l.pred l.count l.n l.from l.at l.i l.shift l.call
+invariant-loop-i l = Calling (argument_from l.least) l.pred l.count l.n l.s l.i l.left l.shift l.call
