@@ -1,6 +1,6 @@
 // Marks, and whose turn it is where a record may begin: "all `PR`, then all `MO`, then clauses, then one `QU`; `SG` only after `CL`, `QU` or `SG`",
 // and `NG`, which "has the fields and turn of `SG`". In the run of a page, "a run of `QU` records with their subgoals".
-ghost use Rattle.std.specs.Prelude.{◌≡◌, ◌≤◌, true, length};
+ghost use Rattle.std.specs.Prelude.{◌≡◌, ◌≤◌, length, IsTrue};
 ghost use Rattle.book.specs.Format as format;
 ghost use Rattle.records.specs.Read.{RunEnds, leads_subgoal};
 
@@ -10,14 +10,16 @@ use book::mark::{Mark, Phase, Turn};
 
 // The bytes begin with the two of this mark.
 pub fn is_mark(s: &[u8], m: &[u8; 2]) -> bool
-    ensures { result ≡ format.leads m.now s.now }
+    ensures value { result ≡ format.leads m.now s.now }
+    ensures bound { IsTrue result → 2 ≤ length s.now }
 {
     2 <= s.len() && s[0] == m[0] && s[1] == m[1]
 }
 
 // A subgoal begins here, `SG` or `NG`.
 pub fn is_subgoal(s: &[u8]) -> bool
-    ensures { result ≡ leads_subgoal s.now }
+    ensures value { result ≡ leads_subgoal s.now }
+    ensures bound { IsTrue result → 2 ≤ length s.now }
 {
     is_mark(s, b"SG") || is_mark(s, b"NG")
 }

@@ -1,0 +1,14 @@
+-- `reading::read_records` meets its contract. The predicates have a fault, which is the book's, or what follows them decides. Assumes nothing.
+use Rattle.records.proofs.Laws.Reads.{passed}
+use Rattle.reading.proofs.Laws.Whole.{whole_arities}
+use Rattle.reading.proofs.Laws.Judged.{reads_none, reads_book}
+use Rattle.reading.proofs.read_records.Goals as goal
+
+pub returns-in_err-n : goal.returns-in_err-n
+returns-in_err-n c = rw (passed _ c.from_residual.ensures.1) (reads_none c.read_predicates.ensures _ _ c.in_err-n.was _ _)
+
+pub of-ar-requires : goal.of-ar-requires
+of-ar-requires c = whole_arities _ c.read_predicates.ensures c.in_ok-n.was
+
+pub returns : goal.returns
+returns c = reads_book c.read_predicates.ensures _ _ c.in_ok-n.was (rw c.of-ar.ensures at c.read_rules.ensures)
