@@ -94,19 +94,21 @@ fn read_records(
     ensures { ReadsBook s.now (placed s.now result) modes.old rules.old arities.new modes.new rules.new }
 {
     let (n, rest) = read_predicates(s, arities)?;
-    let ar = Arities::of(&arities[..n]);
-    read_rules(rest, &ar, modes, rules)
+    let ar = Arities {
+        list: &arities[..n],
+    };
+    read_rules(rest, ar, modes, rules)
 }
 
 // What follows the predicates: the modes, the clauses and the query.
 fn read_rules(
     s: &[u8],
-    ar: &Arities,
+    ar: Arities,
     modes: &mut [u8],
     rules: &mut [u64],
 ) -> Result<Reading, FaultFromEnd>
     requires { NoModes modes.old }
-    ensures { ReadsRules ar.now s.now result modes.old rules.old modes.new rules.new }
+    ensures { ReadsRules ar.entry.list.now s.now result modes.old rules.old modes.new rules.new }
 {
     let (with_mode, after) = read_modes(s, ar, modes)?;
     let (n, query) = read_clauses(after, ar, rules)?;
@@ -144,11 +146,11 @@ fn read_predicates<'a>(
 // "then all `MO`", into modes that are none yet: the set of the predicates that have one.
 fn read_modes<'a>(
     s: &'a [u8],
-    ar: &Arities,
+    ar: Arities,
     modes: &mut [u8],
 ) -> Result<(u64, &'a [u8]), FaultFromEnd>
     requires { NoModes modes.old }
-    ensures { ReadsModes ar.now s.now result modes.old modes.new }
+    ensures { ReadsModes ar.entry.list.now s.now result modes.old modes.new }
 {
     let mut left = s;
     let mut low: u8 = 0;
@@ -166,10 +168,10 @@ fn read_modes<'a>(
 // "then clauses": how many there are, stored from the start of the rules.
 fn read_clauses<'a>(
     s: &'a [u8],
-    ar: &Arities,
+    ar: Arities,
     rules: &mut [u64],
 ) -> Result<(usize, &'a [u8]), FaultFromEnd>
-    ensures { ReadsClauses ar.now s.now result rules.old rules.new }
+    ensures { ReadsClauses ar.entry.list.now s.now result rules.old rules.new }
 {
     let mut left = s;
     let mut n: usize = 0;
@@ -187,12 +189,12 @@ fn read_clauses<'a>(
 // The clause whose record these bytes begin with, with its subgoals, stored as clause k.
 fn read_clause<'a>(
     s: &'a [u8],
-    ar: &Arities,
+    ar: Arities,
     rules: &mut [u64],
     k: usize,
 ) -> Result<&'a [u8], FaultFromEnd>
     requires { (2 ≤ length s.now) × (k < max_clauses) }
-    ensures { ReadsClause ar.now s.now k result rules.old rules.new }
+    ensures { ReadsClause ar.entry.list.now s.now k result rules.old rules.new }
 {
     let (head, after) = read_head(&s[2..], ar)?;
     put(rules, k * CLAUSE_SIZE + 1, head);
@@ -202,9 +204,9 @@ fn read_clause<'a>(
 }
 
 // The query whose record these bytes begin with, stored behind the room of the clauses as the body of a clause whose head says nothing.
-fn read_query<'a>(s: &'a [u8], ar: &Arities, rules: &mut [u64]) -> Result<&'a [u8], FaultFromEnd>
+fn read_query<'a>(s: &'a [u8], ar: Arities, rules: &mut [u64]) -> Result<&'a [u8], FaultFromEnd>
     requires { 2 ≤ length s.now }
-    ensures { ReadsQuery Query ar.now s.now result rules.old rules.new }
+    ensures { ReadsQuery Query ar.entry.list.now s.now result rules.old rules.new }
 {
     let left = read_body(&s[2..], ar, rules, MAX_CLAUSES)?;
     run_end(left, Phase::Query)?;
@@ -214,12 +216,12 @@ fn read_query<'a>(s: &'a [u8], ar: &Arities, rules: &mut [u64]) -> Result<&'a [u
 // The subgoals of a clause or of a query, stored as those of clause k. What stands behind them is not judged here.
 pub fn read_body<'a>(
     s: &'a [u8],
-    ar: &Arities,
+    ar: Arities,
     rules: &mut [u64],
     k: usize,
 ) -> Result<&'a [u8], FaultFromEnd>
     requires { k ≤ max_clauses }
-    ensures { ReadsBody ar.now s.now k result rules.old rules.new }
+    ensures { ReadsBody ar.entry.list.now s.now k result rules.old rules.new }
 {
     let base = k * CLAUSE_SIZE;
     let mut left = s;

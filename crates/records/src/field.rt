@@ -28,11 +28,11 @@ pub fn read_predicate<'a>(s: &'a [u8]) -> Result<(u8, &'a [u8]), FaultFromEnd>
 // one of the masks; "6: `MO` not rising" is tried last.
 pub fn read_mode<'a>(
     s: &'a [u8],
-    ar: &Arities,
+    ar: Arities,
     low: u8,
     modes: &mut [u8],
 ) -> Result<(u8, &'a [u8]), FaultFromEnd>
-    ensures { ReadsMode result modes.old modes.new (mode_fields ar.now low s.now) }
+    ensures { ReadsMode result modes.old modes.new (mode_fields ar.entry.list.now low s.now) }
 {
     let (pred, after) = read_byte(s, Range::Below(ar.predicates()))?;
     let end = read_masks(after, patterns(ar.arity(pred)), pred, modes)?;
@@ -43,16 +43,16 @@ pub fn read_mode<'a>(
 }
 
 // The fields of a clause's record: its head.
-pub fn read_head<'a>(s: &'a [u8], ar: &Arities) -> Result<(u64, &'a [u8]), FaultFromEnd>
-    ensures { Reads rest result (λ v. head_in (value v)) (fields NoWildcard ar.now s.now) }
+pub fn read_head<'a>(s: &'a [u8], ar: Arities) -> Result<(u64, &'a [u8]), FaultFromEnd>
+    ensures { Reads rest result (λ v. head_in (value v)) (fields NoWildcard ar.entry.list.now s.now) }
 {
     read_call(s, ar, LITERAL, false)
 }
 
 // The subgoal whose record these bytes begin with, `SG` or `NG`: "254 in an `NG` is 4".
-pub fn read_subgoal<'a>(s: &'a [u8], ar: &Arities) -> Result<(u64, &'a [u8]), FaultFromEnd>
+pub fn read_subgoal<'a>(s: &'a [u8], ar: Arities) -> Result<(u64, &'a [u8]), FaultFromEnd>
     requires { 2 ≤ length s.now }
-    ensures { Reads rest result (λ v. call_in (value v)) (subgoal ar.now [] s.now) }
+    ensures { Reads rest result (λ v. call_in (value v)) (subgoal ar.entry.list.now [] s.now) }
 {
     if is_mark(s, b"NG") {
         read_call(&s[2..], ar, LITERAL, true)
@@ -80,12 +80,12 @@ fn read_masks<'a>(
 // A predicate and as many arguments as its arity, each a variable or a byte from the least one on, into the word of a call that is negated or not.
 fn read_call<'a>(
     s: &'a [u8],
-    ar: &Arities,
+    ar: Arities,
     least: u8,
     negated: bool,
 ) -> Result<(u64, &'a [u8]), FaultFromEnd>
     requires { 254 ≤ least }
-    ensures { ReadsCall result negated (fields (argument_from least) ar.now s.now) }
+    ensures { ReadsCall result negated (fields (argument_from least) ar.entry.list.now s.now) }
 {
     let (pred, after) = read_byte(s, Range::Below(ar.predicates()))?;
     read_args(after, pred, ar.arity(pred), least, negated)

@@ -5,7 +5,7 @@ use Rattle.reading.proofs.Laws.Bodies.{Bodying}
 use Rattle.reading.proofs.read_body.Given as goal
 
 abbrev pub invariant-loop-left : goal.invariant-loop-left
-invariant-loop-left l = Bodying l.ar l.s l.n l.left (l.k * clause_size) l.initial.rules l.rules
+invariant-loop-left l = Bodying l.ar.list.now l.s l.n l.left (l.k * clause_size) l.initial.rules l.rules
 
 abbrev pub decreases-loop-left : goal.decreases-loop-left
 decreases-loop-left l = 8 - l.n

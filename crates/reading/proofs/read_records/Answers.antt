@@ -7,8 +7,9 @@ use Rattle.reading.proofs.read_records.Goals as goal
 pub returns-in_err-n : goal.returns-in_err-n
 returns-in_err-n c = rw (passed _ c.from_residual.ensures.1) (reads_none c.read_predicates.ensures _ _ c.in_err-n.was _ _)
 
-pub of-ar-requires : goal.of-ar-requires
-of-ar-requires c = whole_arities _ c.read_predicates.ensures c.in_ok-n.was
+pub invariant_of-ar : goal.invariant_of-ar
+invariant_of-ar c =
+    let w = whole_arities c.args.s.now c.read_predicates.ensures c.in_ok-n.was in record { few = w.few; fit = w.fit }
 
 pub returns : goal.returns
-returns c = reads_book c.read_predicates.ensures _ _ c.in_ok-n.was (rw c.of-ar.ensures at c.read_rules.ensures)
+returns c = reads_book c.read_predicates.ensures _ _ c.in_ok-n.was c.read_rules.ensures

@@ -13,7 +13,7 @@ returns-in_err-n c =
 
 pub read_query-requires : goal.read_query-requires
 read_query-requires c =
-    rules_asked c.args.ar.now c.args.s.now c.read_modes.ensures _ c.in_ok-with_mode.was c.read_clauses.ensures c.in_ok-n.was
+    rules_asked c.args.ar.list.now c.args.s.now c.read_modes.ensures _ c.in_ok-with_mode.was c.read_clauses.ensures c.in_ok-n.was
 
 pub returns-in_err-read_query : goal.returns-in_err-read_query
 returns-in_err-read_query c =
@@ -23,4 +23,4 @@ returns-in_err-read_query c =
 pub returns : goal.returns
 returns c =
     rules_read _ _ c.read_modes.ensures _ c.in_ok-with_mode.was c.read_clauses.ensures c.in_ok-n.was c.read_query.ensures c.in_ok-read_query.was
-    c.read_clauses.auto.rules c.predicates.ensures.value
+    c.read_clauses.auto.rules c.predicates.ensures
