@@ -1,6 +1,6 @@
 -- What is read of a call, and what the readers leave beside their answers: bytes in an array that is lent, which may have no room for them. Where it has
 -- none, a store leaves it as it was. Assumes nothing.
-use Rattle.std.specs.Prelude.{◌≡◌, Bool, cond, List, [], ◌∷◌, ℕ, ◌*◌, ◌≤◌, ◌<◌, eqb, length, Result, Ok}
+use Rattle.std.specs.Prelude.{◌≡◌, Bool, List, [], ◌∷◌, ℕ, ◌*◌, ◌≤◌, ◌<◌, length, Result, Ok}
 use Rattle.std.specs.Borrow.{Bor}
 use Rattle.std.proofs.lemmas.List.Edits.{sets}
 use Rattle.masks.specs.Limits.{max_masks}
@@ -9,15 +9,10 @@ use Rattle.book.specs.Book.{Head, Mode}
 use Rattle.book.specs.Format.{Got, got, and_then, bytes}
 use Rattle.book.specs.Held.{head_in, call_in, mode_size, modes_size, StoredMode}
 use Rattle.book.specs.declared.range.Range.{Range}
-use Rattle.book.specs.declared.range.Range.TheVariants.{Argument, NoWildcard}
 use Rattle.records.specs.declared.fault.FaultFromEnd.{FaultFromEnd}
 use Rattle.records.specs.Read.{value, rest, alone, Reads}
 
 -- ---- a call
-
--- the range of an argument that is a variable or a byte from the given one on: from 255 on there is no wildcard
-abbrev pub argument_from : ℕ → Range
-argument_from least = cond (eqb least 255) NoWildcard Argument
 
 -- what follows the predicate p of a call: n arguments
 unfoldable pub arguments : Range → ℕ → ℕ → List ℕ → Got Head

@@ -1,12 +1,12 @@
 // The fields of records, byte by byte from the left, and the records that are not runs of others: a predicate, a mode, a subgoal, a head. A call is read into
 // the word that holds it, and a mode into the array that is lent for all. What is read comes with the bytes that are left after it, or there is a fault.
-ghost use Rattle.std.specs.Prelude.{◌≡◌, ◌||◌, [], ◌+◌, ◌*◌, ◌^◌, ◌≤◌, ◌<◌, leb, length, set};
+ghost use Rattle.std.specs.Prelude.{◌≡◌, ◌||◌, [], ◌+◌, ◌*◌, ◌^◌, ◌≤◌, ◌<◌, length, set, IfOk};
 ghost use Rattle.masks.specs.Limits.{max_arity};
 ghost use Rattle.book.specs.Format.{allows, byte, bytes, fields, subgoal, masks, mode_fields};
 ghost use Rattle.book.specs.declared.range.Range.TheVariants.{AtMost, NoWildcard};
 ghost use Rattle.book.specs.Held.{count_in, negated_in, head_in, call_in};
 ghost use Rattle.records.specs.Read.{Reads, value, rest};
-ghost use Rattle.records.specs.Stored.{argument_from, arguments, ReadsCall, ReadsBytes, ReadsMasks, ReadsMode};
+ghost use Rattle.records.specs.Stored.{arguments, ReadsCall, ReadsBytes, ReadsMasks, ReadsMode};
 
 use crate::arities::Arities;
 use crate::fault::{FaultFromEnd, wrong};
@@ -46,7 +46,7 @@ pub fn read_mode<'a>(
 pub fn read_head<'a>(s: &'a [u8], ar: Arities) -> Result<(u64, &'a [u8]), FaultFromEnd>
     ensures { Reads rest result (λ v. head_in (value v)) (fields NoWildcard ar.entry.list.now s.now) }
 {
-    read_call(s, ar, LITERAL, false)
+    read_call(s, ar, Range::NoWildcard, false)
 }
 
 // The subgoal whose record these bytes begin with, `SG` or `NG`: "254 in an `NG` is 4".
@@ -55,9 +55,9 @@ pub fn read_subgoal<'a>(s: &'a [u8], ar: Arities) -> Result<(u64, &'a [u8]), Fau
     ensures { Reads rest result (λ v. call_in (value v)) (subgoal ar.entry.list.now [] s.now) }
 {
     if is_mark(s, b"NG") {
-        read_call(&s[2..], ar, LITERAL, true)
+        read_call(&s[2..], ar, Range::NoWildcard, true)
     } else {
-        read_call(&s[2..], ar, WILDCARD, false)
+        read_call(&s[2..], ar, Range::Argument, false)
     }
 }
 
@@ -77,18 +77,17 @@ fn read_masks<'a>(
     read_bytes(after, n, Range::Below(patterns), modes, start + 2)
 }
 
-// A predicate and as many arguments as its arity, each a variable or a byte from the least one on, into the word of a call that is negated or not.
+// A predicate and as many arguments as its arity, each in a range, into the word of a call that is negated or not.
 fn read_call<'a>(
     s: &'a [u8],
     ar: Arities,
-    least: u8,
+    range: Range,
     negated: bool,
 ) -> Result<(u64, &'a [u8]), FaultFromEnd>
-    requires { 254 ≤ least }
-    ensures { ReadsCall result negated (fields (argument_from least) ar.entry.list.now s.now) }
+    ensures { ReadsCall result negated (fields range ar.entry.list.now s.now) }
 {
     let (pred, after) = read_byte(s, Range::Below(ar.predicates()))?;
-    read_args(after, pred, ar.arity(pred), least, negated)
+    read_args(after, pred, ar.arity(pred), range, negated)
 }
 
 // The n arguments of a call of a predicate. The word of the call has them from its low end on, above the predicate and n.
@@ -96,18 +95,18 @@ fn read_args<'a>(
     s: &'a [u8],
     pred: u8,
     n: u8,
-    least: u8,
+    range: Range,
     negated: bool,
 ) -> Result<(u64, &'a [u8]), FaultFromEnd>
-    requires { (n ≤ max_arity) × (254 ≤ least) }
-    ensures { ReadsCall result negated (arguments (argument_from least) pred n s.now) }
+    requires { n ≤ max_arity }
+    ensures { ReadsCall result negated (arguments range pred n s.now) }
 {
     let count = signed(n, negated);
     let mut call = count as u64 * 256 + pred as u64;
     let mut left = s;
     let mut shift: u32 = 16;
     for i in 0..n {
-        let (x, after) = read_argument(left, least)?;
+        let (x, after) = read_byte(left, range)?;
         call = with_byte(call, shift, x);
         shift += 8;
         left = after;
@@ -162,26 +161,13 @@ pub fn put<T: Copy>(out: &mut [T], at: usize, x: T)
 
 // A byte: "present (1) before in range (4)".
 fn read_byte<'a>(s: &'a [u8], range: Range) -> Result<(u8, &'a [u8]), FaultFromEnd>
-    ensures { Reads rest result value (byte range s.now) }
+    ensures reads { Reads rest result value (byte range s.now) }
+    ensures byte { IfOk result (λ v. value v < 256) }
 {
     let Some((&x, after)) = s.split_first() else {
         return Err(wrong(Fault::PastEnd, s));
     };
     if !in_range(range, x) {
-        return Err(wrong(Fault::OutOfRange, s));
-    }
-    Ok((x, after))
-}
-
-// An argument: a variable, or a byte from the least one on.
-fn read_argument<'a>(s: &'a [u8], least: u8) -> Result<(u8, &'a [u8]), FaultFromEnd>
-    requires { 254 ≤ least }
-    ensures { Reads rest result value (byte (argument_from least) s.now) }
-{
-    let Some((&x, after)) = s.split_first() else {
-        return Err(wrong(Fault::PastEnd, s));
-    };
-    if !is_argument(x, least) {
         return Err(wrong(Fault::OutOfRange, s));
     }
     Ok((x, after))
@@ -194,15 +180,7 @@ fn in_range(range: Range, x: u8) -> bool
     match range {
         Range::Below(n) => x < n,
         Range::AtMost(n) => x <= n,
-        Range::Argument => is_argument(x, WILDCARD),
-        Range::NoWildcard => is_argument(x, LITERAL),
+        Range::Argument => x <= LAST_VARIABLE || WILDCARD <= x,
+        Range::NoWildcard => x <= LAST_VARIABLE || x == LITERAL,
     }
-}
-
-// A variable, or a byte from the least one on.
-fn is_argument(x: u8, least: u8) -> bool
-    requires { 254 ≤ least }
-    ensures { result ≡ allows (argument_from least) x }
-{
-    x <= LAST_VARIABLE || least <= x
 }

@@ -1,21 +1,21 @@
 -- A call read into a word from the low end on: each argument is a byte above those before it. Assumes nothing.
 use mathlib.Core.Path.{◌≡◌, refl, sym, ap, ap₂, ◌∙◌, subst}
-use mathlib.Core.Bool.{Bool, true, ◌||◌}
+use mathlib.Core.Bool.{Bool, true}
 use mathlib.Core.List.{List, [], ◌∷◌, ◌++◌}
 use Prim.Native.Nat.{ℕ, suc, ◌+◌, ◌*◌, ◌%◌, ◌^◌, min, ◌≤◌, ◌<◌}
 use native.Mathlib.Nat.{mul_assoc, mul-le-mul_right}
 use native.Mathlib.Omega.{arith}
-use lib.Dec.{eqb, ltb, leb}
+use lib.Dec.{ltb}
 use lib.ListN.{length, get_or, take}
 use lib.Seq.{ext_get_or}
 use lib.Pow.{are_bytes, pow-add, pow_mono, shl_exact}
-use borrow.Author.Tests.{lt-ltb, ltb-true, leb-true, eqb-true, eqb-false}
+use borrow.Author.Tests.{lt-ltb, ltb-true}
 use Rattle.masks.specs.Limits.{max_arity}
 use Rattle.masks.specs.Lists.{values}
-use Rattle.masks.proofs.Laws.Logic.{by_bool, or_case, and_intro, and_left, and_right}
+use Rattle.masks.proofs.Laws.Logic.{and_intro, and_left, and_right}
 use Rattle.masks.proofs.Laws.Lists.{length_values, get_or_values, take_values}
 use Rattle.book.specs.Book.{Head}
-use Rattle.book.specs.Format.{allows, byte, fields}
+use Rattle.book.specs.Format.{byte, fields}
 use Rattle.book.specs.Held.{count_in, negated_in, byte_of, head_in}
 use Rattle.std.specs.Prelude.{Result, Ok, Err}
 use Rattle.std.specs.Borrow.{Bor}
@@ -24,27 +24,8 @@ use Rattle.book.specs.declared.range.Range.TheVariants.{Below}
 use Rattle.book.proofs.Laws.Words.{word_of, byte_of_word_of}
 use Rattle.records.specs.declared.fault.FaultFromEnd.{FaultFromEnd}
 use Rattle.records.specs.Read.{value, rest, Reads}
-use Rattle.records.specs.Stored.{argument_from, arguments, ReadsCall}
-use Rattle.records.proofs.Laws.Reads.{argument_is, no_wildcard_is, err_ok, then_bad, then_next, reads_map, reads_same, Left, left_start, left_bad, left_next, left_end}
-
--- ---- arguments
-
--- the byte from which on a byte is an argument tells the range
-pub argument_from_lem : (least x : ℕ) → 254 ≤ least → least ≤ 255 → x ≤ 255 → (leb x 15 || leb least x) ≡ allows (argument_from least) x
-argument_from_lem least x l m h =
-    by_bool (eqb least 255)
-    (λ t. let e = eqb-true least 255 t in rw e (no_wildcard_is x h))
-    (λ t. let ne = eqb-false least 255 t in let e : least ≡ 254 = omega (arith, ne) in rw e (argument_is x h))
-
--- an argument is a byte
-pub argument_byte : (least x : ℕ) → allows (argument_from least) x ≡ true → x < 256
-unfolding allows
-argument_byte least x =
-    by_bool (eqb least 255)
-    (λ t e. or_case (leb x 15) (eqb x 255) (rw t at e) (λ l. let h = leb-true x 15 l in omega arith) (λ l. let h = eqb-true x 255 l in omega arith))
-    (λ t e.
-    or_case (leb x 15) (eqb x 254 || eqb x 255) (rw t at e) (λ l. let h = leb-true x 15 l in omega arith)
-    (λ m. or_case (eqb x 254) (eqb x 255) m (λ l. let h = eqb-true x 254 l in omega arith) (λ l. let h = eqb-true x 255 l in omega arith)))
+use Rattle.records.specs.Stored.{arguments, ReadsCall}
+use Rattle.records.proofs.Laws.Reads.{err_ok, then_bad, then_next, reads_map, reads_same, Left, left_start, left_bad, left_next, left_end}
 
 -- ---- bytes in a word
 

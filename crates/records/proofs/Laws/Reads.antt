@@ -1,6 +1,6 @@
 -- What an answer stands for, put together from parts: a byte, then what follows; a record; k bytes, one at a time. Assumes nothing.
 use mathlib.Core.Path.{◌≡◌, refl, sym, ap, ◌∙◌, subst}
-use mathlib.Core.Bool.{Bool, true, false, ◌||◌}
+use mathlib.Core.Bool.{Bool, true, ◌||◌}
 use mathlib.Core.List.{List, [], ◌∷◌, ◌++◌}
 use Prim.Native.Nat.{ℕ, suc, ◌+◌, ◌-◌, ◌≤◌, ◌<◌}
 use native.Mathlib.Omega.{arith}
@@ -13,10 +13,9 @@ use Rattle.book.specs.Format.{spelling, leads, allows, Got, got, bad, and_then, 
 use Rattle.book.specs.Held.{head_in, call_in}
 use Rattle.std.specs.Prelude.{Result, Ok, Err, IsErrAnd}
 use Rattle.std.specs.Borrow.{Bor}
-use Rattle.book.specs.declared.fault.Fault.TheVariants.{OutOfRange}
 use Rattle.book.specs.declared.mark.Mark.TheVariants.{Ng}
 use Rattle.book.specs.declared.range.Range.{Range}
-use Rattle.book.specs.declared.range.Range.TheVariants.{Below, Argument, NoWildcard}
+use Rattle.book.specs.declared.range.Range.TheVariants.{Below}
 use Rattle.book.proofs.Laws.Got.{byte_inv}
 use Rattle.records.specs.declared.fault.FaultFromEnd.{FaultFromEnd}
 use Rattle.records.specs.Read.{value, rest, means, Reads}
@@ -24,30 +23,13 @@ use Rattle.records.specs.Stored.{ReadsCall}
 
 -- ---- arguments
 
-pub argument_is : (x : ℕ) → x ≤ 255 → (leb x 15 || leb 254 x) ≡ allows Argument x
-unfolding allows
-argument_is x h =
-    ap (λ (b : Bool). leb x 15 || b)
-    (same (leb 254 x) (eqb x 254 || eqb x 255)
+-- of the bytes from 254 on there are two
+pub wildcard_is : (x : ℕ) → x ≤ 255 → leb 254 x ≡ (eqb x 254 || eqb x 255)
+wildcard_is x h =
+    same (leb 254 x) (eqb x 254 || eqb x 255)
     (λ t. let l = leb-true 254 x t in by_bool (eqb x 254) (λ e. or_left (eqb x 254) (eqb x 255) e)
     (λ e. or_right (eqb x 254) (eq-eqb x 255 (let n : x ≡ 254 → ⊥ = eqb-false x 254 e in omega arith))))
-    (λ t. or_case (eqb x 254) (eqb x 255) t (λ e. let q = eqb-true x 254 e in le-leb 254 x (omega arith)) (λ e. let q = eqb-true x 255 e in le-leb 254 x (omega arith))))
-
-pub no_wildcard_is : (x : ℕ) → x ≤ 255 → (leb x 15 || leb 255 x) ≡ allows NoWildcard x
-unfolding allows
-no_wildcard_is x h =
-    ap (λ (b : Bool). leb x 15 || b)
-    (same (leb 255 x) (eqb x 255) (λ t. let l = leb-true 255 x t in eq-eqb x 255 (omega arith)) (λ e. let q = eqb-true x 255 e in le-leb 255 x (omega arith)))
-
--- ---- a byte
-
-module _ (r : Range) (s : List ℕ) where
-  module _ {x : ℕ} {t : List ℕ} (e : s ≡ x ∷ t) where
-    pub byte_out : allows r x ≡ false → Reads rest (Err (record { fault = OutOfRange; left = length s })) value (byte r s)
-    byte_out h = record { is = rw (e, h) }
-
-    pub byte_in : allows r x ≡ true → {b : Bor (List ℕ)} → b.now ≡ t → Reads rest (Ok (x, b)) value (byte r s)
-    byte_in h d = record { is = rw (e, h, d) }
+    (λ t. or_case (eqb x 254) (eqb x 255) t (λ e. let q = eqb-true x 254 e in le-leb 254 x (omega arith)) (λ e. let q = eqb-true x 255 e in le-leb 254 x (omega arith)))
 
 -- ---- what was read, then what follows
 
