@@ -1,15 +1,12 @@
-// Clauses, in the array of words that holds those of a book. A call, a subgoal or the head of a clause, is one word: its predicate in the lowest byte,
-// above it the number of its arguments, above that six arguments, one byte each. The number takes the three lowest bits of its byte; the bit above them is
-// set where a subgoal is negated, and the other four say nothing. Stores go through a slice, whose length the proof knows.
-ghost use Rattle.std.specs.Prelude.{◌≡◌, ◌<◌, ◌≤◌, min, length, get_or};
-ghost use Rattle.masks.specs.Limits.{max_arity};
+// Clauses, in the array of words that holds those of a book: of each the number of its subgoals, then its head and room for eight subgoals, each call in
+// one word.
+ghost use Rattle.std.specs.Prelude.{◌≡◌, ◌<◌, ◌≤◌, length, get_or};
 ghost use Rattle.book.specs.Limits.{max_clauses, max_subgoals};
 ghost use Rattle.book.specs.Book.{no_call};
 ghost use Rattle.book.specs.Held.{head_in, call_in, clause_at, StoredClause};
 
 use crate::call::Call;
 use crate::limits::{CLAUSE_SIZE, MAX_SUBGOALS, RULES_SIZE};
-use masks::limits::MAX_ARGUMENTS;
 use std::marker::Model;
 
 // A clause where it stands, among those of a book.
@@ -65,67 +62,6 @@ impl<'a> Clause<'a> {
             word: self.rules[self.k * CLAUSE_SIZE + 2 + j],
         }
     }
-}
-
-// The head of clause k of an array.
-pub fn head_at(rules: &[u64; RULES_SIZE], k: usize) -> u64
-    requires { k ≤ max_clauses }
-    ensures { head_in result ≡ (clause_at rules.now k).head }
-{
-    rules[k * CLAUSE_SIZE + 1]
-}
-
-// How many subgoals clause k of an array has.
-pub fn subgoals_at(rules: &[u64; RULES_SIZE], k: usize) -> usize
-    requires { k ≤ max_clauses }
-    ensures { result ≡ length (clause_at rules.now k).body }
-{
-    held(rules[k * CLAUSE_SIZE], MAX_SUBGOALS)
-}
-
-// Subgoal j of clause k of an array.
-pub fn subgoal_at(rules: &[u64; RULES_SIZE], k: usize, j: usize) -> u64
-    requires { (k ≤ max_clauses) × (j < length (clause_at rules.now k).body) }
-    ensures { call_in result ≡ get_or (clause_at rules.now k).body j no_call }
-{
-    rules[k * CLAUSE_SIZE + 2 + j]
-}
-
-// The predicate of a call.
-pub fn predicate(call: u64) -> u8
-    ensures { result ≡ (call_in call).pred }
-{
-    (call % 256) as u8
-}
-
-// A subgoal says "not".
-pub fn negated(call: u64) -> bool
-    ensures { result ≡ (call_in call).negated }
-{
-    (call >> 11) % 2 == 1
-}
-
-// How many arguments a call has. A number above six means six.
-pub fn arguments(call: u64) -> usize
-    ensures value { result ≡ length (call_in call).args }
-    ensures upper_bound { result ≤ max_arity }
-{
-    held((call >> 8) % 8, MAX_ARGUMENTS)
-}
-
-// Argument i of a call.
-pub fn argument(call: u64, i: usize) -> u8
-    requires { i < length (call_in call).args }
-    ensures { result ≡ get_or (call_in call).args i 0 }
-{
-    ((call >> (16 + 8 * i)) % 256) as u8
-}
-
-// A number that is held as a word, at most as many as there is room for.
-pub fn held(n: u64, room: usize) -> usize
-    ensures { result ≡ min n room }
-{
-    room.min(n as usize)
 }
 
 // Copies clause `from` of an array over clause `to`.

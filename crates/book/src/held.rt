@@ -1,4 +1,5 @@
-// A book as it is held, in flat arrays of numbers: `clause` and `mode` know how the last two are laid out.
+// A book as it is held, in flat arrays of numbers: `clause` and `mode` know how the last two are laid out. They are arrays and no `Vec`s, since no memory is
+// allocated (include/shodhvirup.h, State).
 ghost use Rattle.std.specs.Prelude.{◌≡◌, ◌≤◌};
 ghost use Rattle.book.specs.Limits.{max_clauses};
 ghost use Rattle.book.specs.Held.{clause_at, NoModes};

@@ -6,7 +6,6 @@ ghost use Rattle.masks.specs.Set.{members};
 ghost use Rattle.book.specs.Limits.{max_predicates};
 ghost use Rattle.book.specs.Held.{has_in, masks_in, mode_bytes, HaveMode, StoredMode};
 
-use crate::clause::held;
 use crate::limits::{MODE_SIZE, MODES_SIZE, PREDICATES};
 use masks::constraint::{put_masks, with_member};
 use masks::limits::MAX_MASKS;
@@ -41,7 +40,7 @@ pub fn masks_at(modes: &[u8; MODES_SIZE], p: u8) -> &[u8]
     let bytes: &[u8] = modes;
     let at = p as usize * MODE_SIZE;
     let start = at + 2;
-    let end = start + held(bytes[at + 1] as u64, MAX_MASKS);
+    let end = start + usize::from(bytes[at + 1]).min(MAX_MASKS);
     &bytes[start..end]
 }
 

@@ -44,7 +44,7 @@ fn main() {
     answer_read(&mut text);
 }
 
-// The answers to the lines that are read into an array. (A function of its own: in `main` the proof would write out all its zeros.)
+// The answers to the lines that are read into an array; in `main` itself the check would write out all its zeros.
 fn answer_read(text: &mut [u8; INPUT]) {
     let n = io::read_full(STDIN_FILENO, text);
     answer_all(&text[..n]);

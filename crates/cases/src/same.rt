@@ -5,8 +5,8 @@ ghost use Rattle.io.specs.Counts.{IsPrefixLen};
 
 use crate::show;
 use crate::show::BOOK;
-use book::clause;
-use book::limits::{MAX_CLAUSES, MAX_PREDICATES, MODES_SIZE, NO_CALL, RULES_SIZE};
+use book::held::RuleBook;
+use book::limits::MAX_CLAUSES;
 use lines::STDOUT_FILENO;
 use masks::constraint;
 
@@ -48,19 +48,17 @@ fn show_left(closed: &[u8], number: u32, full: &[u8], numbers: &[Option<u8>; MAX
 
 // The numbers that the clauses of a valid book have when it is closed over a set; one that is dropped has none.
 fn numbers(bytes: &[u8], set: u64) -> [Option<u8>; MAX_CLAUSES] {
-    let mut arities = [0u8; MAX_PREDICATES];
-    let mut modes = [0u8; MODES_SIZE];
-    let mut rules = [NO_CALL; RULES_SIZE];
-    let _ = reading::read_book(bytes, &mut arities, &mut modes, &mut rules);
-    moved_down(&rules, set)
+    let mut book = RuleBook::new();
+    let _ = reading::read_book(bytes, &mut book);
+    moved_down(&book, set)
 }
 
-// Each clause of an array that is of no chosen predicate takes the next number.
-fn moved_down(rules: &[u64; RULES_SIZE], set: u64) -> [Option<u8>; MAX_CLAUSES] {
+// Each clause of a book that is of no chosen predicate takes the next number.
+fn moved_down(book: &RuleBook, set: u64) -> [Option<u8>; MAX_CLAUSES] {
     let mut numbers = [None; MAX_CLAUSES];
     let mut next: u8 = 0;
     for k in 0..MAX_CLAUSES {
-        let p = clause::predicate(clause::head_at(rules, k)) % 64;
+        let p = book.clause(k).head().predicate() % 64;
         if !constraint::has_member(set, p) {
             numbers[k] = Some(next);
             next += 1;

@@ -96,10 +96,10 @@ fn keep_clauses(rules: &mut [u64; RULES_SIZE], clauses: u8, set: u64) -> u8
     ensures { ClausesKept (bit_at set) rules.old clauses rules.new result }
 {
     let mut n = 0;
-    for k in 0..clauses {
-        let p = Clause::at(rules, k as usize).head().predicate();
+    for k in 0..clauses as usize {
+        let p = Clause::at(rules, k).head().predicate();
         if !has_member(set, p) {
-            move_clause(rules, k as usize, n as usize);
+            move_clause(rules, k, n as usize);
             n += 1;
         }
     }

@@ -20,7 +20,8 @@ use book::limits::{LAST_VARIABLE, LITERAL, MAX_PREDICATES, MAX_SUBGOALS, VARIABL
 use masks::limits::MAX_ARGUMENTS;
 use masks::patterns::{ALL, COLUMNS, fit_lanes};
 
-// What a pass over the subgoals comes to: the lanes in which each was ready in its turn, and whether any was placed in a lane where it was not.
+// What a pass over the subgoals comes to: the lanes in which each was ready in its turn, and whether any was placed in a lane where it was not. No `Option`:
+// each says something whatever the other is.
 #[derive(Clone, Copy)]
 pub struct Pass {
     pub good: u64,

@@ -50,6 +50,7 @@ pub fn least(set: u64) -> u64
 {
     let mut kept: u64 = 0;
     let mut rest = set;
+    // No `for` over its members: a turn takes away more than the one it is at.
     while rest != 0 {
         let m = u64::trailing_zeros(rest) as u8;
         kept = with_member(kept, m);

@@ -130,6 +130,7 @@ fn combine(way: Way, first: &[u8], second: &[u8]) -> u64
     requires { (in_range all_patterns first.now ≡ true) × (in_range all_patterns second.now ≡ true) }
     ensures { members result ≡ combined way first.now second.now }
 {
+    // A `match` and no closure: the promise speaks of the way, which a closure would have to bring with it.
     match way {
         Way::Choice => choice_of(first, second),
         Way::Joint => joint_of(first, second),

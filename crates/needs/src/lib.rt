@@ -77,7 +77,7 @@ pub fn settle(book: &RuleBook, needs: &mut Needs) -> u64
     // That this ends is a theorem and no count: a `for` over `0..` would ask for an `unreachable!` behind it.
     'rounds: loop {
         let old = table.admits;
-        let changed = round(&book.rules, own, &table.masks, old, due, &mut table.admits);
+        let changed = round(book, own, &table.masks, old, due, &mut table.admits);
         if changed == 0 {
             return k;
         }

@@ -6,7 +6,7 @@
 #![tactic(auto)]
 
 pub mod admits;
-pub mod order;
+mod order;
 
 ghost use Rattle.std.specs.Prelude.{◌≡◌, true, ◌≤◌, ◌<◌, ◌^◌, ◌%◌, length, IfSome};
 ghost use Rattle.masks.specs.Lists.{all, values};
@@ -22,7 +22,7 @@ ghost use Rattle.ordering.specs.Asks.{patterns_in};
 ghost use Rattle.ordering.specs.Held.{order_of, places_of, patterns_of, bound_of, Marked, marks, with_marks, picked, place_of, can_run, PatternAt};
 
 use crate::admits::Admits;
-use crate::order::Order;
+pub use crate::order::Order;
 use book::call::Call;
 use book::clause::Clause;
 use book::limits::{LAST_VARIABLE, MAX_SUBGOALS};

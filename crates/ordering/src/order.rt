@@ -4,7 +4,8 @@ ghost use Rattle.book.specs.Limits.{max_subgoals};
 
 use book::limits::MAX_SUBGOALS;
 
-// An order of the subgoals of a body: the first n places of the array, and beside each the pattern that its subgoal has in its turn.
+// An order of the subgoals of a body: the first n places of the array, and beside each the pattern that its subgoal has in its turn. They stand in two arrays,
+// since a plan writes the places alone.
 #[derive(Clone, Copy)]
 pub struct Order {
     pub n: u8,
@@ -19,12 +20,5 @@ impl Order {
         ensures { result.now ≡ take self.now.n self.now.places }
     {
         &self.places[..self.n as usize]
-    }
-
-    // The patterns beside them.
-    pub fn patterns(&self) -> &[u8]
-        ensures { result.now ≡ take self.now.n self.now.patterns }
-    {
-        &self.patterns[..self.n as usize]
     }
 }

@@ -9,12 +9,14 @@ use Rattle.book.specs.Limits.{max_predicates, max_clauses}
 use Rattle.book.specs.Book.{Book}
 use Rattle.book.specs.Encode.{WellFormed}
 use Rattle.book.specs.Held.{clause_at, clauses_of}
-use Rattle.book.specs.Table.{table_in, Admitted}
+use Rattle.book.specs.Table.{Table, table_in, Admitted}
 use Rattle.book.specs.Sets.{Owns, Callable}
+use Rattle.book.specs.declared.held.RuleBook.{RuleBook}
 use Rattle.ordering.specs.Adorn.{head_bound}
 use Rattle.ordering.specs.Good.{first_good}
 use Rattle.ordering.specs.Held.{or_none}
 use Rattle.tables.specs.Table.{sum_below, final}
+use Rattle.needs.specs.declared.Needs.{Needs}
 use Rattle.choices.specs.Plan.{Row, enc_query, enc_row, planned}
 
 -- ---- what is lent
@@ -31,12 +33,15 @@ pub record Lent (B : Book) (preds clauses : ℕ) (rules own table : List ℕ) : 
   pub final· : table_in masks preds ≡ final B
   pub admitted : Admitted masks table
 
--- what is asked: there is such a book; and what is given, whatever that book is
-abbrev pub SomeLent : ℕ → ℕ → List ℕ → List ℕ → List ℕ → Type 0
-SomeLent preds clauses rules own table = (B : Book) × Lent B preds clauses rules own table
+abbrev pub Lending : Book → RuleBook → Needs → Type 0
+Lending B b needs = Lent B b.preds b.clauses b.rules needs.own needs.table.admits
 
-abbrev pub Gives : ℕ → ℕ → List ℕ → List ℕ → List ℕ → List ℕ → Reply → List ℕ → Type 0
-Gives preds clauses rules own table out r after = (B : Book) → Lent B preds clauses rules own table → Answers (planned B) out r after
+-- what is asked: there is such a book; and what is given, whatever that book is
+abbrev pub SomeLent : RuleBook → Needs → Type 0
+SomeLent b needs = (B : Book) × Lending B b needs
+
+abbrev pub Gives : RuleBook → Needs → List ℕ → Reply → List ℕ → Type 0
+Gives b needs out r after = (B : Book) → Lending B b needs → Answers (planned B) out r after
 
 -- each predicate's clauses call predicates that there can be
 abbrev pub EachCallable : List ℕ → List ℕ → Type 0
@@ -45,25 +50,25 @@ EachCallable rules own = (p : ℕ) → p < max_predicates → Callable rules (ge
 -- ---- rows, of clauses in the array
 
 -- of clause k under a head pattern, in the order that the code finds
-unfoldable pub row_by : List ℕ → List ℕ → ℕ → ℕ → Row
-row_by rules table k a =
+unfoldable pub row_by : List ℕ → Table → ℕ → ℕ → Row
+row_by rules T k a =
     record {
       clause· = k;
       pattern = a;
-      places = or_none (first_good (table_in table max_predicates) (clause_at rules k).body (head_bound (clause_at rules k).head.args a));
+      places = or_none (first_good T (clause_at rules k).body (head_bound (clause_at rules k).head.args a));
     }
 
 -- of each clause of a set
-unfoldable pub clause_rows : List ℕ → List ℕ → ℕ → ℕ → List ℕ
-clause_rows rules table own a = joined (λ k. cond (bit_at own k) (enc_row (row_by rules table k a)) []) max_clauses
+unfoldable pub clause_rows : List ℕ → Table → ℕ → ℕ → List ℕ
+clause_rows rules T own a = joined (λ k. cond (bit_at own k) (enc_row (row_by rules T k a)) []) max_clauses
 
 -- under each pattern of a set
-unfoldable pub pattern_rows : List ℕ → List ℕ → ℕ → ℕ → List ℕ
-pattern_rows rules table own set = joined (λ a. cond (bit_at set a) (clause_rows rules table own a) []) all_patterns
+unfoldable pub pattern_rows : List ℕ → Table → ℕ → ℕ → List ℕ
+pattern_rows rules T own set = joined (λ a. cond (bit_at set a) (clause_rows rules T own a) []) all_patterns
 
 -- the plan of the first preds predicates, with each one's clauses and reached patterns in words, and the query's order given
-unfoldable pub plan_bytes : List ℕ → ℕ → List ℕ → List ℕ → List ℕ → List ℕ → List ℕ
-plan_bytes σ preds rules table own words = enc_query σ ++ joined (λ p. pattern_rows rules table (get_or own p 0) (get_or words p 0)) preds
+unfoldable pub plan_bytes : List ℕ → ℕ → List ℕ → Table → List ℕ → List ℕ → List ℕ
+plan_bytes σ preds rules T own words = enc_query σ ++ joined (λ p. pattern_rows rules T (get_or own p 0) (get_or words p 0)) preds
 
 -- ---- lengths, where each order has a place for each subgoal
 

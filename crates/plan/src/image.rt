@@ -2,48 +2,46 @@
 ghost use Rattle.std.specs.Prelude.{◌≡◌, true, ◌∷◌, ◌+◌, ◌*◌, ◌<◌, ◌≤◌, length};
 ghost use Rattle.book.specs.Limits.{max_predicates, max_clauses, max_subgoals};
 ghost use Rattle.book.specs.Held.{clause_at};
-ghost use Rattle.book.specs.Table.{Full};
 ghost use Rattle.book.specs.Sets.{callable, Callable};
 ghost use Rattle.ordering.specs.Held.{places_of};
 ghost use Rattle.writing.specs.Wrote.{Room, Wrote};
 ghost use Rattle.choices.specs.Plan.{enc_query, enc_row};
 ghost use Rattle.plan.specs.Lent.{EachCallable, row_by, clause_rows, pattern_rows, plan_bytes, rows_length, plan_length};
 
-use book::clause::{head_at, subgoals_at};
-use book::limits::{MAX_CLAUSES, MAX_PREDICATES, RULES_SIZE};
+use book::held::RuleBook;
+use book::limits::MAX_PREDICATES;
 use masks::constraint::count;
 use masks::members::Members;
-use ordering::order::Order;
-use ordering::{first_order, head_bound};
+use ordering::admits::Admits;
+use ordering::{Order, first_order, head_bound};
 use writing::put::{put_byte, put_bytes, put_mark};
 
 // How many bytes the plan has: each predicate's clauses have a row for each of its patterns.
 pub fn plan_length(
-    preds: u8,
-    rules: &[u64; RULES_SIZE],
+    book: &RuleBook,
     own: &[u64; MAX_PREDICATES],
     reached: &[u64; MAX_PREDICATES],
 ) -> usize
-    requires { preds ≤ max_predicates }
-    ensures { result ≡ plan_length preds rules.now own.now reached.now }
+    requires { book.now.preds ≤ max_predicates }
+    ensures { result ≡ plan_length book.now.preds book.now.rules own.now reached.now }
 {
-    let mut total = 3 + subgoals_at(rules, MAX_CLAUSES);
-    for p in 0..preds as usize {
+    let mut total = 3 + book.query().subgoals();
+    for p in 0..book.preds as usize {
         if own[p] != 0 {
-            total += rows_length(rules, own[p]) * count(reached[p]);
+            total += rows_length(book, own[p]) * count(reached[p]);
         }
     }
     total
 }
 
 // How many bytes a row of each clause of a set has, all together.
-fn rows_length(rules: &[u64; RULES_SIZE], own: u64) -> usize
-    ensures value { result ≡ rows_length rules.now own }
+fn rows_length(book: &RuleBook, own: u64) -> usize
+    ensures value { result ≡ rows_length book.now.rules own }
     ensures upper_bound { result ≤ max_clauses * (5 + max_subgoals) }
 {
-    let mut total: usize = 0;
+    let mut total = 0;
     for k in Members::of(own) {
-        total += 5 + subgoals_at(rules, k as usize);
+        total += 5 + book.clause(k as usize).subgoals();
     }
     total
 }
@@ -52,18 +50,17 @@ fn rows_length(rules: &[u64; RULES_SIZE], own: u64) -> usize
 pub fn put_plan(
     out: &mut [u8],
     query: &Order,
-    preds: u8,
-    rules: &[u64; RULES_SIZE],
-    table: &[u64; MAX_PREDICATES],
+    book: &RuleBook,
     own: &[u64; MAX_PREDICATES],
+    table: &Admits,
     reached: &[u64; MAX_PREDICATES],
 ) -> usize
-    requires { (preds ≤ max_predicates) × EachCallable rules.now own.now × Full table.now × Room out.old 0 (plan_bytes (places_of query.now) preds rules.now table.now own.now reached.now) }
-    ensures { Wrote out.old out.new 0 result (plan_bytes (places_of query.now) preds rules.now table.now own.now reached.now) }
+    requires { (book.now.preds ≤ max_predicates) × EachCallable book.now.rules own.now × Room out.old 0 (plan_bytes (places_of query.now) book.now.preds book.now.rules table.now own.now reached.now) }
+    ensures { Wrote out.old out.new 0 result (plan_bytes (places_of query.now) book.now.preds book.now.rules table.now own.now reached.now) }
 {
     let mut at = put_query(out, 0, query);
-    for p in 0..preds as usize {
-        at = put_patterns(out, at, rules, table, own[p], reached[p]);
+    for p in 0..book.preds as usize {
+        at = put_patterns(out, at, book, own[p], reached[p], table);
     }
     at
 }
@@ -81,55 +78,41 @@ pub fn put_query(out: &mut [u8], at: usize, o: &Order) -> usize
 fn put_patterns(
     out: &mut [u8],
     at: usize,
-    rules: &[u64; RULES_SIZE],
-    table: &[u64; MAX_PREDICATES],
+    book: &RuleBook,
     own: u64,
     patterns: u64,
+    table: &Admits,
 ) -> usize
-    requires { Callable rules.now own × Full table.now × Room out.old at (pattern_rows rules.now table.now own patterns) }
-    ensures { Wrote out.old out.new at result (pattern_rows rules.now table.now own patterns) }
+    requires { Callable book.now.rules own × Room out.old at (pattern_rows book.now.rules table.now own patterns) }
+    ensures { Wrote out.old out.new at result (pattern_rows book.now.rules table.now own patterns) }
 {
     let mut p = at;
     for a in Members::of(patterns) {
-        p = put_clauses(out, p, rules, table, own, a);
+        p = put_clauses(out, p, book, own, a, table);
     }
     p
 }
 
 // The rows of the clauses of a set under a head pattern: "for each of its clauses in turn".
-fn put_clauses(
-    out: &mut [u8],
-    at: usize,
-    rules: &[u64; RULES_SIZE],
-    table: &[u64; MAX_PREDICATES],
-    own: u64,
-    a: u8,
-) -> usize
-    requires { Callable rules.now own × Full table.now × Room out.old at (clause_rows rules.now table.now own a) }
-    ensures { Wrote out.old out.new at result (clause_rows rules.now table.now own a) }
+fn put_clauses(out: &mut [u8], at: usize, book: &RuleBook, own: u64, a: u8, table: &Admits) -> usize
+    requires { Callable book.now.rules own × Room out.old at (clause_rows book.now.rules table.now own a) }
+    ensures { Wrote out.old out.new at result (clause_rows book.now.rules table.now own a) }
 {
     let mut p = at;
     for k in Members::of(own) {
-        p = put_row(out, p, rules, table, k, a);
+        p = put_row(out, p, book, k, a, table);
     }
     p
 }
 
 // "`CO`, clause, pattern, n, n places": clause k in its first good order under a head pattern.
-fn put_row(
-    out: &mut [u8],
-    at: usize,
-    rules: &[u64; RULES_SIZE],
-    table: &[u64; MAX_PREDICATES],
-    k: u8,
-    a: u8,
-) -> usize
-    requires { (k < max_clauses) × (callable (clause_at rules.now k).body ≡ true) × Full table.now × Room out.old at (enc_row (row_by rules.now table.now k a)) }
-    ensures { Wrote out.old out.new at result (enc_row (row_by rules.now table.now k a)) }
+fn put_row(out: &mut [u8], at: usize, book: &RuleBook, k: u8, a: u8, table: &Admits) -> usize
+    requires { (k < max_clauses) × (callable (clause_at book.now.rules k).body ≡ true) × Room out.old at (enc_row (row_by book.now.rules table.now k a)) }
+    ensures { Wrote out.old out.new at result (enc_row (row_by book.now.rules table.now k a)) }
 {
-    let i = k as usize;
-    let bound = head_bound(head_at(rules, i), a);
-    let order = first_order(rules, i, table, bound);
+    let clause = book.clause(k as usize);
+    let bound = head_bound(clause.head(), a);
+    let order = first_order(&clause, table, bound);
     let p = put_mark(out, at, b"CO");
     let q = put_byte(out, p, k);
     let r = put_byte(out, q, a);

@@ -4,10 +4,10 @@ use Rattle.std.proofs.Math.Option.{some}
 use Rattle.masks.specs.Limits.{all_patterns}
 use Rattle.masks.specs.Lists.{any, joined}
 use Rattle.masks.specs.Set.{bit_at}
-use Rattle.book.specs.Limits.{max_predicates, max_clauses}
+use Rattle.book.specs.Limits.{max_clauses}
 use Rattle.book.specs.Book.{Call, Book}
 use Rattle.book.specs.Held.{clause_at, clauses_of}
-use Rattle.book.specs.Table.{Table, table_in}
+use Rattle.book.specs.Table.{Table}
 use Rattle.ordering.specs.Adorn.{Bound, nothing, head_bound}
 use Rattle.ordering.specs.Good.{first_good}
 use Rattle.ordering.specs.Asks.{Asked, asks, called, patterns_in}
@@ -42,16 +42,16 @@ abbrev pub Marks : List Call → Order → List ℕ → List ℕ → ℕ → Typ
 Marks body o before after names = (T : Table) (b : Bound) → Found T body b o → Marked before after names (calls_by T body b)
 
 -- of clause k of an array, under a head pattern
-abbrev pub clause_by : List ℕ → List ℕ → ℕ → ℕ → List Asked
-clause_by rules table k a = calls_by (table_in table max_predicates) (clause_at rules k).body (head_bound (clause_at rules k).head.args a)
+abbrev pub clause_by : List ℕ → Table → ℕ → ℕ → List Asked
+clause_by rules T k a = calls_by T (clause_at rules k).body (head_bound (clause_at rules k).head.args a)
 
 -- of each clause of a set
-unfoldable pub clauses_by : List ℕ → List ℕ → ℕ → ℕ → List Asked
-clauses_by rules table own a = joined (λ k. cond (bit_at own k) (clause_by rules table k a) []) max_clauses
+unfoldable pub clauses_by : List ℕ → Table → ℕ → ℕ → List Asked
+clauses_by rules T own a = joined (λ k. cond (bit_at own k) (clause_by rules T k a) []) max_clauses
 
 -- under each pattern of a set
-unfoldable pub patterns_by : List ℕ → List ℕ → ℕ → ℕ → List Asked
-patterns_by rules table own set = joined (λ a. cond (bit_at set a) (clauses_by rules table own a) []) all_patterns
+unfoldable pub patterns_by : List ℕ → Table → ℕ → ℕ → List Asked
+patterns_by rules T own set = joined (λ a. cond (bit_at set a) (clauses_by rules T own a) []) all_patterns
 
 -- their orders for every clause and pattern, to say what is reached by them
 unfoldable pub taken : Table → Book → Choice
@@ -63,7 +63,7 @@ taken T B =
 
 -- ---- what is promised: the words mark just what that choice reaches, of whatever book has the clauses and the query that the array holds
 
-abbrev pub ReachedIn : List ℕ → ℕ → List ℕ → List ℕ → Type 0
-ReachedIn rules clauses table words =
+abbrev pub ReachedIn : List ℕ → ℕ → Table → List ℕ → Type 0
+ReachedIn rules clauses T words =
     (B : Book) → B.clauses ≡ clauses_of rules clauses → B.query ≡ (clause_at rules max_clauses).body
-    → (p a : ℕ) → (marked_at words p a ≡ true) ↔ Reaches B (taken (table_in table max_predicates) B) p a
+    → (p a : ℕ) → (marked_at words p a ≡ true) ↔ Reaches B (taken T B) p a

@@ -203,12 +203,16 @@ fn read_clause<'a>(
     Ok(left)
 }
 
-// The query whose record these bytes begin with, stored behind the room of the clauses as the body of a clause whose head says nothing.
+// The query whose record these bytes begin with, stored behind the room of the clauses as the body of a clause whose head says nothing. Mostly the
+// bytes end behind it, which is tried first.
 fn read_query<'a>(s: &'a [u8], ar: Arities, rules: &mut [u64]) -> Result<&'a [u8], FaultFromEnd>
     requires { 2 ≤ length s.now }
     ensures { ReadsQuery Query ar.entry.list.now s.now result rules.old rules.new }
 {
     let left = read_body(&s[2..], ar, rules, MAX_CLAUSES)?;
+    if left.is_empty() {
+        return Ok(left);
+    }
     run_end(left, Phase::Query)?;
     Ok(left)
 }

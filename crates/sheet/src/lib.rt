@@ -4,7 +4,7 @@
 pub mod line;
 
 ghost use Rattle.std.specs.Prelude.{◌≡◌, ◌+◌, ◌≤◌, length};
-ghost use Rattle.masks.specs.Outcome.{Answers};
+ghost use Rattle.masks.specs.Outcome.{Answers, nine, reply_of};
 ghost use Rattle.book.specs.Format.{judge};
 ghost use Rattle.writing.specs.Wrote.{Room, Wrote};
 ghost use Rattle.printing.specs.Sheet.{line, field, judged_sheet, refusal_line, printing};
@@ -12,7 +12,7 @@ ghost use Rattle.sheet.specs.Records.{listed_count, line_in, lines_in, judged_or
 
 use crate::line::{put_field, put_fields, put_listing};
 use book::limits::{LONGEST, LONGEST_PLAN, LONGEST_SHEET, LONGEST_TABLE};
-use masks::reply::Reply;
+use masks::reply::{Reply, TooShort};
 use needs::analyse;
 use plan::plan;
 use writing::put::{put_byte, put_bytes};
@@ -57,17 +57,21 @@ const ORDERS: Form<'static> = Form {
 pub fn sheet(book: &[u8], out: &mut [u8]) -> Reply
     ensures { Answers (printing book.now) out.old result out.new }
 {
+    printed(book, out).unwrap_or_else(Reply::from)
+}
+
+fn printed(book: &[u8], out: &mut [u8]) -> Result<Reply, TooShort>
+    ensures { Answers (printing book.now) out.old (reply_of nine result) out.new }
+{
     let n = book.len().min(BOOK_SIZE);
     let mut text = [0u8; LONGEST_SHEET];
     let k = put_sheet(&mut text, &book[..n]);
-    let r = Reply::in_room(k, 0, out.len());
-    if r.number == 0 {
-        put_bytes(out, 0, &text[..k]);
-    }
-    r
+    let r = Reply::in_room(k, 0, out.len())?;
+    put_bytes(out, 0, &text[..k]);
+    Ok(r)
 }
 
-// The `C` lines and the `R` line, and what follows them; or the one line of a fault.
+// The `C` lines and the `R` line, and what follows them; or the one line of a fault. A reply is read by its number, as it is laid out for C.
 fn put_sheet(text: &mut [u8; LONGEST_SHEET], book: &[u8]) -> usize
     ensures { Wrote text.old text.new 0 result (judged_sheet (judge book.now)) }
 {

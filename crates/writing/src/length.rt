@@ -17,11 +17,7 @@ pub fn book_length(book: &RuleBook, given: u64) -> usize
     ensures { result ≡ length (encode (book_of book.now)) }
 {
     let n = (book.preds as usize).min(MAX_PREDICATES);
-    3 * n
-        + modes_length(&book.modes, given)
-        + clauses_length(book)
-        + 2
-        + body_length(&book.query())
+    3 * n + modes_length(&book.modes, given) + clauses_length(book) + 2 + body_length(&book.query())
 }
 
 // Of each `MO`: its mark, its predicate, the number of its masks, and the masks.

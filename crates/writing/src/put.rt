@@ -1,5 +1,5 @@
 // Bytes and marks, stored from a place on; each answers the place after it.
-ghost use Rattle.std.specs.Prelude.{◌≡◌, [], ◌∷◌, min, length};
+ghost use Rattle.std.specs.Prelude.{◌≡◌, [], ◌∷◌, length};
 ghost use Rattle.masks.specs.Set.{members};
 ghost use Rattle.writing.specs.Wrote.{Room, Wrote};
 
@@ -44,11 +44,4 @@ pub fn put_byte(out: &mut [u8], at: usize, x: u8) -> usize
 {
     out[at] = x;
     at + 1
-}
-
-// The lesser of two numbers.
-pub fn least(n: usize, k: usize) -> usize
-    ensures { result ≡ min n k }
-{
-    if n < k { n } else { k }
 }

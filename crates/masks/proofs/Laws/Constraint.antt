@@ -3,20 +3,19 @@
 use mathlib.Core.Path.{◌≡◌, refl, sym, ap, ap₂, ◌∙◌}
 use mathlib.Core.Bool.{Bool, true, false, not, cond, ◌&&◌, ◌||◌, and-or_distrib_left, and-or_distrib_right, and-false, and-true, or-false, false≢true}
 use mathlib.Core.List.{List, [], ◌∷◌, ◌++◌, map}
-use Prim.Native.Nat.{ℕ, zero, suc, ◌+◌, ◌^◌, ◌≤◌, ◌<◌}
+use Prim.Native.Nat.{ℕ, zero, suc, ◌^◌, ◌≤◌, ◌<◌}
 use native.Mathlib.Omega.{arith}
-use lib.Bits.{bit_and, bit_or, or_lt}
+use lib.Bits.{bit_or, or_lt}
 use lib.Dec.{eqb, ltb}
-use lib.ListN.{length, get_or, take}
-use lib.Seq.{get_or-take}
+use lib.ListN.{length, get_or}
 use borrow.Author.Tests.{eqb-true, eq-eqb, ne_eqb, ltb-true, lt-ltb}
 use Rattle.masks.specs.Limits.{all_patterns}
 use Rattle.masks.specs.Mask.{within}
 use Rattle.masks.specs.Lists.{any, all, any_below, has, ascending}
 use Rattle.masks.specs.Constraint.{unlike, admits, in_range, apart, is_written, drops, least, written, minimise, choice, unions, joint, same_masks}
 use Rattle.masks.proofs.Laws.Logic.{by_bool, clash, false_of, same, and_intro, and_left, and_right, or_case, not_intro, not_elim}
-use Rattle.masks.proofs.Laws.Lists.{pairwise_head, pairwise_tail, ascending_head, ascending_tail, front_lt, any_append, any_suc, any_at, all_at, has_append, has_here, any_has, has_any, all_has, has_all, any_below_at, at_any_below, below_has, has_below, any_below_cong, below_cong, ascending_below, ascending_ext}
-use Rattle.masks.proofs.Laws.Mask.{within_and, and_within, within_refl, within_trans, within_le, within_antisym, within_or}
+use Rattle.masks.proofs.Laws.Lists.{pairwise_head, pairwise_tail, ascending_head, ascending_tail, any_append, all_at, has_append, has_here, any_has, has_any, all_has, has_all, any_below_at, at_any_below, below_has, has_below, any_below_cong, below_cong, ascending_below, ascending_ext}
+use Rattle.masks.proofs.Laws.Mask.{within_refl, within_trans, within_le, within_antisym, within_or}
 
 -- ---- masks in range
 
@@ -44,19 +43,6 @@ admits_has c a t = any_has (λ m. within m a) c t
 pub has_admits : (c : List ℕ) (a m : ℕ) → has c m ≡ true → within m a ≡ true → admits c a ≡ true
 unfolding admits
 has_admits c a m h w = has_any (λ k. within k a) c m h w
-
--- the test over the first masks, as a loop makes it: it holds where the mask at i is contained in the pattern, and goes on failing where not
-pub admits_at : (l : List ℕ) (n a i : ℕ) → i < length (take n l) → bit_and (get_or l i 0) a ≡ get_or l i 0 → admits (take n l) a ≡ true
-unfolding admits
-admits_at l n a i h e =
-    any_at (λ m. within m a) 0 (take n l) i h (ap (λ (m : ℕ). within m a) (get_or-take n l i 0 (front_lt n i l h).0) ∙ and_within (get_or l i 0) a e)
-
-pub admits_suc : (l : List ℕ) (a i : ℕ) → i < length l → admits (take i l) a ≡ false → (bit_and (get_or l i 0) a ≡ get_or l i 0 → ⊥)
-    → admits (take (i + 1) l) a ≡ false
-unfolding admits
-admits_suc l a i h e ne =
-    any_suc (λ m. within m a) 0 l i h
-    ∙ ap₂ (λ (p q : Bool). p || q) e (false_of (λ t. ne (within_and (get_or l i 0) a t)))
 
 -- f is kept when a pattern grows; what a constraint admits is
 abbrev pub Up : (ℕ → Bool) → Type 0

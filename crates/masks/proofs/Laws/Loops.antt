@@ -206,7 +206,3 @@ module _ {word : ℕ} {passed left : List ℕ} (g : Passed word passed left) whe
     pub passed_small : m < 64
     unfolding members
     passed_small = (below_has (bit_at word) 64 m listed_here).0
-
-    pub passed_member : bit_at word m ≡ true
-    unfolding members
-    passed_member = (below_has (bit_at word) 64 m listed_here).1

@@ -1,17 +1,17 @@
--- A loop over the members of a word's set, from the lowest up: `trailing_zeros` is the lowest, and `rest & (rest - 1)` is the set without it. What
--- holds of the numbers passed holds across a gap where none is a member. Assumes nothing.
-use mathlib.Core.Path.{◌≡◌, refl, sym, ap, ◌∙◌, subst}
-use mathlib.Core.Bool.{Bool, true, false, not, cond, ◌&&◌, and-true, and-false}
-use Prim.Native.Nat.{ℕ, zero, suc, ◌+◌, ◌-◌, ◌*◌, ◌/◌, ◌%◌, ◌^◌, ◌≤◌, ◌<◌, min}
+-- The members of a word's set: `trailing_zeros` is the lowest, and `left & (left - 1)` is the set without it; the bits that two words have in common, and
+-- those in which they differ. Assumes nothing.
+use mathlib.Core.Path.{◌≡◌, sym, ap, ◌∙◌}
+use mathlib.Core.Bool.{true, false, not, cond, ◌&&◌, and-true, and-false}
+use Prim.Native.Nat.{ℕ, zero, suc, ◌+◌, ◌-◌, ◌*◌, ◌/◌, ◌%◌, ◌^◌, ◌<◌, min}
 use native.Mathlib.Omega.{arith}
 use native.Mathlib.Nat.{pow-suc}
 use lib.Bits.{bit_and, bit_xor, and_step, and_self, and_le_r, xor_add_and, xor_shr}
 use lib.Count.{count_trailing_zeros}
-use lib.Dec.{eqb, leb}
-use borrow.Author.Tests.{eq-eqb, ne_eqb, eqb-true, eqb-false, leb-true, leb-false}
+use lib.Dec.{eqb}
+use borrow.Author.Tests.{eq-eqb, ne_eqb, eqb-true, eqb-false}
 use Rattle.masks.specs.Set.{bit_at}
-use Rattle.masks.proofs.Laws.Logic.{by_bool, clash, same, and_intro, and_left, and_right}
-use Rattle.masks.proofs.Laws.Set.{bit_at_zero, eqb_suc}
+use Rattle.masks.proofs.Laws.Logic.{by_bool, same, and_intro, and_left, and_right}
+use Rattle.masks.proofs.Laws.Set.{eqb_suc}
 
 -- ---- the bits in common
 
@@ -127,76 +127,3 @@ others (suc k) w j l z = by_bool (eqb (w % 2) 1) (odd j) (even (λ i. others k (
 
 pub others_less : (w : ℕ) → (w ≡ 0 → ⊥) → bit_and w (w - 1) < w
 others_less w z = let h = and_le_r w (w - 1) in omega (arith, z)
-
--- ---- the loop over a word of n bits: P holds of what is passed, the numbers below `place`, and the rest are the members from there on
-
-pub record Over (P : ℕ → Type 0) (n word rest : ℕ) : Type 0 where
-  pub small : rest < 2 ^ n
-  pub place : ℕ
-  pub most : place ≤ n
-  pub ahead : (k : ℕ) → place ≤ k → bit_at rest k ≡ bit_at word k
-  pub behind : (k : ℕ) → k < place → bit_at rest k ≡ false
-  pub done : P place
-
-pub over_start : (P : ℕ → Type 0) (n word : ℕ) → word < 2 ^ n → P 0 → Over P n word word
-over_start P n word s h =
-    record { small = s; place = 0; most = omega arith; ahead = λ k l. refl; behind = λ k l. absurd (omega arith); done = h }
-
--- over a gap
-across : (P : ℕ → Type 0) (word : ℕ) → ((k : ℕ) → bit_at word k ≡ false → P k → P (suc k))
-    → (d at : ℕ) → ((k : ℕ) → at ≤ k → k < at + d → bit_at word k ≡ false) → P at → P (at + d)
-across P word skip zero at f h = let e : at ≡ at + 0 = omega arith in subst P e h
-across P word skip (suc d) at f h =
-    let e : suc (at + d) ≡ at + suc d = omega arith in
-    subst P e (skip (at + d) (f (at + d) (omega arith) (omega arith)) (across P word skip d at (λ k a b. f k a (omega arith)) h))
-
-module _ (P : ℕ → Type 0) (n word rest : ℕ) (skip : (k : ℕ) → bit_at word k ≡ false → P k → P (suc k)) (g : Over P n word rest) where
-  over_to : (m : ℕ) → g.place ≤ m → ((k : ℕ) → k < m → bit_at rest k ≡ false) → P m
-  over_to m h f =
-      let e : g.place + (m - g.place) ≡ m = omega arith in
-      subst P e (across P word skip (m - g.place) g.place (λ k a b. sym (g.ahead k a) ∙ f k (omega arith)) g.done)
-
-  -- nothing is left
-  pub over_end : rest ≡ 0 → P n
-  over_end z = over_to n g.most (λ k h. ap (λ (w : ℕ). bit_at w k) z ∙ bit_at_zero k)
-
-  module _ (z : rest ≡ 0 → ⊥) where
-    abbrev first : ℕ
-    first = count_trailing_zeros n rest
-
-    pub over_lowest : Lowest n rest first
-    over_lowest = lowest n rest g.small z
-
-    ahead_of : g.place ≤ first
-    ahead_of =
-        by_bool (leb g.place first) (λ t. leb-true g.place first t)
-        (λ t. clash over_lowest.member (g.behind first (leb-false g.place first t)))
-
-    -- at the lowest of those left: what is known of it, and what holds of the numbers below it
-    pub over_member : bit_at word first ≡ true
-    over_member = sym (g.ahead first ahead_of) ∙ over_lowest.member
-
-    pub over_here : P first
-    over_here = over_to first ahead_of over_lowest.none
-
-    pub over_next : (Q : ℕ → Type 0) → Q (suc first) → Over Q n word (bit_and rest (rest - 1))
-    over_next Q q =
-        let a = ahead_of in
-        let s = g.small in
-        let l = others_less rest z in
-        record {
-          small = omega arith;
-          place = suc first;
-          most = over_lowest.small;
-          ahead = λ k l.
-              others n rest k g.small z
-              ∙ ap (λ (b : Bool). bit_at rest k && not b) (ne_eqb k first (λ e. omega arith))
-              ∙ and-true (bit_at rest k) ∙ g.ahead k (omega arith);
-          behind = λ k l. others n rest k g.small z ∙ gone k l;
-          done = q;
-        }
-      where
-        gone : (k : ℕ) → k < suc first → (bit_at rest k && not (eqb k first)) ≡ false
-        gone k l =
-            by_bool (eqb k first) (λ t. rw t (and-false (bit_at rest k)))
-            (λ t. let ne = eqb-false k first t in ap (λ (b : Bool). b && not (eqb k first)) (over_lowest.none k (omega arith)))

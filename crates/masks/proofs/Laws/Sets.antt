@@ -9,8 +9,7 @@ use native.Mathlib.Omega.{arith}
 use lib.Bits.{bit_and, bit_or, bit_xor, and_le_l, mask_lt}
 use lib.Count.{ones, ones_step}
 use lib.Dec.{eqb, ltb}
-use lib.ListN.{length, set, length-append, length-set}
-use lib.Seq.{sets}
+use lib.ListN.{length, length-append}
 use borrow.Author.Tests.{eqb-true, eq-eqb, lt-ltb}
 use Rattle.masks.specs.Limits.{max_arity, all_patterns}
 use Rattle.masks.specs.Lists.{any_below, below, has}
@@ -19,7 +18,7 @@ use Rattle.masks.specs.Constraint.{admits, in_range, is_written, drops, least, w
 use Rattle.masks.specs.Set.{bit_at, Holds, members}
 use Rattle.masks.specs.Patterns.{EachLane, Agrees}
 use Rattle.masks.proofs.Laws.Logic.{by_bool, clash, same, false_of, and_intro, and_left, and_right, or_left, or_right, or_case, not_intro, not_elim}
-use Rattle.masks.proofs.Laws.Lists.{below_has, has_below, below_cong, any_below_at, at_any_below, all_below, all_below_at, sets_append}
+use Rattle.masks.proofs.Laws.Lists.{below_has, has_below, below_cong, any_below_at, at_any_below, all_below, all_below_at}
 use Rattle.masks.proofs.Laws.Mask.{within_refl, within_le, and_within}
 use Rattle.masks.proofs.Laws.Words as words
 use Rattle.masks.proofs.Laws.Constraint.{in_range_has, admits_has, has_admits, admits_up, admits_append, written_cong, written_admits}
@@ -99,49 +98,6 @@ ones_below (suc n) word h =
 pub ones_members : (word : ℕ) → word < 2 ^ 64 → ones word ≡ length (members word)
 unfolding members
 ones_members word h = ones_below all_patterns word h
-
--- ---- the loop that writes them: those below k stand from `at` on, and p is the place after them
-
-pub record Put (word : ℕ) (before : List ℕ) (at p : ℕ) (out : List ℕ) (k : ℕ) : Type 0 where
-  pub size : length out ≡ length before
-  pub place : p ≡ at + length (below (bit_at word) k)
-  pub is : out ≡ sets before at (below (bit_at word) k)
-
-pub put_start : (word : ℕ) (out : List ℕ) (at : ℕ) → Put word out at at out 0
-put_start word out at = record { size = refl; place = omega arith; is = refl }
-
-module _ (word : ℕ) {before : List ℕ} {at p : ℕ} {out : List ℕ} (k : ℕ) where
-  pub put_skip : bit_at word k ≡ false → Put word before at p out k → Put word before at p out (suc k)
-  put_skip e g =
-      let n = below_no (bit_at word) k e in
-      record { size = g.size; place = g.place ∙ ap (λ (l : List ℕ). at + length l) (sym n); is = g.is ∙ ap (sets before at) (sym n) }
-
-  -- there is room for one more
-  pub put_room : bit_at word k ≡ true → k < all_patterns → at + length (members word) ≤ length before → Put word before at p out k → p < length out
-  unfolding members
-  put_room e h r g =
-      let y = ap {B = ℕ} length (below_yes (bit_at word) k e) in
-      let l = length-append (below (bit_at word) k) (k ∷ []) in
-      let m = below_longer (bit_at word) (suc k) all_patterns h in
-      let s = g.size in
-      let q = g.place in
-      omega arith
-
-  pub put_next : bit_at word k ≡ true → Put word before at p out k → Put word before at (p + 1) (set out p k) (suc k)
-  put_next e g =
-      let y = below_yes (bit_at word) k e in
-      record {
-        size = length-set out p k ∙ g.size;
-        place =
-            let l = ap {B = ℕ} length y in
-            let m = length-append (below (bit_at word) k) (k ∷ []) in
-            let q = g.place in
-            omega arith;
-        is =
-            ap₂ (λ (l : List ℕ) (i : ℕ). set l i k) g.is g.place
-            ∙ sym (sets_append before at (below (bit_at word) k) (k ∷ []))
-            ∙ ap (sets before at) (sym y);
-      }
 
 -- ---- what they admit
 

@@ -161,17 +161,14 @@ module _ (u : ℕ) where
   low_2 = omega arith
 
 pub marks_three : (w u a b c : ℕ) → a ≡ bit (bit_at w (u % 32)) → b ≡ bit (bit_at w (u / 2 ^ 8 % 32)) → c ≡ bit (bit_at w (u / 2 ^ 16 % 32))
-    → (a + 2 * b + 4 * c ≡ marks w (values (byte_of u) 3)) × (a + 2 * b + 4 * c < 8)
+    → a + 2 * b + 4 * c ≡ marks w (values (byte_of u) 3)
 unfolding marks
 marks_three w u a b c ea eb ec =
     let one : (i j : ℕ) → i ≡ j → bit (bit_at w i) ≡ bit (bit_at w j) = λ i j e. ap (λ (n : ℕ). bit (bit_at w n)) e in
     let p = one (u % 32) (byte_of u 0 % 32) (low_0 u) in
     let q = one (u / 2 ^ 8 % 32) (byte_of u 1 % 32) (low_1 u) in
     let r = one (u / 2 ^ 16 % 32) (byte_of u 2 % 32) (low_2 u) in
-    let x = bit_small (bit_at w (u % 32)) in
-    let y = bit_small (bit_at w (u / 2 ^ 8 % 32)) in
-    let z = bit_small (bit_at w (u / 2 ^ 16 % 32)) in
-    (omega arith, omega arith)
+    omega arith
 
 pub with_three : (w u : ℕ) {a b c : ℕ} → a ≡ 2 ^ (u % 32) → b ≡ 2 ^ (u / 2 ^ 8 % 32) → c ≡ 2 ^ (u / 2 ^ 16 % 32)
     → bit_or (bit_or (bit_or w a) b) c ≡ with_marks w (values (byte_of u) 3)

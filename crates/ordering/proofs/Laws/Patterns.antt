@@ -100,8 +100,8 @@ module _ {T : Table} {body : List Call} {b₀ b : Bound} {i left : ℕ} {places 
   pub going_stuck : none ≡ picked left (ready_at T body b) → i < length body → none ≡ first_good T body b₀
   going_stuck e h = run_stuck w.run e h ∙ greedy_is_first T body b₀
 
-  pub going_end : (n : ℕ) → n ≡ length body → n ≡ i → (some (take n places) ≡ first_good T body b₀) × (take n patterns ≡ patterns_in body b₀ (take n places))
-  going_end n e h = (ap (λ (j : ℕ). some (take j places)) e ∙ sym (run_end w.run (omega arith)) ∙ greedy_is_first T body b₀, rw h w.turns.told)
+  pub going_end : (n : ℕ) → n ≡ length body → n ≡ i → some (take n places) ≡ first_good T body b₀
+  going_end n e h = ap (λ (j : ℕ). some (take j places)) e ∙ sym (run_end w.run (omega arith)) ∙ greedy_is_first T body b₀
 
 -- ---- the pattern beside a place
 

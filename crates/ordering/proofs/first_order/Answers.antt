@@ -51,6 +51,4 @@ loop-i-preserved c =
     )
 
 pub returns-clause-order : goal.returns-clause-order
-returns-clause-order c =
-    let n = c.subgoals-n in
-    (going_end c.loop-i.invariant.1 n.result n.ensures.value (omega arith)).0
+returns-clause-order c = let n = c.subgoals-n in going_end c.loop-i.invariant.1 n.result n.ensures.value (omega arith)

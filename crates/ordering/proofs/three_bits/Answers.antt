@@ -5,4 +5,4 @@ use Rattle.ordering.proofs.three_bits.Goals as goal
 pub returns-clause-value : goal.returns-clause-value
 returns-clause-value c =
     let s = c.args in
-    (marks_three s.bound s.args _ _ _ c.bound_bit.ensures.value c.bound_bit-2.ensures.value c.bound_bit-3.ensures.value).0
+    marks_three s.bound s.args _ _ _ c.bound_bit.ensures.value c.bound_bit-2.ensures.value c.bound_bit-3.ensures.value

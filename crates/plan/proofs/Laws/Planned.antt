@@ -5,47 +5,43 @@ use mathlib.Core.Path.{◌≡◌, refl, sym, ap, ap₂, ◌∙◌, subst}
 use mathlib.Core.Bool.{true, cond}
 use mathlib.Core.List.{List, [], ◌∷◌, ◌++◌, append-nil}
 use mathlib.Core.Option.{Option, none, some}
-use Prim.Native.Nat.{ℕ, ◌+◌, ◌*◌, ◌≤◌, ◌<◌, min}
+use Prim.Native.Nat.{ℕ, ◌+◌, ◌*◌, ◌≤◌, ◌<◌}
 use native.Mathlib.Omega.{arith}
 use lib.Dec.{eqb, ltb}
 use lib.ListN.{length, get_or, length-append}
-use lib.Seq.{sets}
 use borrow.Author.Tests.{eqb-true, leb-true, ltb-true, lt-ltb, le-ltb}
 use Rattle.masks.specs.Limits.{all_patterns}
 use Rattle.masks.specs.Lists.{joined}
-use Rattle.masks.specs.Outcome.{Answers, refused, in_room}
+use Rattle.masks.specs.Outcome.{refused, done}
 use Rattle.masks.specs.Set.{bit_at, members}
-use Rattle.masks.specs.declared.reply.Reply.{Reply}
 use Rattle.book.specs.Limits.{max_predicates, max_clauses}
 use Rattle.book.specs.Book.{Call, Clause, no_clause, Book}
 use Rattle.book.specs.Encode.{run}
-use Rattle.book.specs.Held.{clause_at, clauses_of, book_in}
+use Rattle.book.specs.Held.{clause_at, book_in, book_of}
 use Rattle.book.specs.Table.{Table, table_in, Full}
 use Rattle.book.specs.Sets.{callable, Known}
 use Rattle.reading.specs.Judged.{BookHeld}
-use Rattle.reading.specs.declared.Reading.{Reading}
+use Rattle.book.specs.declared.held.RuleBook.{RuleBook}
 use Rattle.ordering.specs.Adorn.{Bound, nothing, head_bound}
 use Rattle.ordering.specs.Good.{first_good, is_some}
 use Rattle.ordering.specs.Held.{or_none, places_of}
 use Rattle.ordering.specs.declared.order.Order.{Order}
 use Rattle.tables.specs.Table.{final}
-use Rattle.needs.specs.Round.{Settled}
-use Rattle.writing.specs.Wrote.{Room, Wrote}
+use Rattle.needs.specs.Round.{Settles}
+use Rattle.needs.specs.declared.Needs.{Needs}
 use Rattle.choices.specs.Choice.{clause, Reaches}
 use Rattle.choices.specs.Reached.{marked, reached}
 use Rattle.choices.specs.Plan.{or_standing, first_choice, chosen, rows_for, rows_under, rows_of, plan_rows, enc_query, enc_row, image, planned}
 use Rattle.reach.specs.Marked.{marked_at, taken, ReachedIn}
-use Rattle.plan.specs.Lent.{Lent, EachCallable, row_by, clause_rows, pattern_rows, plan_bytes, rows_length, plan_length}
+use Rattle.plan.specs.Lent.{Lent, Lending, EachCallable, row_by, clause_rows, pattern_rows, plan_bytes, rows_length, plan_length}
 use Rattle.masks.proofs.Laws.Logic.{by_bool, same, clash, and_left, and_right}
 use Rattle.masks.proofs.Laws.Lists.{joined_cong, joined_cut}
-use Rattle.masks.proofs.Laws.Outcome.{answers_short, answers_done}
-use Rattle.reading.proofs.Laws.Judged.{read_well}
 use Rattle.book.proofs.Laws.Encode.{run_joined}
 use Rattle.book.proofs.Laws.Sets.{calls_below}
 use Rattle.ordering.proofs.Laws.Held.{admitted_full, admitted_first, body_few}
 use Rattle.tables.proofs.Laws.Sums.{sum_cong, length_joined, sum_each}
 use Rattle.tables.proofs.Laws.Valid.{query_callable, query_calls_lem, clause_calls_lem}
-use Rattle.needs.proofs.Laws.Settling.{clauses_count, clause_is, known_clauses}
+use Rattle.needs.proofs.Laws.Settling.{clauses_count, clause_is, known_clauses, read_held}
 use Rattle.choices.proofs.Laws.Reached.{reached_iff, reaches_agree, reaches_back}
 use Rattle.choices.proofs.Laws.Moded.{chosen_choice, reached_good}
 use Rattle.choices.proofs.Laws.Plan.{planned_good, planned_none}
@@ -56,7 +52,7 @@ standing_none : (n : ℕ) (o : Option (List ℕ)) → is_some o ≡ true → or_
 standing_none n none e = clash e refl
 standing_none n (some σ) e = refl
 
-module _ (B : Book) (preds clauses : ℕ) (rules own table : List ℕ) (l : Lent B preds clauses rules own table) where
+module _ {B : Book} {preds clauses : ℕ} {rules own table : List ℕ} (l : Lent B preds clauses rules own table) where
   abbrev held : Table
   held = table_in table max_predicates
 
@@ -129,7 +125,7 @@ module _ (B : Book) (preds clauses : ℕ) (rules own table : List ℕ) (l : Lent
     chosen_reaches : {p a : ℕ} → Reaches B (chosen B) p a → Reaches B (taken held B) p a
     chosen_reaches = reaches_agree B (chosen B) (taken held B) same_query same_clause
 
-    module _ (words : List ℕ) (m : ReachedIn rules clauses table words) where
+    module _ (words : List ℕ) (m : ReachedIn rules clauses held words) where
       -- the words mark what the chosen orders reach
       reaches_mark : (p a : ℕ) → marked_at words p a ≡ true → Reaches B (chosen B) p a
       reaches_mark p a e = taken_reaches ((m B l.clauses· l.query· p a).0 e)
@@ -144,7 +140,7 @@ module _ (B : Book) (preds clauses : ℕ) (rules own table : List ℕ) (l : Lent
 
       -- ---- a row
 
-      row_places : (k a : ℕ) → k < clauses → Reaches B (chosen B) (clause_at rules k).head.pred a → (row_by rules table k a).places ≡ (chosen B).for_clause k a
+      row_places : (k a : ℕ) → k < clauses → Reaches B (chosen B) (clause_at rules k).head.pred a → (row_by rules held k a).places ≡ (chosen B).for_clause k a
       unfolding row_by taken
       row_places k a h r =
           let e = here k h in
@@ -152,7 +148,7 @@ module _ (B : Book) (preds clauses : ℕ) (rules own table : List ℕ) (l : Lent
           ∙ sym (same_clause k a (let n = count in omega arith) (subst (λ (c : Clause). Reaches B (chosen B) c.head.pred a) (sym e) r))
 
       row_is : (k a : ℕ) → k < clauses → Reaches B (chosen B) (clause_at rules k).head.pred a
-          → enc_row (row_by rules table k a) ≡ run enc_row (record { clause· = k; pattern = a; places = (chosen B).for_clause k a } ∷ [])
+          → enc_row (row_by rules held k a) ≡ run enc_row (record { clause· = k; pattern = a; places = (chosen B).for_clause k a } ∷ [])
       unfolding row_by
       row_is k a h r =
           ap (λ (σ : List ℕ). enc_row (record { clause· = k; pattern = a; places = σ })) (row_places k a h r)
@@ -161,7 +157,7 @@ module _ (B : Book) (preds clauses : ℕ) (rules own table : List ℕ) (l : Lent
       -- ---- the rows of a predicate under a pattern
 
       rows_one : (p a k : ℕ) → p < max_predicates → marked_at words p a ≡ true → k < clauses
-          → cond (bit_at (get_or own p 0) k) (enc_row (row_by rules table k a)) []
+          → cond (bit_at (get_or own p 0) k) (enc_row (row_by rules held k a)) []
           ≡ run enc_row (cond (eqb (clause B k).head.pred p) (record { clause· = k; pattern = a; places = (chosen B).for_clause k a } ∷ []) [])
       rows_one p a k q e h =
           let c = here k h in
@@ -173,18 +169,18 @@ module _ (B : Book) (preds clauses : ℕ) (rules own table : List ℕ) (l : Lent
           (subst (λ (r : ℕ). Reaches B (chosen B) r a) (sym (eqb-true (clause B k).head.pred p t) ∙ ap (λ (d : Clause). d.head.pred) c) (reaches_mark p a e))))
           (λ t. rw (w, t))
 
-      rows_cell : (p a : ℕ) → p < max_predicates → marked_at words p a ≡ true → clause_rows rules table (get_or own p 0) a ≡ run enc_row (rows_for B (chosen B) p a)
+      rows_cell : (p a : ℕ) → p < max_predicates → marked_at words p a ≡ true → clause_rows rules held (get_or own p 0) a ≡ run enc_row (rows_for B (chosen B) p a)
       unfolding clause_rows rows_for
       rows_cell p a q e =
-          joined_cut (λ k. cond (bit_at (get_or own p 0) k) (enc_row (row_by rules table k a)) []) clauses max_clauses l.few
+          joined_cut (λ k. cond (bit_at (get_or own p 0) k) (enc_row (row_by rules held k a)) []) clauses max_clauses l.few
           (λ k h. rw (l.owns p q k, le-ltb k clauses h))
-          ∙ joined_cong (λ k. cond (bit_at (get_or own p 0) k) (enc_row (row_by rules table k a)) [])
+          ∙ joined_cong (λ k. cond (bit_at (get_or own p 0) k) (enc_row (row_by rules held k a)) [])
           (λ k. run enc_row (cond (eqb (clause B k).head.pred p) (record { clause· = k; pattern = a; places = (chosen B).for_clause k a } ∷ []) [])) clauses
           (λ k h. rows_one p a k q e h)
           ∙ ap (joined (λ k. run enc_row (cond (eqb (clause B k).head.pred p) (record { clause· = k; pattern = a; places = (chosen B).for_clause k a } ∷ []) []))) (sym count)
           ∙ sym (run_joined enc_row (λ k. cond (eqb (clause B k).head.pred p) (record { clause· = k; pattern = a; places = (chosen B).for_clause k a } ∷ []) []) (length B.clauses))
 
-      rows_pattern : (p a : ℕ) → p < max_predicates → cond (bit_at (get_or words p 0) a) (clause_rows rules table (get_or own p 0) a) []
+      rows_pattern : (p a : ℕ) → p < max_predicates → cond (bit_at (get_or words p 0) a) (clause_rows rules held (get_or own p 0) a) []
           ≡ run enc_row (cond (marked (reached B (chosen B)) p a) (rows_for B (chosen B) p a) [])
       rows_pattern p a q =
           let w = marks p a in
@@ -192,26 +188,26 @@ module _ (B : Book) (preds clauses : ℕ) (rules own table : List ℕ) (l : Lent
           (λ t. rw (w, t) (rows_cell p a q (w ∙ t)))
           (λ t. rw (w, t))
 
-      rows_predicate : (p : ℕ) → p < max_predicates → pattern_rows rules table (get_or own p 0) (get_or words p 0)
+      rows_predicate : (p : ℕ) → p < max_predicates → pattern_rows rules held (get_or own p 0) (get_or words p 0)
           ≡ run enc_row (joined (λ a. cond (marked (reached B (chosen B)) p a) (rows_for B (chosen B) p a) []) all_patterns)
       unfolding pattern_rows
       rows_predicate p q =
-          joined_cong (λ a. cond (bit_at (get_or words p 0) a) (clause_rows rules table (get_or own p 0) a) [])
+          joined_cong (λ a. cond (bit_at (get_or words p 0) a) (clause_rows rules held (get_or own p 0) a) [])
           (λ a. run enc_row (cond (marked (reached B (chosen B)) p a) (rows_for B (chosen B) p a) [])) all_patterns (λ a h. rows_pattern p a q)
           ∙ sym (run_joined enc_row (λ a. cond (marked (reached B (chosen B)) p a) (rows_for B (chosen B) p a) []) all_patterns)
 
       -- ---- all rows, and the plan
 
-      rows_all : joined (λ p. pattern_rows rules table (get_or own p 0) (get_or words p 0)) preds ≡ run enc_row (plan_rows B)
+      rows_all : joined (λ p. pattern_rows rules held (get_or own p 0) (get_or words p 0)) preds ≡ run enc_row (plan_rows B)
       unfolding plan_rows rows_of rows_under
       rows_all =
-          joined_cong (λ p. pattern_rows rules table (get_or own p 0) (get_or words p 0))
+          joined_cong (λ p. pattern_rows rules held (get_or own p 0) (get_or words p 0))
           (λ p. run enc_row (joined (λ a. cond (marked (reached B (chosen B)) p a) (rows_for B (chosen B) p a) []) all_patterns)) preds
           (λ p h. rows_predicate p (let f = few_preds in omega arith))
           ∙ ap (joined (λ p. run enc_row (joined (λ a. cond (marked (reached B (chosen B)) p a) (rows_for B (chosen B) p a) []) all_patterns))) (sym l.preds·)
           ∙ sym (run_joined enc_row (λ p. joined (λ a. cond (marked (reached B (chosen B)) p a) (rows_for B (chosen B) p a) []) all_patterns) (length B.arities))
 
-      pub plan_bytes_lem : (σ : List ℕ) → σ ≡ or_none (first_good held (clause_at rules max_clauses).body nothing) → plan_bytes σ preds rules table own words ≡ image B
+      pub plan_bytes_lem : (σ : List ℕ) → σ ≡ or_none (first_good held (clause_at rules max_clauses).body nothing) → plan_bytes σ preds rules held own words ≡ image B
       unfolding plan_bytes image taken
       plan_bytes_lem σ e =
           ap₂ {C = List ℕ} ◌++◌
@@ -221,7 +217,7 @@ module _ (B : Book) (preds clauses : ℕ) (rules own table : List ℕ) (l : Lent
       -- ---- how long it is
 
       -- an order has a place for each subgoal
-      row_long : (k a : ℕ) → k < clauses → Reaches B (chosen B) (clause_at rules k).head.pred a → length (enc_row (row_by rules table k a)) ≡ 5 + length (clause_at rules k).body
+      row_long : (k a : ℕ) → k < clauses → Reaches B (chosen B) (clause_at rules k).head.pred a → length (enc_row (row_by rules held k a)) ≡ 5 + length (clause_at rules k).body
       unfolding row_by chosen
       row_long k a h r =
           let e = ap length (row_places k a h r) in
@@ -229,11 +225,11 @@ module _ (B : Book) (preds clauses : ℕ) (rules own table : List ℕ) (l : Lent
           let c = ap (λ (d : Clause). length d.body) (here k h) in
           omega arith
 
-      cell_long : (p a : ℕ) → p < max_predicates → marked_at words p a ≡ true → length (clause_rows rules table (get_or own p 0) a) ≡ rows_length rules (get_or own p 0)
+      cell_long : (p a : ℕ) → p < max_predicates → marked_at words p a ≡ true → length (clause_rows rules held (get_or own p 0) a) ≡ rows_length rules (get_or own p 0)
       unfolding clause_rows rows_length
       cell_long p a q e =
-          length_joined (λ k. cond (bit_at (get_or own p 0) k) (enc_row (row_by rules table k a)) []) max_clauses
-          ∙ sum_cong (λ k. length (cond (bit_at (get_or own p 0) k) (enc_row (row_by rules table k a)) [])) (λ k. cond (bit_at (get_or own p 0) k) (5 + length (clause_at rules k).body) 0) max_clauses
+          length_joined (λ k. cond (bit_at (get_or own p 0) k) (enc_row (row_by rules held k a)) []) max_clauses
+          ∙ sum_cong (λ k. length (cond (bit_at (get_or own p 0) k) (enc_row (row_by rules held k a)) [])) (λ k. cond (bit_at (get_or own p 0) k) (5 + length (clause_at rules k).body) 0) max_clauses
           (λ k h. by_bool (bit_at (get_or own p 0) k)
           (λ t.
           let w = sym (l.owns p q k) ∙ t in
@@ -242,11 +238,11 @@ module _ (B : Book) (preds clauses : ℕ) (rules own table : List ℕ) (l : Lent
           rw t (row_long k a n (subst (λ (r : ℕ). Reaches B (chosen B) r a) (sym s) (reaches_mark p a e))))
           (λ t. rw t))
 
-      predicate_long : (p : ℕ) → p < max_predicates → length (pattern_rows rules table (get_or own p 0) (get_or words p 0)) ≡ rows_length rules (get_or own p 0) * length (members (get_or words p 0))
+      predicate_long : (p : ℕ) → p < max_predicates → length (pattern_rows rules held (get_or own p 0) (get_or words p 0)) ≡ rows_length rules (get_or own p 0) * length (members (get_or words p 0))
       unfolding pattern_rows members
       predicate_long p q =
-          length_joined (λ a. cond (bit_at (get_or words p 0) a) (clause_rows rules table (get_or own p 0) a) []) all_patterns
-          ∙ sum_cong (λ a. length (cond (bit_at (get_or words p 0) a) (clause_rows rules table (get_or own p 0) a) [])) (λ a. cond (bit_at (get_or words p 0) a) (rows_length rules (get_or own p 0)) 0) all_patterns
+          length_joined (λ a. cond (bit_at (get_or words p 0) a) (clause_rows rules held (get_or own p 0) a) []) all_patterns
+          ∙ sum_cong (λ a. length (cond (bit_at (get_or words p 0) a) (clause_rows rules held (get_or own p 0) a) [])) (λ a. cond (bit_at (get_or words p 0) a) (rows_length rules (get_or own p 0)) 0) all_patterns
           (λ a h. by_bool (bit_at (get_or words p 0) a) (λ t. rw t (cell_long p a q t)) (λ t. rw t))
           ∙ sum_each (rows_length rules (get_or own p 0)) (bit_at (get_or words p 0)) all_patterns
 
@@ -255,65 +251,51 @@ module _ (B : Book) (preds clauses : ℕ) (rules own table : List ℕ) (l : Lent
       plan_long =
           let q = (chosen_choice (final B) B).query·.long in
           let c = ap length l.query· in
-          let r = length_joined (λ p. pattern_rows rules table (get_or own p 0) (get_or words p 0)) preds in
-          let s = sum_cong (λ p. length (pattern_rows rules table (get_or own p 0) (get_or words p 0))) (λ p. rows_length rules (get_or own p 0) * length (members (get_or words p 0))) preds
+          let r = length_joined (λ p. pattern_rows rules held (get_or own p 0) (get_or words p 0)) preds in
+          let s = sum_cong (λ p. length (pattern_rows rules held (get_or own p 0) (get_or words p 0))) (λ p. rows_length rules (get_or own p 0) * length (members (get_or words p 0))) preds
           (λ p h. predicate_long p (let f = few_preds in omega arith)) in
           let t = ap length rows_all in
           let u = length-append (enc_query (chosen B).for_query) (run enc_row (plan_rows B)) in
           omega arith
 
--- ---- what the code gives
+  -- ---- what the code gives, by the order that it finds for the query
 
-module _ (B : Book) (preds clauses : ℕ) (rules own table : List ℕ) (l : Lent B preds clauses rules own table) where
-  -- the order that the code finds for the query
-  abbrev first : Option (List ℕ)
-  first = first_good (table_in table max_predicates) (clause_at rules max_clauses).body nothing
+  -- there is none: 7
+  pub given_none : none ≡ first_good held (clause_at rules max_clauses).body nothing → planned B ≡ refused 7 0
+  given_none e = planned_none B (ap is_some (sym query_order) ∙ ap is_some (sym e))
 
-  -- no order was found: 7
-  pub given_none : none ≡ first → planned B ≡ refused 7 0
-  given_none e = planned_none B (ap is_some (sym (query_order B preds clauses rules own table l)) ∙ ap is_some (sym e))
+  -- there is one: a plan, as long as it was measured
+  module _ (q : Order) (e : some (places_of q) ≡ first_good held (clause_at rules max_clauses).body nothing) (words : List ℕ) (m : ReachedIn rules clauses held words) where
+    abbrev bytes : List ℕ
+    bytes = plan_bytes (places_of q) preds rules held own words
 
-  -- one was: a plan
-  module _ (q : Order) (e : some (places_of q) ≡ first) (words : List ℕ) (m : ReachedIn rules clauses table words) (n : ℕ) (size : n ≡ plan_length preds rules own words) where
     given_some : is_some (first_good (final B) B.query nothing) ≡ true
-    given_some = ap is_some (sym (query_order B preds clauses rules own table l)) ∙ ap is_some (sym e)
+    given_some = ap is_some (sym query_order) ∙ ap is_some (sym e)
 
-    given_bytes : plan_bytes (places_of q) preds rules table own words ≡ image B
-    given_bytes = plan_bytes_lem B preds clauses rules own table l given_some words m (places_of q) (ap or_none e)
+    given_bytes : bytes ≡ image B
+    given_bytes = plan_bytes_lem given_some words m (places_of q) (ap or_none e)
 
-    given_size : n ≡ length (image B)
-    given_size = size ∙ plan_long B preds clauses rules own table l given_some words m
+    pub given_plan : planned B ≡ done 0 bytes
+    given_plan = planned_good B given_some ∙ ap (done 0) (sym given_bytes)
 
-    -- there is room for it
-    pub given_room : (out : List ℕ) → n ≤ length out → Room out 0 (plan_bytes (places_of q) preds rules table own words)
-    given_room out h = let z = given_size in let b = ap length given_bytes in omega arith
-
-    -- 9, or the plan with its length
-    module _ (room : ℕ) {r : Reply} (g : r ≡ in_room n 0 room) {out : List ℕ} where
-      pub given_short : length out ≤ room → (r.number ≡ 0 → ⊥) → Answers (planned B) out r out
-      given_short h z = rw (planned_good B given_some) (answers_short n 0 room g (image B) given_size h z)
-
-      pub given_done : {after : List ℕ} {next : ℕ} → room ≤ length out → (r.number ≡ 9 → ⊥)
-          → Wrote out after 0 next (plan_bytes (places_of q) preds rules table own words) → Answers (planned B) out r after
-      given_done h f w = rw (planned_good B given_some) (answers_done n 0 room g (image B) given_size h f (w.is ∙ ap (sets out 0) given_bytes))
+    pub given_size : plan_length preds rules own words ≡ length bytes
+    given_size = plan_long given_some words m ∙ ap length (sym given_bytes)
 
 -- ---- a book that was read, and settled
 
-pub lent_read : {s : List ℕ} {r : Reading} {arities modes rules : List ℕ} (b : BookHeld s r arities modes rules) {own masks table : List ℕ} {k : ℕ}
-    → Settled (book_in r.preds arities modes r.clauses rules) r.clauses rules own masks table k
-    → Lent (book_in r.preds arities modes r.clauses rules) r.preds r.clauses rules own table
+pub lent_read : {s : List ℕ} {given k : ℕ} {b : RuleBook} {needs : Needs} → BookHeld s given b → Settles b needs k → Lending (book_of b) b needs
 unfolding book_in
-lent_read {s} {r} {arities} {modes} {rules} b {own} {masks} {table} t =
-    let few = b.few in
-    let e : min r.clauses max_clauses ≡ r.clauses = omega arith in
+lent_read {needs = needs} r settles =
+    let h = read_held r in
+    let t = settles _ h in
     record {
-      well = read_well b;
-      preds· = b.listed.each;
-      few = few;
-      clauses· = ap (clauses_of rules) e;
+      well = h.well;
+      preds· = h.preds·;
+      few = h.few;
+      clauses· = h.clauses·;
       query· = refl;
       owns = t.owns;
-      masks = masks;
-      final· = ap (table_in masks) (sym b.listed.each) ∙ t.final·;
+      masks = needs.table.masks;
+      final· = ap (table_in needs.table.masks) (sym h.preds·) ∙ t.final·;
       admitted = t.admitted;
     }

@@ -10,10 +10,9 @@ use lib.ListN.{length}
 use Rattle.masks.specs.Limits.{all_patterns}
 use Rattle.masks.specs.Lists.{joined}
 use Rattle.masks.specs.Set.{bit_at, members}
-use Rattle.book.specs.Limits.{max_predicates}
 use Rattle.book.specs.Book.{Head}
 use Rattle.book.specs.Held.{head_in, clause_at}
-use Rattle.book.specs.Table.{table_in}
+use Rattle.book.specs.Table.{Table}
 use Rattle.ordering.specs.Adorn.{head_bound}
 use Rattle.ordering.specs.Good.{first_good}
 use Rattle.ordering.specs.Held.{bound_of, or_none}
@@ -22,16 +21,16 @@ use Rattle.choices.specs.Plan.{enc_row}
 use Rattle.plan.specs.Lent.{row_by}
 use Rattle.masks.proofs.Laws.Loops.{Over, over_start, over_end, over_small, over_member, over_here, over_next}
 use Rattle.writing.proofs.Laws.Wrote.{wrote_as}
-use Rattle.writing.proofs.Laws.Chunks.{Writing, joined_chunks, writing_start, writing_length, writing_room, writing_next, writing_none, writing_end}
+use Rattle.writing.proofs.Laws.Chunks.{Writing, joined_chunks, writing_start, writing_room, writing_next, writing_none, writing_end}
 
 -- clause k under a head pattern: its head, what that binds, and the order found, if there is one
-pub row_found : (rules table : List ℕ) (k a head bound : ℕ) (o : Option (List ℕ)) → head_in head ≡ (clause_at rules k).head
-    → bound_of bound ≡ head_bound (head_in head).args a → o ≡ first_good (table_in table max_predicates) (clause_at rules k).body (bound_of bound)
-    → 67 ∷ 79 ∷ k ∷ a ∷ length (or_none o) ∷ or_none o ≡ enc_row (row_by rules table k a)
+pub row_found : (rules : List ℕ) (T : Table) (k a head bound : ℕ) (o : Option (List ℕ)) → head_in head ≡ (clause_at rules k).head
+    → bound_of bound ≡ head_bound (head_in head).args a → o ≡ first_good T (clause_at rules k).body (bound_of bound)
+    → 67 ∷ 79 ∷ k ∷ a ∷ length (or_none o) ∷ or_none o ≡ enc_row (row_by rules T k a)
 unfolding row_by
-row_found rules table k a head bound o d e f =
+row_found rules T k a head bound o d e f =
     ap (λ (σ : List ℕ). 67 ∷ 79 ∷ k ∷ a ∷ length σ ∷ σ)
-    (ap or_none (f ∙ ap (first_good (table_in table max_predicates) (clause_at rules k).body) (e ∙ ap (λ (h : Head). head_bound h.args a) d)))
+    (ap or_none (f ∙ ap (first_good T (clause_at rules k).body) (e ∙ ap (λ (h : Head). head_bound h.args a) d)))
 
 -- ---- the loops over the members of a set that write the rows of each
 
@@ -57,9 +56,6 @@ module _ {set : ℕ} {rows : ℕ → List ℕ} {out : List ℕ} {at : ℕ} where
   module _ {left now : List ℕ} {p : ℕ} (m : Rows set rows out at left now p) where
     abbrev P : ℕ → Type 0
     P = Below set rows out at now p
-
-    pub rows_same : length now ≡ length out
-    rows_same = writing_length (m.over.done m.over.most)
 
     skip : (i : ℕ) → bit_at set i ≡ false → P i → P (suc i)
     skip i t w h = let v = writing_none (w (omega arith)) h (rw t) in rw add-one at v

@@ -7,16 +7,15 @@ use Prim.Native.Nat.{ℕ, ◌^◌, ◌<◌}
 use lib.Bits.{bit_or}
 use lib.Dec.{eqb}
 use lib.ListN.{length, get_or, set}
-use Rattle.book.specs.Limits.{max_predicates}
-use Rattle.book.specs.Book.{Head}
-use Rattle.book.specs.Held.{head_in, clause_at}
-use Rattle.book.specs.Table.{table_in}
+use Rattle.book.specs.Book.{Head, Clause}
+use Rattle.book.specs.Held.{head_in}
+use Rattle.book.specs.Table.{Table}
 use Rattle.ordering.specs.Adorn.{Bound, head_bound}
 use Rattle.ordering.specs.Good.{first_good}
 use Rattle.ordering.specs.Asks.{Asked, asks, called}
 use Rattle.ordering.specs.Held.{or_none}
 use Rattle.ordering.specs.declared.order.Order.{Order}
-use Rattle.reach.specs.Marked.{marked_at, Marked, Found, calls_by, clause_by}
+use Rattle.reach.specs.Marked.{marked_at, Marked, Found, calls_by}
 use Rattle.masks.proofs.Laws.Lists.{any_append}
 use Rattle.masks.proofs.Laws.Set.{bit_at_zero, bit_at_or, bit_at_power, eqb_comm}
 use Rattle.book.proofs.Laws.Sets.{stored_more}
@@ -50,17 +49,14 @@ marked_one words p a h = record {
 }
 
 -- the calls of a clause, by its head as it was read and what that binds
-pub found_clause : (rules table : List ℕ) (k a head : ℕ) {b : Bound} {o : Order} → head_in head ≡ (clause_at rules k).head → b ≡ head_bound (head_in head).args a
-    → Found (table_in table max_predicates) (clause_at rules k).body b o
-    → Found (table_in table max_predicates) (clause_at rules k).body (head_bound (clause_at rules k).head.args a) o
-found_clause rules table k a head {o = o} e f =
-    subst (λ (c : Bound). Found (table_in table max_predicates) (clause_at rules k).body c o) (f ∙ ap (λ (c : Head). head_bound c.args a) e)
+pub found_clause : (T : Table) (c : Clause) (a head : ℕ) {b : Bound} {o : Order} → head_in head ≡ c.head → b ≡ head_bound (head_in head).args a
+    → Found T c.body b o → Found T c.body (head_bound c.head.args a) o
+found_clause T c a head {o = o} e f = subst (λ (b : Bound). Found T c.body b o) (f ∙ ap (λ (h : Head). head_bound h.args a) e)
 
 -- where there is no such order, the clause has no calls
-pub found_none : (rules table : List ℕ) (k a head : ℕ) {b : Bound} → head_in head ≡ (clause_at rules k).head → b ≡ head_bound (head_in head).args a
-    → none ≡ first_good (table_in table max_predicates) (clause_at rules k).body b → clause_by rules table k a ≡ []
+pub found_none : (T : Table) (c : Clause) (a head : ℕ) {b : Bound} → head_in head ≡ c.head → b ≡ head_bound (head_in head).args a
+    → none ≡ first_good T c.body b → calls_by T c.body (head_bound c.head.args a) ≡ []
 unfolding calls_by asks
-found_none rules table k a head e f g =
-    ap (λ (c : Bound). asks (clause_at rules k).body c (or_none (first_good (table_in table max_predicates) (clause_at rules k).body c)))
-    (sym (f ∙ ap (λ (c : Head). head_bound c.args a) e))
+found_none T c a head e f g =
+    ap (λ (b : Bound). asks c.body b (or_none (first_good T c.body b))) (sym (f ∙ ap (λ (h : Head). head_bound h.args a) e))
     ∙ rw (← g) refl

@@ -27,9 +27,9 @@ use Rattle.reach.proofs.Laws.Marked.{marked_nil, marked_append, marked_one}
 
 -- ---- a call that is read at a place of an order
 
-pub call_low : (body : List Call) (o : Order) → SomeFound body o → callable body ≡ true → (i : ℕ) → i < length (places_of o) → (s : ℕ) {p : ℕ}
+pub call_low : {body : List Call} {o : Order} → SomeFound body o → callable body ≡ true → (i : ℕ) → i < length (places_of o) → (s : ℕ) {p : ℕ}
     → call_in s ≡ get_or body (get_or o.places i 0) no_call → p ≡ (call_in s).pred → p < max_predicates
-call_low body o f t i h s e d = let l = pred_read body _ e t (order_below f.0 body f.1 o f.2.first i h) in omega arith
+call_low {body} {o} f t i h s e d = let l = pred_read body _ e t (order_below f.0 body f.1 o f.2.first i h) in omega arith
 
 -- ---- the loop: the first i calls are marked
 

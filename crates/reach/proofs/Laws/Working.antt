@@ -17,7 +17,7 @@ use Rattle.masks.specs.Set.{bit_at}
 use Rattle.book.specs.Limits.{max_predicates, max_clauses}
 use Rattle.book.specs.Book.{Call, Clause, no_clause, Book}
 use Rattle.book.specs.Held.{clause_at, clauses_of}
-use Rattle.book.specs.Table.{table_in}
+use Rattle.book.specs.Table.{Table}
 use Rattle.book.specs.Sets.{Cleared, Owns, Known, Callable}
 use Rattle.ordering.specs.Adorn.{nothing, head_bound}
 use Rattle.ordering.specs.Asks.{Asked, called}
@@ -53,49 +53,49 @@ module _ (p : Asked → Bool) (set : ℕ) (f : ℕ → List Asked) (n : ℕ) whe
 
 -- ---- a book that has the clauses and the query of the array
 
-abbrev query_by : List ℕ → List ℕ → List Asked
-query_by rules table = calls_by (table_in table max_predicates) (clause_at rules max_clauses).body nothing
+abbrev query_by : List ℕ → Table → List Asked
+query_by rules T = calls_by T (clause_at rules max_clauses).body nothing
 
 pub book_clause : (B : Book) (rules : List ℕ) (n : ℕ) → B.clauses ≡ clauses_of rules n → (k : ℕ) → k < n → clause B k ≡ clause_at rules k
 unfolding clause
 book_clause B rules n e = clause_is B rules n e no_clause
 
-module _ (rules table : List ℕ) (n : ℕ) (B : Book) (e : B.clauses ≡ clauses_of rules n) (f : B.query ≡ (clause_at rules max_clauses).body) where
-  book_query : query_calls B (taken (table_in table max_predicates) B) ≡ query_by rules table
+module _ (rules : List ℕ) (T : Table) (n : ℕ) (B : Book) (e : B.clauses ≡ clauses_of rules n) (f : B.query ≡ (clause_at rules max_clauses).body) where
+  book_query : query_calls B (taken T B) ≡ query_by rules T
   unfolding query_calls taken calls_by
-  book_query = ap (λ (body : List Call). calls_by (table_in table max_predicates) body nothing) f
+  book_query = ap (λ (body : List Call). calls_by T body nothing) f
 
-  book_calls : (k a : ℕ) → k < n → clause_calls B (taken (table_in table max_predicates) B) k a ≡ clause_by rules table k a
+  book_calls : (k a : ℕ) → k < n → clause_calls B (taken T B) k a ≡ clause_by rules T k a
   unfolding clause_calls taken calls_by
-  book_calls k a h = ap (λ (c : Clause). calls_by (table_in table max_predicates) c.body (head_bound c.head.args a)) (book_clause B rules n e k h)
+  book_calls k a h = ap (λ (c : Clause). calls_by T c.body (head_bound c.head.args a)) (book_clause B rules n e k h)
 
 -- ---- the calls of clauses under patterns
 
-module _ (p : Asked → Bool) (rules table : List ℕ) (own patterns : ℕ) where
-  any_calls : any p (patterns_by rules table own patterns) ≡ true
-      → (a : ℕ) × (k : ℕ) × (bit_at patterns a ≡ true) × (bit_at own k ≡ true) × (any p (clause_by rules table k a) ≡ true)
+module _ (p : Asked → Bool) (rules : List ℕ) (T : Table) (own patterns : ℕ) where
+  any_calls : any p (patterns_by rules T own patterns) ≡ true
+      → (a : ℕ) × (k : ℕ) × (bit_at patterns a ≡ true) × (bit_at own k ≡ true) × (any p (clause_by rules T k a) ≡ true)
   unfolding patterns_by clauses_by
   any_calls e =
-      let r = any_some p patterns (clauses_by rules table own) all_patterns e in
-      let s = any_some p own (λ k. clause_by rules table k r.0) max_clauses r.2 in
+      let r = any_some p patterns (clauses_by rules T own) all_patterns e in
+      let s = any_some p own (λ k. clause_by rules T k r.0) max_clauses r.2 in
       (r.0, s.0, r.1, s.1, s.2)
 
-  calls_any : (a k : ℕ) → a < all_patterns → k < max_clauses → bit_at patterns a ≡ true → bit_at own k ≡ true → any p (clause_by rules table k a) ≡ true
-      → any p (patterns_by rules table own patterns) ≡ true
+  calls_any : (a k : ℕ) → a < all_patterns → k < max_clauses → bit_at patterns a ≡ true → bit_at own k ≡ true → any p (clause_by rules T k a) ≡ true
+      → any p (patterns_by rules T own patterns) ≡ true
   unfolding patterns_by clauses_by
   calls_any a k h l t u e =
-      some_any p patterns (clauses_by rules table own) all_patterns a h t (some_any p own (λ k. clause_by rules table k a) max_clauses k l u e)
+      some_any p patterns (clauses_by rules T own) all_patterns a h t (some_any p own (λ k. clause_by rules T k a) max_clauses k l u e)
 
 -- no pattern, no call
-calls_none : (rules table : List ℕ) (own patterns : ℕ) {before after : List ℕ} {names : ℕ} → patterns ≡ 0
-    → Marked before after names (patterns_by rules table own patterns) → names ≡ 0
-calls_none rules table own patterns {names = names} z m =
+calls_none : (rules : List ℕ) (T : Table) (own patterns : ℕ) {before after : List ℕ} {names : ℕ} → patterns ≡ 0
+    → Marked before after names (patterns_by rules T own patterns) → names ≡ 0
+calls_none rules T own patterns {names = names} z m =
     no_members names
     (λ q.
     m.names· q
     ∙ false_of
     (λ t.
-    let r = any_calls (λ (x : Asked). eqb x.pred q) rules table own patterns t in
+    let r = any_calls (λ (x : Asked). eqb x.pred q) rules T own patterns t in
     clash r.2 (ap (λ (w : ℕ). bit_at w r.0) z ∙ bit_at_zero r.0)))
 
 -- ---- a predicate's own clauses
@@ -125,44 +125,44 @@ module _ (words : List ℕ) (e : length words ≡ max_predicates) (c : Cleared w
 gone_none : (q b : ℕ) → marked_at (replicate max_predicates 0) q b ≡ false
 gone_none = marked_none (replicate max_predicates 0) (length-replicate {A = ℕ} max_predicates 0) cleared_zeros
 
-pub record Working (rules table : List ℕ) (n : ℕ) (reached gone : List ℕ) (work : ℕ) : Type 0 where
+pub record Working (rules : List ℕ) (T : Table) (n : ℕ) (reached gone : List ℕ) (work : ℕ) : Type 0 where
   pub small : work < 2 ^ max_predicates
   pub size : length gone ≡ max_predicates
   pub reaches : (B : Book) → B.clauses ≡ clauses_of rules n → B.query ≡ (clause_at rules max_clauses).body
-      → (q b : ℕ) → marked_at reached q b ≡ true → Reaches B (taken (table_in table max_predicates) B) q b
-  pub query· : (q b : ℕ) → called q b (query_by rules table) ≡ true → marked_at reached q b ≡ true
-  pub clauses· : (k a q b : ℕ) → k < n → marked_at gone (clause_at rules k).head.pred a ≡ true → called q b (clause_by rules table k a) ≡ true
+      → (q b : ℕ) → marked_at reached q b ≡ true → Reaches B (taken T B) q b
+  pub query· : (q b : ℕ) → called q b (query_by rules T) ≡ true → marked_at reached q b ≡ true
+  pub clauses· : (k a q b : ℕ) → k < n → marked_at gone (clause_at rules k).head.pred a ≡ true → called q b (clause_by rules T k a) ≡ true
       → marked_at reached q b ≡ true
   pub within : (p : ℕ) → Within (get_or gone p 0) (get_or reached p 0)
   pub left : (p a : ℕ) → marked_at reached p a ≡ true → marked_at gone p a ≡ false → bit_at work p ≡ true
 
 -- the query's calls are marked, and nothing is gone over
-pub working_start : {rules table : List ℕ} {n : ℕ} {before reached : List ℕ} {names : ℕ} → names < 2 ^ max_predicates
-    → length before ≡ max_predicates → Cleared before → Marked before reached names (query_by rules table)
-    → Working rules table n reached (replicate max_predicates 0) names
-working_start {rules} {table} {n} {before} {reached} {names} s z c m = record {
+pub working_start : {rules : List ℕ} {T : Table} {n : ℕ} {before reached : List ℕ} {names : ℕ} → names < 2 ^ max_predicates
+    → length before ≡ max_predicates → Cleared before → Marked before reached names (query_by rules T)
+    → Working rules T n reached (replicate max_predicates 0) names
+working_start {rules} {T} {n} {before} {reached} {names} s z c m = record {
   small = s;
   size = length-replicate {A = ℕ} max_predicates 0;
-  reaches = λ B e f q b t. by_query (ap (called q b) (book_query rules table n B e f) ∙ sym (is q b) ∙ t);
+  reaches = λ B e f q b t. by_query (ap (called q b) (book_query rules T n B e f) ∙ sym (is q b) ∙ t);
   query· = λ q b t. is q b ∙ t;
   clauses· = λ k a q b h t u. clash t (gone_none (clause_at rules k).head.pred a);
   within = λ p a t. clash t (gone_none p a);
-  left = λ p a t u. m.names· p ∙ called_pred p a (query_by rules table) (sym (is p a) ∙ t);
+  left = λ p a t u. m.names· p ∙ called_pred p a (query_by rules T) (sym (is p a) ∙ t);
 }
   where
-    is : (q b : ℕ) → marked_at reached q b ≡ called q b (query_by rules table)
-    is q b = m.marks q b ∙ ap (λ (x : Bool). x || called q b (query_by rules table)) (marked_none before z c q b)
+    is : (q b : ℕ) → marked_at reached q b ≡ called q b (query_by rules T)
+    is q b = m.marks q b ∙ ap (λ (x : Bool). x || called q b (query_by rules T)) (marked_none before z c q b)
 
 -- a turn for predicate p: `all` are its marks, and the calls under those that are new are marked
-pub record Step (rules table : List ℕ) (n : ℕ) (own reached gone : List ℕ) (p all : ℕ) (after : List ℕ) (names : ℕ) : Type 0 where
+pub record Step (rules : List ℕ) (T : Table) (n : ℕ) (own reached gone : List ℕ) (p all : ℕ) (after : List ℕ) (names : ℕ) : Type 0 where
   pub owns : Owns rules n own
   pub few : n ≤ max_clauses
   pub is : all ≡ get_or reached p 0
   pub small : all < 2 ^ all_patterns
   pub called· : names < 2 ^ max_predicates
-  pub marked : Marked reached after names (patterns_by rules table (get_or own p 0) (bit_xor all (get_or gone p 0)))
+  pub marked : Marked reached after names (patterns_by rules T (get_or own p 0) (bit_xor all (get_or gone p 0)))
 
-module _ {rules table : List ℕ} {n : ℕ} {reached gone : List ℕ} {work : ℕ} (w : Working rules table n reached gone work) where
+module _ {rules : List ℕ} {T : Table} {n : ℕ} {reached gone : List ℕ} {work : ℕ} (w : Working rules T n reached gone work) where
   -- with no work left
   module _ (z : work ≡ 0) (B : Book) (e : B.clauses ≡ clauses_of rules n) (f : B.query ≡ (clause_at rules max_clauses).body) where
     -- a mark is gone over
@@ -170,18 +170,18 @@ module _ {rules table : List ℕ} {n : ℕ} {reached gone : List ℕ} {work : �
     closed p a t = by_bool (marked_at gone p a) (λ u. u) (λ u. clash (w.left p a t u) (ap (λ (x : ℕ). bit_at x p) z ∙ bit_at_zero p))
 
     -- so the marks are closed
-    reached_marked : (q b : ℕ) → Reaches B (taken (table_in table max_predicates) B) q b → marked_at reached q b ≡ true
+    reached_marked : (q b : ℕ) → Reaches B (taken T B) q b → marked_at reached q b ≡ true
     reached_marked q b r =
-        closed_reaches B (taken (table_in table max_predicates) B) (marked_at reached)
-        (λ q b t. w.query· q b (ap (called q b) (sym (book_query rules table n B e f)) ∙ t))
+        closed_reaches B (taken T B) (marked_at reached)
+        (λ q b t. w.query· q b (ap (called q b) (sym (book_query rules T n B e f)) ∙ t))
         (λ k a q b h t u.
         let l : k < n = let s = clauses_count B rules n e in omega arith in
         let c = book_clause B rules n e k l in
         w.clauses· k a q b l (closed (clause_at rules k).head.pred a (ap (λ (d : Clause). marked_at reached d.head.pred a) (sym c) ∙ t))
-        (ap (called q b) (sym (book_calls rules table n B e f k a l)) ∙ u))
+        (ap (called q b) (sym (book_calls rules T n B e f k a l)) ∙ u))
         r
 
-  pub working_end : work ≡ 0 → ReachedIn rules n table reached
+  pub working_end : work ≡ 0 → ReachedIn rules n T reached
   working_end z B e f p a = (w.reaches B e f p a, reached_marked z B e f p a)
 
   -- else the lowest predicate that has some has its turn
@@ -192,12 +192,12 @@ module _ {rules table : List ℕ} {n : ℕ} {reached gone : List ℕ} {work : �
     pub working_low : p < max_predicates
     working_low = (lowest max_predicates work w.small z).small
 
-    module _ {own : List ℕ} {all : ℕ} {after : List ℕ} {names : ℕ} (t : Step rules table n own reached gone p all after names) where
+    module _ {own : List ℕ} {all : ℕ} {after : List ℕ} {names : ℕ} (t : Step rules T n own reached gone p all after names) where
       abbrev new : ℕ
       new = bit_xor all (get_or gone p 0)
 
       abbrev calls : List Asked
-      calls = patterns_by rules table (get_or own p 0) new
+      calls = patterns_by rules T (get_or own p 0) new
 
       abbrev next : List ℕ
       next = set gone p all
@@ -232,22 +232,22 @@ module _ {rules table : List ℕ} {n : ℕ} {reached gone : List ℕ} {work : �
 
       -- a call is reached
       made : (B : Book) → B.clauses ≡ clauses_of rules n → B.query ≡ (clause_at rules max_clauses).body
-          → (q b : ℕ) → called q b calls ≡ true → Reaches B (taken (table_in table max_predicates) B) q b
+          → (q b : ℕ) → called q b calls ≡ true → Reaches B (taken T B) q b
       made B e f q b u =
-          let r = any_calls (λ (x : Asked). eqb x.pred q && eqb x.pattern b) rules table (get_or own p 0) new u in
+          let r = any_calls (λ (x : Asked). eqb x.pred q && eqb x.pattern b) rules T (get_or own p 0) new u in
           let a = r.0 in
           let k = r.1 in
           let c = own_clause rules n own t.owns p working_low k r.3 in
           let l = c.0 in
           let s = clauses_count B rules n e in
           by_clause {a = a} k (omega arith)
-          (subst (λ (i : ℕ). Reaches B (taken (table_in table max_predicates) B) i a)
+          (subst (λ (i : ℕ). Reaches B (taken T B) i a)
           (sym (ap (λ (d : Clause). d.head.pred) (book_clause B rules n e k l) ∙ c.1))
           (w.reaches B e f p a (ap (λ (x : ℕ). bit_at x a) (sym t.is) ∙ new_in all (get_or gone p 0) grown a r.2)))
-          (ap (called q b) (book_calls rules table n B e f k a l) ∙ r.4)
+          (ap (called q b) (book_calls rules T n B e f k a l) ∙ r.4)
 
       -- a clause under a pattern that is gone over: its calls are marked
-      over : (k a q b : ℕ) → k < n → marked_at next (clause_at rules k).head.pred a ≡ true → called q b (clause_by rules table k a) ≡ true
+      over : (k a q b : ℕ) → k < n → marked_at next (clause_at rules k).head.pred a ≡ true → called q b (clause_by rules T k a) ≡ true
           → marked_at after q b ≡ true
       over k a q b l u v =
           let i = (clause_at rules k).head.pred in
@@ -260,7 +260,7 @@ module _ {rules table : List ℕ} {n : ℕ} {reached gone : List ℕ} {work : �
           by_bool (marked_at gone p a) (λ g. kept q b (w.clauses· k a q b l (ap (λ (r : ℕ). marked_at gone r a) d ∙ g) v))
           (λ g.
           added q b
-          (calls_any (λ (x : Asked). eqb x.pred q && eqb x.pattern b) rules table (get_or own p 0) new a k
+          (calls_any (λ (x : Asked). eqb x.pred q && eqb x.pattern b) rules T (get_or own p 0) new a k
           (member_below all_patterns all a t.small j) (omega arith) (in_new all (get_or gone p 0) a j g)
           (clause_own rules n own t.owns p working_low k l d) v)))
           (λ s. kept q b (w.clauses· k a q b l (sym (there i a (eqb-false i p s)) ∙ u) v))
@@ -278,7 +278,7 @@ module _ {rules table : List ℕ} {n : ℕ} {reached gone : List ℕ} {work : �
           let s = w.small in
           or_lt max_predicates (bit_and work (work - 1)) names (omega arith) t.called·
 
-      pub working_next : Working rules table n after (set gone p all) (bit_or (bit_and work (work - 1)) names)
+      pub working_next : Working rules T n after (set gone p all) (bit_or (bit_and work (work - 1)) names)
       working_next = record {
         small = more_small;
         size = length-set gone p all ∙ w.size;
@@ -302,7 +302,7 @@ module _ {rules table : List ℕ} {n : ℕ} {reached gone : List ℕ} {work : �
           let i = eqb-true new 0 s in
           let same = ap space (ap (set gone p) (new_none all (get_or gone p 0) i) ∙ set-get_or gone p 0) in
           let fewer =
-          ap (bit_or (bit_and work (work - 1))) (calls_none rules table (get_or own p 0) new i t.marked) ∙ or_zero_r (bit_and work (work - 1)) in
+          ap (bit_or (bit_and work (work - 1))) (calls_none rules T (get_or own p 0) new i t.marked) ∙ or_zero_r (bit_and work (work - 1)) in
           let l = others_less work z in
           omega arith)
           (λ s.

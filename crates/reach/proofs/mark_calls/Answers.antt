@@ -4,55 +4,47 @@ use native.Mathlib.Omega.{arith}
 use lib.ListN.{length, length-take}
 use borrow.Author.Rules.{rules}
 use Rattle.book.specs.Limits.{max_subgoals}
-use Rattle.book.specs.Held.{clause_at}
 use Rattle.ordering.proofs.Laws.Patterns.{order_below, pattern_low}
 use Rattle.reach.proofs.Laws.Marking.{call_low, marking_start, marking_next, marking_end}
 use Rattle.reach.proofs.mark_calls.Goals as goal
 
 pub loop-i-init : goal.loop-i-init
 loop-i-init c =
-    let o = c.args.o.now in
+    let o = c.args.order.now in
     let h : length o.places ≡ max_subgoals = search rules in
     let l = length-take o.n o.places in
     record { long = omega (arith, o.few); going = marking_start c.told-reached }
 
-pub subgoal_at-s-requires : goal.subgoal_at-s-requires
-subgoal_at-s-requires c =
-    let f = c.requires.2 in
+pub subgoal-requires : goal.subgoal-requires
+subgoal-requires c =
+    let f = c.requires.1 in
     let e = c.loop-i.invariant.long in
-    (c.requires.0, order_below f.0 (clause_at c.args.rules.now c.args.k).body f.1 c.args.o.now f.2.first c.loop-i.i (omega arith))
+    order_below f.0 c.args.clause.now.body f.1 c.args.order.now f.2.first c.loop-i.i (omega arith)
 
 pub bounds-reached-q : goal.bounds-reached-q
-bounds-reached-q c =
-    let e = c.loop-i.invariant.long in
-    call_low (clause_at c.args.rules.now c.args.k).body c.args.o.now c.requires.2 c.requires.1 c.loop-i.i (omega arith) _ c.subgoal_at-s.ensures c.predicate-p.ensures
+bounds-reached-q c = call_low c.requires.1 c.requires.0 c.loop-i.i (omega (arith, c.loop-i.invariant.long)) _ c.subgoal.ensures c.predicate-p.ensures
 
 pub with_member-requires : goal.with_member-requires
 with_member-requires c =
-    let f = c.requires.2 in
+    let f = c.requires.1 in
     let e = c.loop-i.invariant.long in
-    pattern_low f.0 (clause_at c.args.rules.now c.args.k).body f.1 c.args.o.now f.2.first f.2.beside c.loop-i.i (omega arith) c.subgoal_at-s.result
-    c.subgoal_at-s.ensures
+    pattern_low f.0 c.args.clause.now.body f.1 c.args.order.now f.2.first f.2.beside c.loop-i.i (omega arith) _ c.subgoal.ensures
 
 pub bounds-reached-q-in-loop-i : goal.bounds-reached-q-in-loop-i
-bounds-reached-q-in-loop-i c =
-    let e = c.loop-i.invariant.long in
-    call_low (clause_at c.args.rules.now c.args.k).body c.args.o.now c.requires.2 c.requires.1 c.loop-i.i (omega arith) _ c.subgoal_at-s.ensures c.predicate-p.ensures
+bounds-reached-q-in-loop-i c = call_low c.requires.1 c.requires.0 c.loop-i.i (omega (arith, c.loop-i.invariant.long)) _ c.subgoal.ensures c.predicate-p.ensures
 
 pub with_member-names-requires : goal.with_member-names-requires
-with_member-names-requires c =
-    let e = c.loop-i.invariant.long in
-    call_low (clause_at c.args.rules.now c.args.k).body c.args.o.now c.requires.2 c.requires.1 c.loop-i.i (omega arith) _ c.subgoal_at-s.ensures c.predicate-p.ensures
+with_member-names-requires c = call_low c.requires.1 c.requires.0 c.loop-i.i (omega (arith, c.loop-i.invariant.long)) _ c.subgoal.ensures c.predicate-p.ensures
 
 pub loop-i-preserved : goal.loop-i-preserved
 loop-i-preserved c =
     let i = c.loop-i.invariant in
     let e = i.long in
-    let l = call_low (clause_at c.args.rules.now c.args.k).body c.args.o.now c.requires.2 c.requires.1 c.loop-i.i (omega arith) _ c.subgoal_at-s.ensures c.predicate-p.ensures in
+    let l = call_low c.requires.1 c.requires.0 c.loop-i.i (omega arith) _ c.subgoal.ensures c.predicate-p.ensures in
     record {
-      long = i.long;
-      going = marking_next c.subgoal_at-s.result i.going (omega arith) c.subgoal_at-s.ensures c.predicate-p.ensures l c.with_member.ensures c.with_member-names.ensures;
+      long = e;
+      going = marking_next _ i.going (omega arith) c.subgoal.ensures c.predicate-p.ensures l c.with_member.ensures c.with_member-names.ensures;
     }
 
 pub returns : goal.returns
-returns c T b found = let i = c.loop-i.invariant in marking_end T (clause_at c.args.rules.now c.args.k).body b c.args.o.now found i.going (sym i.long) (omega arith)
+returns c T b found = let i = c.loop-i.invariant in marking_end T c.args.clause.now.body b c.args.order.now found i.going (sym i.long) (omega arith)

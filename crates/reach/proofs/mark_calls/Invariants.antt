@@ -1,13 +1,12 @@
 -- `reach::mark_calls` meets its contract. The loop's invariant: the calls at the first i places of the order are marked. Assumes nothing.
 use mathlib.Core.Path.{◌≡◌}
 use lib.ListN.{length}
-use Rattle.book.specs.Held.{clause_at}
 use Rattle.ordering.specs.Held.{places_of}
 use Rattle.reach.proofs.Laws.Marking.{Marking}
 use Rattle.reach.proofs.mark_calls.Given as goal
 
 abbrev pub invariant-loop-i : goal.invariant-loop-i
 invariant-loop-i l = record {
-  long : length (places_of l.o) ≡ l.o.n;
-  going : Marking (clause_at l.rules l.k).body l.o.places l.o.patterns l.initial.reached l.o.n l.i l.reached l.names;
+  long : length (places_of l.order) ≡ l.order.n;
+  going : Marking l.clause.body l.order.places l.order.patterns l.initial.reached l.order.n l.i l.reached l.names;
 }

@@ -6,4 +6,4 @@ use Rattle.reach.proofs.Laws.Passing.{Passing}
 use Rattle.reach.proofs.mark_clauses.Given as goal
 
 abbrev pub invariant-loop-k : goal.invariant-loop-k
-invariant-loop-k l = Passing (λ k. clause_by l.rules l.table k l.a) l.own l.initial.reached l.reached l.names (members l.k-iterator.left)
+invariant-loop-k l = Passing (λ k. clause_by l.book.rules l.table k l.a) l.own l.initial.reached l.reached l.names (members l.k-iterator.left)

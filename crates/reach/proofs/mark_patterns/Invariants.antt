@@ -6,4 +6,4 @@ use Rattle.reach.proofs.Laws.Passing.{Passing}
 use Rattle.reach.proofs.mark_patterns.Given as goal
 
 abbrev pub invariant-loop-a : goal.invariant-loop-a
-invariant-loop-a l = Passing (clauses_by l.rules l.table l.own) l.patterns l.initial.reached l.reached l.names (members l.a-iterator.left)
+invariant-loop-a l = Passing (clauses_by l.book.rules l.table l.own) l.patterns l.initial.reached l.reached l.names (members l.a-iterator.left)

@@ -9,14 +9,16 @@ use Rattle.reach.proofs.Laws.Working.{working_start, Step, working_next, working
 use Rattle.reach.proofs.reach.Goals as goal
 
 pub loop-work-init : goal.loop-work-init
-loop-work-init c = working_start (search rules) c.told-reached c.requires.full.2 (c.mark_calls-work.ensures _ _ c.requires.full.1)
+loop-work-init c =
+    let m = rw c.query.ensures at (c.mark_calls-work.ensures) in
+    working_start (search rules) c.told-reached c.requires.found.1 (m _ _ c.requires.found.0)
 
 -- what a turn makes of the marks
 turn : (c : goal.After-mark_patterns-names)
     → let s = c.args in
     let l = c.loop-work in
     let p = count_trailing_zeros 64 l.work in
-    Step s.rules.now s.table.now s.clauses s.own.now l.reached l.gone p (get_or l.reached p 0) c.mark_patterns-names.new.reached c.mark_patterns-names.result
+    Step s.book.now.rules s.table.now s.book.now.clauses s.own.now l.reached l.gone p (get_or l.reached p 0) c.mark_patterns-names.new.reached c.mark_patterns-names.result
 turn c =
     record {
       owns = c.requires.clauses_le_max_clauses.3;

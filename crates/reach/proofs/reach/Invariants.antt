@@ -7,7 +7,7 @@ use Rattle.reach.proofs.Laws.Working.{Working}
 use Rattle.reach.proofs.reach.Given as goal
 
 abbrev pub invariant-loop-work : goal.invariant-loop-work
-invariant-loop-work l = Working l.rules l.table l.clauses l.reached l.gone l.work
+invariant-loop-work l = Working l.book.rules l.table l.book.clauses l.reached l.gone l.work
 
 abbrev pub decreases-loop-work : goal.decreases-loop-work
 decreases-loop-work l = space l.gone * 2 ^ 64 + l.work

@@ -15,7 +15,7 @@ use Rattle.std.specs.Borrow.{Bor}
 use Rattle.book.specs.declared.fault.Fault.TheVariants.{TooMany}
 use Rattle.book.specs.declared.mark.Mark.TheVariants.{Cl}
 use Rattle.book.specs.declared.mark.Phase.{Phase}
-use Rattle.book.specs.declared.mark.Phase.TheVariants.{Clauses, Body}
+use Rattle.book.specs.declared.mark.Phase.TheVariants.{Clauses, Body, Query}
 use Rattle.book.specs.declared.mark.Turn.TheVariants.{Mine}
 use Rattle.book.specs.declared.range.Range.TheVariants.{NoWildcard}
 use Rattle.book.proofs.Laws.Marks.{sole_clauses, in_body}
@@ -144,6 +144,12 @@ module _ (ar whole before : List ℕ) where
           same v d = cc
 
 -- ---- the query
+
+-- it is over where the bytes are
+pub query_over : (s : List ℕ) → length s ≡ 0 → RunEnds Query s (Ok tt)
+unfolding mark_at
+query_over [] e = record { is = refl }
+query_over (x ∷ s) e = absurd (omega arith)
 
 module _ (p : Phase) (is : Bodied p) (ar s : List ℕ) {g : Result (Bor (List ℕ)) FaultFromEnd} {before after : List ℕ} (b : ReadsBody ar (drop 2 s) max_clauses g before after) where
   pub query_bad : {e : FaultFromEnd} → g ≡ Err e → ReadsQuery p ar s (Err e) before after

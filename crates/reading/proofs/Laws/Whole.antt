@@ -4,9 +4,10 @@ use mathlib.Core.List.{List, []}
 use Prim.Native.Nat.{ℕ, ◌-◌, min, ◌≤◌}
 use native.Mathlib.Omega.{arith}
 use lib.ListN.{length, take}
-use mathlib.Core.Bool.{false}
+use mathlib.Core.Bool.{true, false}
 use lib.Seq.{length-take-le}
 use Rattle.masks.specs.Limits.{max_arity}
+use Rattle.masks.specs.Lists.{all}
 use Rattle.book.specs.Limits.{max_predicates, max_clauses}
 use Rattle.book.specs.Book.{Call, Mode, Clause, Book}
 use Rattle.book.specs.Format.{allows, spelling, leads, Got, many, predicate, clause, rules, read_book, fault, book, judged, judge}
@@ -22,7 +23,6 @@ use Rattle.book.proofs.Laws.Got.{each_all, many_inv}
 use Rattle.book.proofs.Laws.Trip.{PredicateFits, predicate_inv, ClauseFits, clause_inv}
 use Rattle.book.proofs.Laws.Held.{clauses_of_before}
 use Rattle.records.specs.declared.fault.FaultFromEnd.{FaultFromEnd}
-use Rattle.records.specs.Arity.{WithinLimits}
 use Rattle.records.specs.Read.{RunEnds, value, rest, alone, Reads}
 use Rattle.reading.specs.declared.Reading.{Reading}
 use Rattle.reading.specs.Stored.{ReadsPredicates, ReadsModes, ReadsClauses, ReadsQuery, ReadsRules}
@@ -51,16 +51,16 @@ predicates_bad arities w = record { reads = w; listed = λ v d. err_ok refl d }
 -- their run is over
 module _ (whole arities : List ℕ) {n : ℕ} {s : List ℕ} (l : (length arities ≡ max_predicates) × Going Predicates predicate max_predicates whole n s (take n arities))
     (mark : leads (spelling Pr) s ≡ false) {g : Result (Unit {0}) FaultFromEnd} (w : RunEnds Predicates s g) where
-  all : Reads (λ u. s) g (λ u. take n arities) (many Predicates predicate max_predicates [] whole)
-  all = going_end Predicates predicate max_predicates whole l.1 (not_mine Predicates Pr s sole_predicates mark) w
+  read_all : Reads (λ u. s) g (λ u. take n arities) (many Predicates predicate max_predicates [] whole)
+  read_all = going_end Predicates predicate max_predicates whole l.1 (not_mine Predicates Pr s sole_predicates mark) w
 
   pub predicates_end_bad : {e : FaultFromEnd} → g ≡ Err e → ReadsPredicates whole (Err e) arities
-  predicates_end_bad e = predicates_bad arities (reads_fault all e)
+  predicates_end_bad e = predicates_bad arities (reads_fault read_all e)
 
   pub predicates_end : {u : Unit {0}} → g ≡ Ok u → {end : Bor (List ℕ)} → end.now ≡ s → ReadsPredicates whole (Ok (n, end)) arities
   predicates_end e {end} z =
       record {
-        reads = reads_as all e z refl;
+        reads = reads_as read_all e z refl;
         listed =
             λ v d.
             rw (same v d)
@@ -81,10 +81,10 @@ module _ (s : List ℕ) {p : Result (ℕ × Bor (List ℕ)) FaultFromEnd} {ariti
   whole_bad {e} d = judged_fault {left = alone} s {b = none} (then_bad w.reads _ d) refl
 
   module _ {v : ℕ × Bor (List ℕ)} (d : p ≡ Ok v) where
-    pub whole_arities : WithinLimits (take (value v) arities)
+    pub whole_arities : (length (take (value v) arities) ≤ max_predicates) × (all (allows (AtMost max_arity)) (take (value v) arities) ≡ true)
     whole_arities =
         let r = many_inv Predicates predicate PredicateFits enc_predicate predicate_inv max_predicates s (take (value v) arities) (rest v) (sym (reads_ok w.reads d)) in
-        record { few = r.few; fit = each_all (allows (AtMost max_arity)) [] (take (value v) arities) r.good }
+        (r.few, each_all (allows (AtMost max_arity)) [] (take (value v) arities) r.good)
 
     pub whole_next : {W : Type 0} {then : W → List ℕ} {q : Result W FaultFromEnd} {b : Book} → Reads then q (λ n. b) (rules (take (value v) arities) (rest v))
         → Reads then q (λ n. b) (read_book s)

@@ -9,7 +9,7 @@ returns-in_err-n c = rw (passed _ c.from_residual.ensures.1) (reads_none c.read_
 
 pub invariant_of-ar : goal.invariant_of-ar
 invariant_of-ar c =
-    let w = whole_arities c.args.s.now c.read_predicates.ensures c.in_ok-n.was in record { few = w.few; fit = w.fit }
+    let w = whole_arities c.args.s.now c.read_predicates.ensures c.in_ok-n.was in record { few = w.0; fit = w.1 }
 
 pub returns : goal.returns
 returns c = reads_book c.read_predicates.ensures _ _ c.in_ok-n.was c.read_rules.ensures

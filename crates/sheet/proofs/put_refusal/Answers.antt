@@ -23,20 +23,13 @@ put_field-q-requires c =
 pub put_field-r-requires : goal.put_field-r-requires
 unfolding refusal_line
 put_field-r-requires c =
-    let number = c.before.before.before.before in
-    let letter = number.before.before.before.before.before in
-    let g = field letter.args.value in
-    room_second g number.put_field-q.ensures (room_fields (field letter.args.number ++ g) letter.put_byte-p.ensures letter.requires)
+    let g = field c.args.value in
+    room_second g c.put_field-q.ensures (room_fields (field c.args.number ++ g) c.put_byte-p.ensures c.requires)
 
 pub put_byte-requires : goal.put_byte-requires
 unfolding refusal_line
-put_byte-requires c =
-    let number = c.before.before.before.before.before.before.before.before in
-    let fields = wrote_append number.put_field-q.ensures c.put_field-r.ensures in
-    room_newline _ number.put_byte-p.ensures number.requires fields
+put_byte-requires c = room_newline _ c.put_byte-p.ensures c.requires (wrote_append c.put_field-q.ensures c.put_field-r.ensures)
 
 pub returns : goal.returns
 unfolding refusal_line
-returns c =
-    let fields = wrote_append c.put_field-q.ensures c.put_field-r.ensures in
-    wrote_line c.put_byte-p.ensures fields c.put_byte.ensures
+returns c = wrote_line c.put_byte-p.ensures (wrote_append c.put_field-q.ensures c.put_field-r.ensures) c.put_byte.ensures

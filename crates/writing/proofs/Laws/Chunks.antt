@@ -103,10 +103,6 @@ module _ {n : ℕ} {f chunk : ℕ → List ℕ} {bytes : List ℕ} {k : ℕ} whe
         let d : k * (i + 1) ≡ k * i + k = rw add-one (mul-suc k i) in
         record { chunks = m.chunks; most = omega arith; is = omega arith; small = omega arith }
 
-    -- a turn that has nothing to measure
-    pub measuring_none : i < n → chunk i ≡ [] → Measuring n f chunk bytes k (i + 1) total
-    measuring_none h e = let z = ap length e in measuring_next h (omega arith) (omega arith)
-
     pub measuring_end : n ≤ i → total ≡ length bytes
     measuring_end h =
         let a = m.most in

@@ -14,7 +14,7 @@ use Rattle.masks.proofs.Laws.Lists.{joined_cong}
 use Rattle.masks.proofs.Laws.Loops.{Passed}
 use Rattle.book.specs.Limits.{max_predicates}
 use Rattle.book.specs.Book.{Call, no_call, Clause}
-use Rattle.book.specs.Encode.{SG, NG, run, enc_predicate, enc_mode, enc_subgoal, enc_clause}
+use Rattle.book.specs.Encode.{run, enc_predicate, enc_mode, enc_subgoal, enc_clause}
 use Rattle.book.specs.Held.{mode_size, has_in, masks_in, mode_bytes, HaveMode, mode_at, modes_of, clause_at, clauses_of}
 use Rattle.book.proofs.Laws.Encode.{run_append, run_joined}
 use Rattle.book.proofs.Laws.Held.{modes_of_joined}
@@ -32,10 +32,6 @@ predicates_length (x ∷ l) = let e = predicates_length l in omega arith
 
 pub clause_length : (c : Clause) → length (enc_clause c) ≡ 3 + length c.head.args + length (run enc_subgoal c.body)
 clause_length c = let e = length-append c.head.args (run enc_subgoal c.body) in omega arith
-
--- the bytes of a subgoal, once its kind is told
-pub subgoal_bytes : {n : Bool} (c : Call) → n ≡ c.negated → cond n (NG (c.pred ∷ c.args)) (SG (c.pred ∷ c.args)) ≡ enc_subgoal c
-subgoal_bytes c e = ap (λ (b : Bool). cond b (NG (c.pred ∷ c.args)) (SG (c.pred ∷ c.args))) e
 
 -- ---- what is written record by record: the bytes of the first i records, and of record i
 

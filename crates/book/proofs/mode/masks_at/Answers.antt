@@ -1,5 +1,5 @@
 -- `book::mode::masks_at` meets its contract. The part lent is what stands behind the number of masks, as far as that says. Assumes nothing.
-use Prim.Native.Nat.{◌+◌, ◌*◌}
+use Prim.Native.Nat.{◌*◌}
 use native.Mathlib.Omega.{arith}
 use Rattle.masks.specs.Limits.{max_masks}
 use Rattle.book.specs.Held.{mode_size}
@@ -18,16 +18,13 @@ overflow_add-at c = omega arith
 pub bounds-bytes-at : goal.bounds-bytes-at
 bounds-bytes-at c = omega arith
 
-pub overflow_cast-bytes : goal.overflow_cast-bytes
-overflow_cast-bytes c = omega (arith, c.shared_slice_known-1.given (c.args.p * mode_size + 1))
-
 pub overflow_add-end : goal.overflow_add-end
-overflow_add-end c = let n = c.held.ensures in omega arith
+overflow_add-end c = let n = c.min.ensures in omega arith
 
 pub slice_bounds-result-end : goal.slice_bounds-result-end
-slice_bounds-result-end c = let n = c.held.ensures in omega arith
+slice_bounds-result-end c = let n = c.min.ensures in omega arith
 
 pub returns : goal.returns
 returns c =
     let s = c.args in
-    masks_in_part s.modes.now (s.p * mode_size) max_masks c.held.result (omega arith) c.held.ensures
+    masks_in_part s.modes.now (s.p * mode_size) max_masks c.min.result (omega arith) (omega arith)

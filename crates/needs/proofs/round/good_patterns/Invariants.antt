@@ -6,4 +6,4 @@ use Rattle.needs.proofs.Laws.Trying.{Tried}
 use Rattle.needs.proofs.round.good_patterns.Given as goal
 
 abbrev pub invariant-loop-k : goal.invariant-loop-k
-invariant-loop-k l = Over (Tried l.rules l.own l.table l.had l.set) l.own (members l.k-iterator.left)
+invariant-loop-k l = Over (Tried l.book.rules l.own l.table l.had l.set) l.own (members l.k-iterator.left)

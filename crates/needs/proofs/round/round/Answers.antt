@@ -13,9 +13,9 @@ loop-p-init c =
     let s = c.args in
     let e = c.requires.1 in
     rw (c.into_iter-p-iterator.ensures.into_iter_gives, c.of-p-items.ensures)
-    (over_start (Rounding s.rules.now s.own.now s.table.now s.old s.due s.new.now 0) s.due
-    (subst (λ (l : List ℕ). Rounding s.rules.now s.own.now s.table.now s.old s.due l 0 0) (sym e)
-    (rounding_start s.rules.now s.own.now s.table.now s.old s.due (omega arith))))
+    (over_start (Rounding s.book.now.rules s.own.now s.table.now s.old s.due s.new.now 0) s.due
+    (subst (λ (l : List ℕ). Rounding s.book.now.rules s.own.now s.table.now s.old s.due l 0 0) (sym e)
+    (rounding_start s.book.now.rules s.own.now s.table.now s.old s.due (omega arith))))
 
 pub bounds-own-q : goal.bounds-own-q
 bounds-own-q c = let l = over_small _ _ _ (rounding_skip _ _ _ _ _ _ _) c.loop-p.invariant _ _ c.in-Some.ensures.steps in omega arith
@@ -43,8 +43,8 @@ loop-p-preserved-then-good-old c =
     let i = c.loop-p.invariant in
     let e = c.in-Some.ensures.steps in
     rw c.with_member-changed.ensures
-    (over_next _ _ _ (rounding_skip _ _ _ _ _ _ _) i _ _ e (Rounding s.rules.now s.own.now s.table.now s.old s.due _ _)
-    (rounding_new s.rules.now s.own.now s.table.now s.old s.due _ _ _ _ (over_member _ _ _ (rounding_skip _ _ _ _ _ _ _) i _ _ e) c.good_patterns-good.ensures
+    (over_next _ _ _ (rounding_skip _ _ _ _ _ _ _) i _ _ e (Rounding s.book.now.rules s.own.now s.table.now s.old s.due _ _)
+    (rounding_new s.book.now.rules s.own.now s.table.now s.old s.due _ _ _ _ (over_member _ _ _ (rounding_skip _ _ _ _ _ _ _) i _ _ e) c.good_patterns-good.ensures
     (over_here _ _ _ (rounding_skip _ _ _ _ _ _ _) i _ _ e) (over_small _ _ _ (rounding_skip _ _ _ _ _ _ _) i _ _ e) c.if-good-old.true))
 
 pub loop-p-preserved : goal.loop-p-preserved
@@ -52,8 +52,8 @@ loop-p-preserved c =
     let s = c.args in
     let i = c.loop-p.invariant in
     let e = c.in-Some.ensures.steps in
-    over_next _ _ _ (rounding_skip _ _ _ _ _ _ _) i _ _ e (Rounding s.rules.now s.own.now s.table.now s.old s.due _ _)
-    (rounding_same s.rules.now s.own.now s.table.now s.old s.due _ _ _ _ (over_member _ _ _ (rounding_skip _ _ _ _ _ _ _) i _ _ e) c.good_patterns-good.ensures
+    over_next _ _ _ (rounding_skip _ _ _ _ _ _ _) i _ _ e (Rounding s.book.now.rules s.own.now s.table.now s.old s.due _ _)
+    (rounding_same s.book.now.rules s.own.now s.table.now s.old s.due _ _ _ _ (over_member _ _ _ (rounding_skip _ _ _ _ _ _ _) i _ _ e) c.good_patterns-good.ensures
     (over_here _ _ _ (rounding_skip _ _ _ _ _ _ _) i _ _ e) c.if-good-old.false)
 
 -- all that are due are done, and the tables are the same, or not
@@ -62,11 +62,11 @@ returns-then-same c =
     let s = c.args in
     let r = c.requires.0 in
     let end = over_end _ _ _ (rounding_skip _ _ _ _ _ _ _) c.loop-p.invariant c.in-None.ensures.steps.0 in
-    λ B g u. rounding_still s.rules.now s.own.now s.table.now s.old s.due B g r.2 u end (c.same.ensures.same· c.if-same.true)
+    λ B g u. rounding_still s.book.now.rules s.own.now s.table.now s.old s.due B g r.2 u end (c.same.ensures.same· c.if-same.true)
 
 pub returns-else-same : goal.returns-else-same
 returns-else-same c =
     let s = c.args in
     let r = c.requires.0 in
     let end = over_end _ _ _ (rounding_skip _ _ _ _ _ _ _) c.loop-p.invariant c.in-None.ensures.steps.0 in
-    λ B g u. rounding_end s.rules.now s.own.now s.table.now s.old s.due B g r.2 u end
+    λ B g u. rounding_end s.book.now.rules s.own.now s.table.now s.old s.due B g r.2 u end

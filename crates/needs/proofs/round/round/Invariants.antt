@@ -6,4 +6,4 @@ use Rattle.needs.proofs.Laws.Rounding.{Rounding}
 use Rattle.needs.proofs.round.round.Given as goal
 
 abbrev pub invariant-loop-p : goal.invariant-loop-p
-invariant-loop-p l = Over (Rounding l.rules l.own l.table l.old l.due l.new l.changed) l.due (members l.p-iterator.left)
+invariant-loop-p l = Over (Rounding l.book.rules l.own l.table l.old l.due l.new l.changed) l.due (members l.p-iterator.left)

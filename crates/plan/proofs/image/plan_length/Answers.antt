@@ -1,18 +1,15 @@
 -- `plan::image::plan_length` meets its contract. The loop's invariant: the total is the length of the query's part and of the rows of the first p
 -- predicates. Assumes nothing.
-use mathlib.Core.Path.{ap}
-use Prim.Native.Nat.{ℕ, ◌+◌}
 use native.Mathlib.Omega.{arith}
-use Rattle.book.proofs.Laws.Held.{clause_at_few}
 use Rattle.plan.proofs.Laws.Lengths.{planning_start, planning_next, planning_skip, planning_end}
 use Rattle.plan.proofs.image.plan_length.Goals.{then-own-p-ne0, else-own-p-ne0}
 use Rattle.plan.proofs.image.plan_length.Goals as goal
 
-pub overflow_add-total : goal.overflow_add-total
-overflow_add-total c = let e = c.subgoals_at-total.ensures in let few = clause_at_few c.args.rules.now 64 in omega arith
-
 pub loop-p-init : goal.loop-p-init
-loop-p-init c = let s = c.args in planning_start s.preds s.rules.now s.own.now s.reached.now (ap (λ (n : ℕ). 3 + n) c.subgoals_at-total.ensures)
+loop-p-init c =
+    let s = c.args in
+    let e = rw c.query.ensures at c.subgoals-total.ensures.value in
+    planning_start s.book.now.preds s.book.now.rules s.own.now s.reached.now (omega arith)
 
 pub loop-p-preserved : goal.loop-p-preserved
 loop-p-preserved c =

@@ -4,4 +4,4 @@ use Rattle.plan.proofs.Laws.Lengths.{Planning}
 use Rattle.plan.proofs.image.plan_length.Given as goal
 
 abbrev pub invariant-loop-p : goal.invariant-loop-p
-invariant-loop-p l = Planning l.preds l.rules l.own l.reached l.p l.total
+invariant-loop-p l = Planning l.book.preds l.book.rules l.own l.reached l.p l.total

@@ -7,4 +7,4 @@ use Rattle.plan.proofs.Laws.Rows.{Rows}
 use Rattle.plan.proofs.image.put_clauses.Given as goal
 
 abbrev pub invariant-loop-k : goal.invariant-loop-k
-invariant-loop-k l = Rows l.own (λ k. enc_row (row_by l.rules l.table k l.a)) l.initial.out l.at (members l.k-iterator.left) l.out l.p
+invariant-loop-k l = Rows l.own (λ k. enc_row (row_by l.book.rules l.table k l.a)) l.initial.out l.at (members l.k-iterator.left) l.out l.p

@@ -6,4 +6,4 @@ use Rattle.plan.proofs.Laws.Rows.{Rows}
 use Rattle.plan.proofs.image.put_patterns.Given as goal
 
 abbrev pub invariant-loop-a : goal.invariant-loop-a
-invariant-loop-a l = Rows l.patterns (clause_rows l.rules l.table l.own) l.initial.out l.at (members l.a-iterator.left) l.out l.p
+invariant-loop-a l = Rows l.patterns (clause_rows l.book.rules l.table l.own) l.initial.out l.at (members l.a-iterator.left) l.out l.p

@@ -18,29 +18,30 @@ counted σ = length σ ∷ σ
 pub put_places-requires-clause-room : goal.put_places-requires-clause-room
 put_places-requires-clause-room c =
     let s = c.args in
-    let o = c.in-Some.o in
+    let is = c.clause-clause.ensures in
     let row =
-    row_found s.rules.now s.table.now s.k s.a c.head_at.result c.head_bound-bound.result (some (places_of o)) c.head_at.ensures c.head_bound-bound.ensures
-    (rw c.in-Some.is at c.first_order-order.ensures.order) in
+    row_found s.book.now.rules s.table.now s.k s.a _ c.head_bound-bound.result (some (places_of c.in-Some.o)) (rw is at c.head.ensures) c.head_bound-bound.ensures
+    (rw (is, c.in-Some.is) at c.first_order-order.ensures.order) in
     let e = ap length row in
     let n = ap length c.places.ensures in
-    let r = c.requires.3 in
+    let r = c.requires.2 in
     room_second (counted c.places.result.now) (wrote_append c.put_mark-p.ensures (wrote_append c.put_byte-q.ensures c.put_byte-r.ensures)) (omega arith)
 
 pub returns-in-Some : goal.returns-in-Some
 returns-in-Some c =
     let s = c.args in
-    let o = c.in-Some.o in
+    let is = c.clause-clause.ensures in
     let row =
-    row_found s.rules.now s.table.now s.k s.a c.head_at.result c.head_bound-bound.result (some (places_of o)) c.head_at.ensures c.head_bound-bound.ensures
-    (rw c.in-Some.is at c.first_order-order.ensures.order) in
+    row_found s.book.now.rules s.table.now s.k s.a _ c.head_bound-bound.result (some (places_of c.in-Some.o)) (rw is at c.head.ensures) c.head_bound-bound.ensures
+    (rw (is, c.in-Some.is) at c.first_order-order.ensures.order) in
     wrote_as (ap (λ (σ : List ℕ). 67 ∷ 79 ∷ s.k ∷ s.a ∷ counted σ) c.places.ensures ∙ row)
     (wrote_append c.put_mark-p.ensures (wrote_append c.put_byte-q.ensures (wrote_append c.put_byte-r.ensures c.put_places.ensures)))
 
 pub returns-in-None : goal.returns-in-None
 returns-in-None c =
     let s = c.args in
+    let is = c.clause-clause.ensures in
     let row =
-    row_found s.rules.now s.table.now s.k s.a c.head_at.result c.head_bound-bound.result none c.head_at.ensures c.head_bound-bound.ensures
-    (rw c.in-None.is at c.first_order-order.ensures.order) in
+    row_found s.book.now.rules s.table.now s.k s.a _ c.head_bound-bound.result none (rw is at c.head.ensures) c.head_bound-bound.ensures
+    (rw (is, c.in-None.is) at c.first_order-order.ensures.order) in
     wrote_as row (wrote_append c.put_mark-p.ensures (wrote_append c.put_byte-q.ensures (wrote_append c.put_byte-r.ensures c.put_places-in-None.ensures)))

@@ -5,4 +5,4 @@ use Rattle.plan.proofs.Laws.Lengths.{Adding}
 use Rattle.plan.proofs.image.rows_length.Given as goal
 
 abbrev pub invariant-loop-k : goal.invariant-loop-k
-invariant-loop-k l = Adding l.rules l.own l.total (members l.k-iterator.left)
+invariant-loop-k l = Adding l.book.rules l.own l.total (members l.k-iterator.left)

@@ -1,6 +1,6 @@
 -- `sheet::line::put_fields` meets its contract. The loop's invariant: the first i numbers are written. Assumes nothing.
 use native.Mathlib.Omega.{arith}
-use Rattle.writing.proofs.Laws.Chunks.{writing_start, writing_length, writing_room, writing_next, writing_end}
+use Rattle.writing.proofs.Laws.Chunks.{writing_start, writing_room, writing_next}
 use Rattle.sheet.proofs.Laws.Lines.{fields_chunks}
 use Rattle.sheet.proofs.line.put_fields.Goals as goal
 
@@ -13,9 +13,3 @@ put_field-p-requires c = rw c.from.ensures (writing_room c.loop-x.invariant (ome
 
 pub loop-x-preserved : goal.loop-x-preserved
 loop-x-preserved c = writing_next c.loop-x.invariant (omega arith) (rw c.from.ensures at c.put_field-p.ensures)
-
-pub shape_of-out : goal.shape_of-out
-shape_of-out c = writing_length c.loop-x.invariant
-
-pub returns : goal.returns
-returns c = writing_end c.loop-x.invariant (omega arith)

@@ -1,4 +1,4 @@
--- `sheet::sheet` meets its contract. What is printed of the bytes, or of the first 6,987, fills the front of the text, which is written
+-- `sheet::printed` meets its contract. What is printed of the bytes, or of the first 6,987, fills the front of the text, which is written
 -- where there is room. Assumes nothing.
 use mathlib.Core.Path.{◌≡◌, sym, ap, ◌∙◌}
 use mathlib.Core.List.{List}
@@ -6,14 +6,15 @@ use Prim.Native.Nat.{ℕ, suc, ◌≤◌, min}
 use native.Mathlib.Omega.{arith}
 use lib.ListN.{length, take, replicate, length-replicate, length-take}
 use lib.Seq.{length-take-le, sets}
+use Rattle.std.proofs.lemmas.Result.{err_from_is_err_and}
 use Rattle.book.specs.Format.{judge}
 use Rattle.writing.specs.Wrote.{Wrote}
 use Rattle.printing.specs.Sheet.{judged_sheet, sheet}
-use Rattle.masks.proofs.Laws.Outcome.{room_enough, answers_short, answers_done}
+use Rattle.masks.proofs.Laws.Outcome.{answers_short, answers_done}
 use Rattle.book.specs.Limits.{longest, longest_sheet}
 use Rattle.writing.proofs.Laws.Wrote.{wrote_as, wrote_length, wrote_front, Front, front}
 use Rattle.printing.proofs.Laws.Length.{sheet_length}
-use Rattle.sheet.proofs.sheet.Goals as goal
+use Rattle.sheet.proofs.printed.Goals as goal
 
 module _ (s : List ℕ) {n : ℕ} (e : n ≡ min (length s) (suc longest)) where
   -- the bytes that are judged
@@ -42,14 +43,18 @@ slice_bounds-put_bytes-end c = sym (length-take-le _ _ (there c.args.book.now (o
 pub put_bytes-requires : goal.put_bytes-requires
 put_bytes-requires c =
     let n = length-take-le c.put_sheet-k.result c.put_sheet-k.new.text (there c.args.book.now (omega arith) c.put_sheet-k.ensures).0 in
-    let h = room_enough _ _ _ c.in_room-r.ensures (λ z. omega arith) in
+    let h = c.in_ok-r.ensures.done.1 in
     omega arith
 
-pub returns-then-r-eq0 : goal.returns-then-r-eq0
-returns-then-r-eq0 c =
-    let s = c.args.book.now in
-    answers_done _ _ _ c.in_room-r.ensures _ (size s (omega arith) c.put_sheet-k.ensures) (omega arith) (λ z. omega arith)
-    (c.put_bytes.ensures.is ∙ ap (sets c.args.out.now 0) (there s (omega arith) c.put_sheet-k.ensures).1)
+pub returns-in_err-r : goal.returns-in_err-r
+returns-in_err-r c =
+    let p = err_from_is_err_and c.from_residual.result c.from_residual.ensures.1 in
+    let h = c.in_err-r.ensures.short in
+    rw (p.1, p.2, h.0) (answers_short (size c.args.book.now (omega arith) c.put_sheet-k.ensures) h.1)
 
-pub returns-else-r-eq0 : goal.returns-else-r-eq0
-returns-else-r-eq0 c = answers_short _ _ _ c.in_room-r.ensures _ (size c.args.book.now (omega arith) c.put_sheet-k.ensures) (omega arith) c.if-r-eq0.false
+pub returns : goal.returns
+returns c =
+    let s = c.args.book.now in
+    let h = c.in_ok-r.ensures.done in
+    answers_done (size s (omega arith) c.put_sheet-k.ensures) h.1 h.0
+    (c.put_bytes.ensures.is ∙ ap (sets c.args.out.now 0) (there s (omega arith) c.put_sheet-k.ensures).1)
