@@ -1,5 +1,6 @@
 -- How a book and its final table are lent to what answers a page, and what is promised of the parts. Assumes nothing.
-use Rattle.std.specs.Prelude.{◌≡◌, List, map, ℕ, length, take, drop, Result, Ok, Err}
+use Rattle.std.specs.Prelude.{◌≡◌, List, map, ℕ, ◌-◌, length, take, Result, Ok, Err}
+use Rattle.std.specs.Borrow.{Bor}
 use Rattle.masks.specs.declared.reply.Reply.{Reply}
 use Rattle.book.specs.Limits.{max_predicates, max_clauses}
 use Rattle.book.specs.Book.{Call, Book}
@@ -7,9 +8,9 @@ use Rattle.book.specs.Format.{query}
 use Rattle.book.specs.Encode.{WellFormed}
 use Rattle.book.specs.Held.{clause_at}
 use Rattle.book.specs.Table.{Table, table_in, Admitted}
-use Rattle.book.specs.declared.fault.FaultAt.{FaultAt}
 use Rattle.book.specs.declared.held.RuleBook.{RuleBook}
 use Rattle.book.specs.declared.mark.Phase.TheVariants.{PageQuery}
+use Rattle.records.specs.declared.fault.FaultFromEnd.{FaultFromEnd}
 use Rattle.records.specs.Read.{alone, Reads}
 use Rattle.tables.specs.Table.{final}
 use Rattle.tally.specs.declared.Tally.{Tally}
@@ -42,10 +43,10 @@ Gives b T run out old r after t =
 -- ---- the parts
 
 -- a query of a run is read, and stored as the clause behind all others
-pub record QueryRead (ar run : List ℕ) (at : ℕ) (r : Result ℕ FaultAt) (after : List ℕ) : Type 0 where
+pub record QueryRead (ar s : List ℕ) (r : Result (Bor (List ℕ)) FaultFromEnd) (after : List ℕ) : Type 0 where
   pub goals : List Call
-  pub reads : Reads alone run r (λ end. goals) (query PageQuery ar (drop at run))
-  pub stored : (end : ℕ) → r ≡ Ok end → (clause_at after max_clauses).body ≡ goals
+  pub reads : Reads alone r (λ t. goals) (query PageQuery ar s)
+  pub stored : (t : Bor (List ℕ)) → r ≡ Ok t → (clause_at after max_clauses).body ≡ goals
 
 -- the answers to queries stand at the front of an image, and are counted
 pub record Kept (T : Table) (qs : List (List Call)) (image : List ℕ) (size : ℕ) (t : Tally) : Type 0 where
@@ -54,9 +55,9 @@ pub record Kept (T : Table) (qs : List (List Call)) (image : List ℕ) (size : �
   pub counted : t ≡ tally_from zeroes (map (accepts T) qs)
 
 -- a run's first fault, or its queries with their answers
-abbrev pub CameTo : List ℕ → List ℕ → Table → Result Answered FaultAt → List ℕ → Type 0
-CameTo ar run T (Err e) image = judge_run ar run ≡ faulty e.fault e.at
+abbrev pub CameTo : List ℕ → List ℕ → Table → Result Answered FaultFromEnd → List ℕ → Type 0
+CameTo ar run T (Err e) image = judge_run ar run ≡ faulty e.fault (length run - e.left)
 CameTo ar run T (Ok a) image = (qs : List (List Call)) × (judge_run ar run ≡ queries qs) × Kept T qs image a.size a.tally
 
-pub record RunAnswered (ar run : List ℕ) (T : Table) (r : Result Answered FaultAt) (image : List ℕ) : Type 0 where
+pub record RunAnswered (ar run : List ℕ) (T : Table) (r : Result Answered FaultFromEnd) (image : List ℕ) : Type 0 where
   pub comes : CameTo ar run T r image

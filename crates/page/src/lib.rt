@@ -8,7 +8,6 @@ ghost use Rattle.masks.specs.Outcome.{reply_of};
 ghost use Rattle.book.specs.Limits.{max_subgoals};
 ghost use Rattle.book.specs.Refusal.{reply};
 ghost use Rattle.book.specs.Sets.{callable};
-ghost use Rattle.records.specs.Read.{Arities};
 ghost use Rattle.ordering.specs.Held.{order_of};
 ghost use Rattle.writing.specs.Wrote.{Room, Wrote};
 ghost use Rattle.tally.specs.Tallied.{Tallies};
@@ -16,7 +15,7 @@ ghost use Rattle.paging.specs.Page.{answered, answer, accepts, paging, verdicts}
 ghost use Rattle.page.specs.Lent.{SomeLent, Gives, RunAnswered, QueryRead};
 
 use book::clause::Clause;
-use book::fault::{Fault, FaultAt};
+use book::fault::Fault;
 use book::held::RuleBook;
 use book::limits::{LONGEST_PAGE, MAX_CLAUSES, MAX_QUERIES, RULES_SIZE};
 use book::mark::Phase;
@@ -27,6 +26,8 @@ use ordering::admits::Admits;
 use ordering::{Order, first_order};
 use plan::image::put_query;
 use reading::{ended, read_body, read_book};
+use records::arities::Arities;
+use records::fault::{FaultFromEnd, wrong};
 use records::turn::{is_mark, run_end};
 use tally::{Tally, stepped};
 use writing::put::{put_byte, put_bytes};
@@ -90,9 +91,14 @@ fn give(
     requires { SomeLent book.old table.now }
     ensures { Gives book.old table.now run.now out.old tally.old (reply_of reply result) out.new tally.new }
 {
-    let ar = &book.arities[..book.preds as usize];
+    let ar = Arities {
+        list: &book.arities[..book.preds as usize],
+    };
     let mut image = [0u8; LONGEST_PAGE];
-    let a = answer_run(run, ar, table, &mut book.rules, &mut image)?;
+    let a = match answer_run(run, ar, table, &mut book.rules, &mut image) {
+        Ok(a) => a,
+        Err(f) => return Err(Refusal::Fault(f.within(run))),
+    };
     let r = Reply::in_room(a.size, 0, out.len())?;
     put_bytes(out, 0, &image[..a.size]);
     *tally = a.tally;
@@ -102,47 +108,46 @@ fn give(
 // The answers to the queries of a run, one after the other, and their tally from zero.
 fn answer_run(
     run: &[u8],
-    ar: &[u8],
+    ar: Arities,
     table: &Admits,
     rules: &mut [u64; RULES_SIZE],
     image: &mut [u8; LONGEST_PAGE],
-) -> Result<Answered, FaultAt>
-    requires { Arities ar.now }
-    ensures { RunAnswered ar.now run.now table.now result image.new }
+) -> Result<Answered, FaultFromEnd>
+    ensures { RunAnswered ar.entry.list.now run.now table.now result image.new }
 {
     let mut tally = Tally {
         accepted: 0,
         turned_away: 0,
     };
-    let mut at: usize = 0;
+    let mut left = run;
     let mut n: usize = 0;
     let mut size: usize = 0;
-    while is_mark(run, at, b"QU") {
+    while is_mark(left, b"QU") {
         if MAX_QUERIES <= n {
-            return Err(Fault::TooMany.at(at));
+            return Err(wrong(Fault::TooMany, left));
         }
-        at = read_page_query(run, ar, at, rules)?;
+        left = read_page_query(left, ar, rules)?;
         let v = answer_query(&Clause::at(rules, MAX_CLAUSES), table, image, size);
         tally = stepped(tally, v.accepted);
         size = v.next;
         n += 1;
     }
-    run_end(run, at, Phase::Queries)?;
+    run_end(left, Phase::Queries)?;
     Ok(Answered { size, tally })
 }
 
-// The query whose record is at a place of the run, stored where the book's own is: the place after it.
+// The query whose record these bytes of the run begin with, stored where the book's own is.
 fn read_page_query<'a>(
-    run: &'a [u8],
-    ar: &'a [u8],
-    at: usize,
+    s: &'a [u8],
+    ar: Arities,
     rules: &mut [u64; RULES_SIZE],
-) -> Result<usize, FaultAt>
-    requires { (at + 2 ≤ length run.now) × Arities ar.now }
-    ensures { QueryRead ar.now run.now at result rules.new }
+) -> Result<&'a [u8], FaultFromEnd>
+    requires { 2 ≤ length s.now }
+    ensures { QueryRead ar.entry.list.now s.now result rules.new }
 {
-    let end = read_body(run, ar, at + 2, rules, MAX_CLAUSES)?;
-    ended(run, end, Phase::PageQuery, b"QU")
+    let left = read_body(&s[2..], ar, rules, MAX_CLAUSES)?;
+    ended(left, Phase::PageQuery, b"QU")?;
+    Ok(left)
 }
 
 // The answer to a query, from a place on. It depends on the table and the query alone, and has at most 12 bytes: 0, a mark, n and eight places.

@@ -1,5 +1,5 @@
 -- What reading a book comes to, and what the check answers. Assumes nothing.
-use Rattle.std.specs.Prelude.{◌≡◌, List, ℕ, ◌≤◌, length, take, Result, Ok, Err}
+use Rattle.std.specs.Prelude.{◌≡◌, List, ℕ, ◌-◌, ◌≤◌, length, take, Result, Ok, Err}
 use Rattle.masks.specs.Set.{Holds}
 use Rattle.masks.specs.declared.reply.Reply.{Reply}
 use Rattle.book.specs.Limits.{max_predicates, max_clauses}
@@ -8,6 +8,7 @@ use Rattle.book.specs.Format.{number, Judged, fault, book, judge}
 use Rattle.book.specs.Held.{has_mode, modes_of, book_in, book_of}
 use Rattle.book.specs.declared.held.RuleBook.{RuleBook}
 use Rattle.book.specs.declared.fault.FaultAt.{FaultAt}
+use Rattle.records.specs.declared.fault.FaultFromEnd.{FaultFromEnd}
 use Rattle.reading.specs.declared.Reading.{Reading}
 
 -- so many predicates are within the limits, and each has its place in an array of arities
@@ -19,6 +20,11 @@ pub record Listed (n : ℕ) (arities : List ℕ) : Type 0 where
 abbrev pub checked : Judged → Reply
 checked (fault f at) = record { number = number f; value = at; rounds = 0 }
 checked (book b) = record { number = 0; value = 0; rounds = 0 }
+
+-- what was read, or a fault with its offset in the bytes s
+abbrev pub placed : List ℕ → Result Reading FaultFromEnd → Result Reading FaultAt
+placed s (Ok r) = Ok r
+placed s (Err e) = Err (record { fault = e.fault; at = length s - e.left })
 
 -- the bytes s are read, whatever is stored: they are a book with so many predicates, or the fault is their first
 abbrev pub Judges : List ℕ → Result Reading FaultAt → Type 0

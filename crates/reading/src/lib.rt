@@ -1,14 +1,15 @@
 // Reading a book: every string of bytes is a book or has a first fault. Here are the public operation `check`, `read_book` for the crates above,
-// and the runs of records; single records, their bytes and their marks are in the crate `records`. One pass from the left: each
+// and the runs of records; single records, their bytes and their marks are in the crate `records`. One pass from the left, over the bytes that are left: each
 // byte is looked at once, and the bytes of a mark where a run ends again by what judges that end and by the run that follows.
 #![tactic(auto)]
 
-ghost use Rattle.std.specs.Prelude.{◌≡◌, ◌+◌, ◌≤◌, ◌<◌, length, take, drop};
-ghost use Rattle.book.specs.Limits.{max_predicates, max_clauses};
+ghost use Rattle.std.specs.Prelude.{◌≡◌, ◌≤◌, ◌<◌, length};
+ghost use Rattle.book.specs.Limits.{max_clauses};
 ghost use Rattle.book.specs.Format as format;
 ghost use Rattle.book.specs.Held.{NoModes};
-ghost use Rattle.records.specs.Read.{RunEnds, Arities};
-ghost use Rattle.reading.specs.Judged.{checked, Judges, BookRead};
+ghost use Rattle.book.specs.declared.mark.Phase.TheVariants.{Query};
+ghost use Rattle.records.specs.Read.{RunEnds};
+ghost use Rattle.reading.specs.Judged.{checked, placed, Judges, BookRead};
 ghost use Rattle.reading.specs.Stored.{Ends, ReadsPredicates, ReadsModes, ReadsBody, ReadsClause, ReadsClauses, ReadsQuery, ReadsRules, ReadsBook};
 
 use book::fault::{Fault, FaultAt};
@@ -17,6 +18,8 @@ use book::limits::{CLAUSE_SIZE, MAX_CLAUSES, MAX_PREDICATES, MAX_SUBGOALS};
 use book::mark::Phase;
 use masks::constraint::with_member;
 use masks::reply::Reply;
+use records::arities::Arities;
+use records::fault::{FaultFromEnd, wrong};
 use records::field::{put, read_head, read_mode, read_predicate, read_subgoal};
 use records::turn::{is_mark, is_subgoal, run_end};
 
@@ -74,158 +77,179 @@ fn read_into(
     requires { NoModes modes.old }
     ensures { ReadsBook s.now result modes.old rules.old arities.new modes.new rules.new }
 {
-    let (at, n) = read_predicates(s, arities)?;
-    read_rules(s, arities, n as u8, at, modes, rules)
+    match read_records(s, arities, modes, rules) {
+        Ok(r) => Ok(r),
+        Err(f) => Err(f.within(s)),
+    }
+}
+
+// The same, with a fault as reading meets it: the predicates, and what follows them.
+fn read_records(
+    s: &[u8],
+    arities: &mut [u8; MAX_PREDICATES],
+    modes: &mut [u8],
+    rules: &mut [u64],
+) -> Result<Reading, FaultFromEnd>
+    requires { NoModes modes.old }
+    ensures { ReadsBook s.now (placed s.now result) modes.old rules.old arities.new modes.new rules.new }
+{
+    let (n, rest) = read_predicates(s, arities)?;
+    let ar = Arities {
+        list: &arities[..n],
+    };
+    read_rules(rest, ar, modes, rules)
 }
 
 // What follows the predicates: the modes, the clauses and the query.
-fn read_rules<'a>(
-    s: &'a [u8],
-    arities: &'a [u8; MAX_PREDICATES],
-    preds: u8,
-    from: usize,
+fn read_rules(
+    s: &[u8],
+    ar: Arities,
     modes: &mut [u8],
     rules: &mut [u64],
-) -> Result<Reading, FaultAt>
-    requires { (from ≤ length s.now) × (preds ≤ max_predicates) × Arities (take preds arities.now) × NoModes modes.old }
-    ensures { ReadsRules preds arities.now s.now from result modes.old rules.old modes.new rules.new }
+) -> Result<Reading, FaultFromEnd>
+    requires { NoModes modes.old }
+    ensures { ReadsRules ar.entry.list.now s.now result modes.old rules.old modes.new rules.new }
 {
-    let ar = &arities[..preds as usize];
-    let (at, with_mode) = read_modes(s, ar, from, modes)?;
-    let (end, n) = read_clauses(s, ar, at, rules)?;
-    read_query(s, ar, end, rules)?;
+    let (with_mode, after) = read_modes(s, ar, modes)?;
+    let (n, query) = read_clauses(after, ar, rules)?;
+    read_query(query, ar, rules)?;
     let clauses = n as u8;
     Ok(Reading {
-        preds,
+        preds: ar.predicates(),
         clauses,
         with_mode,
     })
 }
 
 // "all `PR`": how many there are, and their arities.
-fn read_predicates(s: &[u8], arities: &mut [u8; MAX_PREDICATES]) -> Result<(usize, usize), FaultAt>
+fn read_predicates<'a>(
+    s: &'a [u8],
+    arities: &mut [u8; MAX_PREDICATES],
+) -> Result<(usize, &'a [u8]), FaultFromEnd>
     ensures { ReadsPredicates s.now result arities.new }
 {
-    let mut at: usize = 0;
+    let mut left = s;
     let mut n: usize = 0;
-    while is_mark(s, at, b"PR") {
+    while is_mark(left, b"PR") {
         if MAX_PREDICATES <= n {
-            return Err(Fault::TooMany.at(at));
+            return Err(wrong(Fault::TooMany, left));
         }
-        let (next, arity) = read_predicate(s, at)?;
+        let (arity, after) = read_predicate(&left[2..])?;
         arities[n] = arity;
         n += 1;
-        at = next;
+        left = after;
     }
-    let end = ended(s, at, Phase::Predicates, b"MO")?;
-    Ok((end, n))
+    ended(left, Phase::Predicates, b"MO")?;
+    Ok((n, left))
 }
 
 // "then all `MO`", into modes that are none yet: the set of the predicates that have one.
-fn read_modes(s: &[u8], ar: &[u8], from: usize, modes: &mut [u8]) -> Result<(usize, u64), FaultAt>
-    requires { (from ≤ length s.now) × Arities ar.now × NoModes modes.old }
-    ensures { ReadsModes ar.now s.now from result modes.old modes.new }
+fn read_modes<'a>(
+    s: &'a [u8],
+    ar: Arities,
+    modes: &mut [u8],
+) -> Result<(u64, &'a [u8]), FaultFromEnd>
+    requires { NoModes modes.old }
+    ensures { ReadsModes ar.entry.list.now s.now result modes.old modes.new }
 {
-    let mut at = from;
+    let mut left = s;
     let mut low: u8 = 0;
     let mut with_mode: u64 = 0;
-    while is_mark(s, at, b"MO") {
-        let (next, pred) = read_mode(s, ar, low, at, modes)?;
+    while is_mark(left, b"MO") {
+        let (pred, after) = read_mode(&left[2..], ar, low, modes)?;
         with_mode = with_member(with_mode, pred);
         low = pred + 1;
-        at = next;
+        left = after;
     }
-    let end = ended(s, at, Phase::Modes, b"CL")?;
-    Ok((end, with_mode))
+    ended(left, Phase::Modes, b"CL")?;
+    Ok((with_mode, left))
 }
 
 // "then clauses": how many there are, stored from the start of the rules.
-fn read_clauses(
-    s: &[u8],
-    ar: &[u8],
-    from: usize,
+fn read_clauses<'a>(
+    s: &'a [u8],
+    ar: Arities,
     rules: &mut [u64],
-) -> Result<(usize, usize), FaultAt>
-    requires { (from ≤ length s.now) × Arities ar.now }
-    ensures { ReadsClauses ar.now s.now from result rules.old rules.new }
+) -> Result<(usize, &'a [u8]), FaultFromEnd>
+    ensures { ReadsClauses ar.entry.list.now s.now result rules.old rules.new }
 {
-    let mut at = from;
+    let mut left = s;
     let mut n: usize = 0;
-    while is_mark(s, at, b"CL") {
+    while is_mark(left, b"CL") {
         if MAX_CLAUSES <= n {
-            return Err(Fault::TooMany.at(at));
+            return Err(wrong(Fault::TooMany, left));
         }
-        at = read_clause(s, ar, at, rules, n)?;
+        left = read_clause(left, ar, rules, n)?;
         n += 1;
     }
-    let end = ended(s, at, Phase::Clauses, b"QU")?;
-    Ok((end, n))
+    ended(left, Phase::Clauses, b"QU")?;
+    Ok((n, left))
 }
 
-// The clause whose record is at a place, stored as clause k: the place after it.
-fn read_clause(
-    s: &[u8],
-    ar: &[u8],
-    at: usize,
+// The clause whose record these bytes begin with, with its subgoals, stored as clause k.
+fn read_clause<'a>(
+    s: &'a [u8],
+    ar: Arities,
     rules: &mut [u64],
     k: usize,
-) -> Result<usize, FaultAt>
-    requires { (at + 2 ≤ length s.now) × Arities ar.now × (k < max_clauses) }
-    ensures { ReadsClause ar.now s.now at k result rules.old rules.new }
+) -> Result<&'a [u8], FaultFromEnd>
+    requires { (2 ≤ length s.now) × (k < max_clauses) }
+    ensures { ReadsClause ar.entry.list.now s.now k result rules.old rules.new }
 {
-    let (next, head) = read_head(s, ar, at)?;
+    let (head, after) = read_head(&s[2..], ar)?;
     put(rules, k * CLAUSE_SIZE + 1, head);
-    let end = read_body(s, ar, next, rules, k)?;
-    ended(s, end, Phase::Body, b"CL")
+    let left = read_body(after, ar, rules, k)?;
+    ended(left, Phase::Body, b"CL")?;
+    Ok(left)
 }
 
-// The query whose record is at a place, stored behind the room of the clauses as the body of a clause whose head says nothing: the place after it. Mostly
-// the bytes end there, which is tried first.
-fn read_query<'a>(s: &'a [u8], ar: &'a [u8], at: usize, rules: &mut [u64]) -> Result<usize, FaultAt>
-    requires { (at + 2 ≤ length s.now) × Arities ar.now }
-    ensures { ReadsQuery Phase.Query ar.now s.now at result rules.old rules.new }
+// The query whose record these bytes begin with, stored behind the room of the clauses as the body of a clause whose head says nothing. Mostly the
+// bytes end behind it, which is tried first.
+fn read_query<'a>(s: &'a [u8], ar: Arities, rules: &mut [u64]) -> Result<&'a [u8], FaultFromEnd>
+    requires { 2 ≤ length s.now }
+    ensures { ReadsQuery Query ar.entry.list.now s.now result rules.old rules.new }
 {
-    let end = read_body(s, ar, at + 2, rules, MAX_CLAUSES)?;
-    if end == s.len() {
-        return Ok(end);
+    let left = read_body(&s[2..], ar, rules, MAX_CLAUSES)?;
+    if left.is_empty() {
+        return Ok(left);
     }
-    run_end(s, end, Phase::Query)
+    run_end(left, Phase::Query)?;
+    Ok(left)
 }
 
-// The subgoals of a clause or of a query, from a place on, stored as those of clause k: the place after them. What stands there is not judged here.
-pub fn read_body(
-    s: &[u8],
-    ar: &[u8],
-    from: usize,
+// The subgoals of a clause or of a query, stored as those of clause k. What stands behind them is not judged here.
+pub fn read_body<'a>(
+    s: &'a [u8],
+    ar: Arities,
     rules: &mut [u64],
     k: usize,
-) -> Result<usize, FaultAt>
-    requires { (from ≤ length s.now) × Arities ar.now × (k ≤ max_clauses) }
-    ensures { ReadsBody ar.now s.now from k result rules.old rules.new }
+) -> Result<&'a [u8], FaultFromEnd>
+    requires { k ≤ max_clauses }
+    ensures { ReadsBody ar.entry.list.now s.now k result rules.old rules.new }
 {
     let base = k * CLAUSE_SIZE;
-    let mut at = from;
+    let mut left = s;
     let mut n: usize = 0;
-    while is_subgoal(s, at) {
+    while is_subgoal(left) {
         if MAX_SUBGOALS <= n {
-            return Err(Fault::TooMany.at(at));
+            return Err(wrong(Fault::TooMany, left));
         }
-        let (next, call) = read_subgoal(s, ar, at)?;
+        let (call, after) = read_subgoal(left, ar)?;
         put(rules, base + 2 + n, call);
         n += 1;
-        at = next;
+        left = after;
     }
     put(rules, base, n as u64);
-    Ok(at)
+    Ok(left)
 }
 
-// What comes of a run where none of its records follows: its end, or a fault. Mostly it is a mark that ends it, which is tried first.
-pub fn ended(s: &[u8], at: usize, p: Phase, next: &[u8; 2]) -> Result<usize, FaultAt>
-    requires { (at ≤ length s.now) × Ends p next.now }
-    ensures { RunEnds p s.now at result }
+// What comes of a run where none of its records follows: it ends, or there is a fault. Mostly it is a mark that ends it, which is tried first.
+pub fn ended(s: &[u8], p: Phase, next: &[u8; 2]) -> Result<(), FaultFromEnd>
+    requires { Ends p next.now }
+    ensures { RunEnds p s.now result }
 {
-    if is_mark(s, at, next) {
-        return Ok(at);
+    if is_mark(s, next) {
+        return Ok(());
     }
-    run_end(s, at, p)
+    run_end(s, p)
 }

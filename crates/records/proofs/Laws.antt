@@ -2,4 +2,3 @@
 pub mod Reads
 pub mod Calls
 pub mod Stores
-pub mod Turns

@@ -1,42 +1,36 @@
 // Marks, and whose turn it is where a record may begin: "all `PR`, then all `MO`, then clauses, then one `QU`; `SG` only after `CL`, `QU` or `SG`",
 // and `NG`, which "has the fields and turn of `SG`". In the run of a page, "a run of `QU` records with their subgoals".
-ghost use Rattle.std.specs.Prelude.{◌≡◌, ◌≤◌, length, drop};
+ghost use Rattle.std.specs.Prelude.{◌≡◌, ◌≤◌, length, IsTrue};
 ghost use Rattle.book.specs.Format as format;
 ghost use Rattle.records.specs.Read.{RunEnds, leads_subgoal};
 
-use book::fault::{Fault, FaultAt};
+use crate::fault::{FaultFromEnd, wrong};
+use book::fault::Fault;
 use book::mark::{Mark, Phase, Turn};
 
-// The two bytes at a place are this mark.
-pub fn is_mark(s: &[u8], at: usize, m: &[u8; 2]) -> bool
-    requires { at ≤ length s.now }
-    ensures { result ≡ format.leads m.now (drop at s.now) }
+// The bytes begin with the two of this mark.
+pub fn is_mark(s: &[u8], m: &[u8; 2]) -> bool
+    ensures value { result ≡ format.leads m.now s.now }
+    ensures bound { IsTrue result → 2 ≤ length s.now }
 {
-    if s.len() - at < 2 {
-        return false;
-    }
-    if s[at] != m[0] {
-        return false;
-    }
-    s[at + 1] == m[1]
+    2 <= s.len() && s[0] == m[0] && s[1] == m[1]
 }
 
-// A subgoal begins at a place, `SG` or `NG`.
-pub fn is_subgoal(s: &[u8], at: usize) -> bool
-    requires { at ≤ length s.now }
-    ensures { result ≡ leads_subgoal (drop at s.now) }
+// A subgoal begins here, `SG` or `NG`.
+pub fn is_subgoal(s: &[u8]) -> bool
+    ensures value { result ≡ leads_subgoal s.now }
+    ensures bound { IsTrue result → 2 ≤ length s.now }
 {
-    is_mark(s, at, b"SG") || is_mark(s, at, b"NG")
+    is_mark(s, b"SG") || is_mark(s, b"NG")
 }
 
-// What comes of a run where none of its records follows: its end, or a fault.
-pub fn run_end(s: &[u8], at: usize, p: Phase) -> Result<usize, FaultAt>
-    requires { at ≤ length s.now }
-    ensures { RunEnds p s.now at result }
+// What comes of a run where none of its records follows: it ends, or there is a fault.
+pub fn run_end(s: &[u8], p: Phase) -> Result<(), FaultFromEnd>
+    ensures { RunEnds p s.now result }
 {
-    match turn(p, mark_at(s, at)) {
-        Turn::No(f) => Err(f.at(f.place(s.len(), at))),
-        Turn::Over | Turn::Mine => Ok(at),
+    match turn(p, mark_at(s)) {
+        Turn::No(f) => Err(wrong(f, s)),
+        Turn::Over | Turn::Mine => Ok(()),
     }
 }
 
@@ -75,39 +69,37 @@ fn column(m: Mark, pr: Turn, mo: Turn, cl: Turn, sg: Turn, qu: Turn, end: Turn) 
     }
 }
 
-// What stands at a place.
+// What the bytes begin with.
 #[tactic(auto, unfolding(book::specs::Format::mark_at))]
-fn mark_at(s: &[u8], at: usize) -> Mark
-    requires { at ≤ length s.now }
-    ensures { result ≡ format.mark_at (drop at s.now) }
+fn mark_at(s: &[u8]) -> Mark
+    ensures { result ≡ format.mark_at s.now }
 {
-    if is_mark(s, at, b"PR") {
+    if is_mark(s, b"PR") {
         return Mark::Pr;
     }
-    if is_mark(s, at, b"MO") {
+    if is_mark(s, b"MO") {
         return Mark::Mo;
     }
-    if is_mark(s, at, b"CL") {
+    if is_mark(s, b"CL") {
         return Mark::Cl;
     }
-    if is_mark(s, at, b"SG") {
+    if is_mark(s, b"SG") {
         return Mark::Sg;
     }
-    if is_mark(s, at, b"NG") {
+    if is_mark(s, b"NG") {
         return Mark::Ng;
     }
-    if is_mark(s, at, b"QU") {
+    if is_mark(s, b"QU") {
         return Mark::Qu;
     }
-    unmarked(s, at)
+    unmarked(s)
 }
 
-// What stands at a place where there is none of the six marks.
-fn unmarked(s: &[u8], at: usize) -> Mark
-    requires { at ≤ length s.now }
-    ensures { result ≡ format.unmarked (drop at s.now) }
+// What stands where there is none of the six marks.
+fn unmarked(s: &[u8]) -> Mark
+    ensures { result ≡ format.unmarked s.now }
 {
-    match s.len() - at {
+    match s.len() {
         0 => Mark::End,
         1 => Mark::Half,
         _ => Mark::Other,

@@ -4,15 +4,15 @@ use mathlib.Core.Bool.{Bool, true, false}
 use mathlib.Core.List.{List, [], ◌∷◌, ◌++◌, map, map-append, append-nil}
 use Prim.Native.Nat.{ℕ, ◌+◌, ◌-◌, ◌*◌, ◌≤◌, ◌<◌}
 use native.Mathlib.Omega.{arith}
-use lib.ListN.{length, drop}
+use lib.ListN.{length}
 use Rattle.std.specs.Prelude.{Result, Ok, Err}
-use Rattle.book.specs.Limits.{max_clauses, max_queries, longest_page}
+use Rattle.book.specs.Limits.{max_predicates, max_clauses, max_queries, longest_page}
 use Rattle.book.specs.Book.{Call, Clause}
 use Rattle.book.specs.Format.{spelling, leads, mark_at, turn, Got, many, query}
 use Rattle.book.specs.Held.{rules_size, clause_at}
 use Rattle.book.specs.Sets.{callable}
 use Rattle.book.specs.Table.{Table}
-use Rattle.book.specs.declared.fault.FaultAt.{FaultAt}
+use Rattle.std.specs.Borrow.{Bor}
 use Rattle.book.specs.declared.fault.Fault.TheVariants.{TooMany}
 use Rattle.book.specs.declared.mark.Mark.TheVariants.{Qu}
 use Rattle.book.specs.declared.mark.Phase.TheVariants.{Queries, PageQuery}
@@ -20,10 +20,11 @@ use Rattle.book.specs.declared.mark.Turn.TheVariants.{Mine}
 use Rattle.book.proofs.Laws.Encode.{run_append}
 use Rattle.book.proofs.Laws.Marks.{sole_queries}
 use Rattle.book.proofs.Laws.Sets.{fit_callable}
-use Rattle.records.specs.Read.{alone, RunEnds, Reads, Arities}
+use Rattle.records.specs.declared.fault.FaultFromEnd.{FaultFromEnd}
+use Rattle.records.specs.Read.{alone, RunEnds, Reads}
 use Rattle.records.proofs.Laws.Reads.{reads_ok, reads_err}
 use Rattle.reading.specs.Stored.{ReadsQuery}
-use Rattle.reading.proofs.Laws.Runs.{Going, mine_at, not_mine_at, mark_there, going_start, going_full, going_bad, going_next, going_end}
+use Rattle.reading.proofs.Laws.Runs.{Going, mine, not_mine, going_start, going_full, going_bad, going_next, going_end}
 use Rattle.writing.specs.Wrote.{Wrote}
 use Rattle.writing.proofs.Laws.Wrote.{wrote_nil, wrote_append, wrote_as, wrote_length, wrote_front}
 use Rattle.tally.specs.declared.Tally.{Tally}
@@ -36,8 +37,8 @@ use Rattle.page.specs.Lent.{QueryRead, Kept, RunAnswered}
 
 -- ---- a query that is read is stored, where there is room
 
-pub query_stored : {ar run : List ℕ} {at : ℕ} {r : Result ℕ FaultAt} {before after : List ℕ} → ReadsQuery PageQuery ar run at r before after → length before ≡ rules_size
-    → QueryRead ar run at r after
+pub query_stored : {ar s : List ℕ} {r : Result (Bor (List ℕ)) FaultFromEnd} {before after : List ℕ} → ReadsQuery PageQuery ar s r before after → length before ≡ rules_size
+    → QueryRead ar s r after
 query_stored w room = record { goals = w.goals; reads = w.reads; stored = λ end e. ap (λ (c : Clause). c.body) (w.stored end e room).is }
 
 -- ---- one more query
@@ -58,9 +59,9 @@ abbrev item : List ℕ → List (List Call) → List ℕ → Got (List Call)
 item ar before s = query PageQuery ar s
 
 -- so far n queries are read, their answers stand at the image's front, and they are counted
-pub record Asking (ar run : List ℕ) (T : Table) (image₀ image : List ℕ) (at n size : ℕ) (t : Tally) : Type 0 where
+pub record Asking (ar run : List ℕ) (T : Table) (image₀ image : List ℕ) (n : ℕ) (left : List ℕ) (size : ℕ) (t : Tally) : Type 0 where
   pub qs : List (List Call)
-  pub going : Going Queries (item ar) run max_queries 0 at n qs
+  pub going : Going Queries (item ar) max_queries run n left qs
   pub wrote : Wrote image₀ image 0 size (answers T qs)
   pub short : size ≤ 12 * n
   pub room : length image₀ ≡ longest_page
@@ -68,11 +69,11 @@ pub record Asking (ar run : List ℕ) (T : Table) (image₀ image : List ℕ) (a
   pub few : AtMost n t
 
 module _ (ar run : List ℕ) (T : Table) where
-  pub asking_start : (image : List ℕ) → length image ≡ longest_page → Asking ar run T image image 0 0 0 zeroes
+  pub asking_start : (image : List ℕ) → length image ≡ longest_page → Asking ar run T image image 0 run 0 zeroes
   unfolding answers tally_from
   asking_start image h = record {
     qs = [];
-    going = going_start Queries (item ar) run max_queries 0 (omega arith);
+    going = going_start Queries (item ar) max_queries run;
     wrote = wrote_nil image 0;
     short = omega arith;
     room = h;
@@ -80,50 +81,44 @@ module _ (ar run : List ℕ) (T : Table) where
     few = (omega arith, omega arith);
   }
 
-  module _ {image₀ image : List ℕ} {at n size : ℕ} {t : Tally} (l : Asking ar run T image₀ image at n size t) where
+  module _ {image₀ image : List ℕ} {n : ℕ} {s : List ℕ} {size : ℕ} {t : Tally} (l : Asking ar run T image₀ image n s size t) where
     pub asking_long : length image ≡ longest_page
     asking_long = wrote_length l.wrote ∙ l.room
 
     -- ---- what the run comes to
 
-    judge_bad : {W : Type 0} {after : W → ℕ} {k : W → List (List Call)} {r : Result W FaultAt} {e : FaultAt}
-        → Reads after run r k (many Queries (item ar) max_queries [] (drop 0 run)) → r ≡ Err e → judge_run ar run ≡ faulty e.fault e.at
+    judge_bad : {W : Type 0} {left : W → List ℕ} {k : W → List (List Call)} {r : Result W FaultFromEnd} {e : FaultFromEnd}
+        → Reads left r k (many Queries (item ar) max_queries [] run) → r ≡ Err e → judge_run ar run ≡ faulty e.fault (length run - e.left)
     unfolding judge_run read_run
-    judge_bad {e = e} w d =
-        let u = reads_err w d in
-        let z : length run - (length run - e.at) ≡ e.at = (let i = u.0 in omega arith) in
-        ap (judged_run run) (sym u.1) ∙ ap (faulty e.fault) z
+    judge_bad w d = ap (judged_run run) (sym (reads_err w d))
 
-    module _ (mark : leads (spelling Qu) (drop at run) ≡ true) where
-      mine : turn Queries (mark_at (drop at run)) ≡ Mine
-      mine = mine_at Queries Qu run at refl mark
+    module _ (mark : leads (spelling Qu) s ≡ true) where
+      own : turn Queries (mark_at s) ≡ Mine
+      own = mine Queries Qu s refl mark
 
-      pub asking_there : at + 2 ≤ length run
-      asking_there = mark_there Queries run at mine
+      pub asking_full : max_queries ≤ n → (o : List ℕ) → RunAnswered ar run T (Err (record { fault = TooMany; left = length s })) o
+      asking_full h o = record { comes = judge_bad {left = alone} {k = λ j. []} (going_full Queries (item ar) max_queries run l.going own h) refl }
 
-      pub asking_full : max_queries ≤ n → (o : List ℕ) → RunAnswered ar run T (Err (record { fault = TooMany; at = at })) o
-      asking_full h o = record { comes = judge_bad {after = alone} {k = λ j. []} (going_full Queries (item ar) run max_queries 0 l.going mine h) refl }
-
-      module _ {g : Result ℕ FaultAt} {rules : List ℕ} (w : QueryRead ar run at g rules) where
-        pub asking_bad : n < max_queries → {e : FaultAt} → g ≡ Err e → (o : List ℕ) → RunAnswered ar run T (Err e) o
+      module _ {g : Result (Bor (List ℕ)) FaultFromEnd} {rules : List ℕ} (w : QueryRead ar s g rules) where
+        pub asking_bad : n < max_queries → {e : FaultFromEnd} → g ≡ Err e → (o : List ℕ) → RunAnswered ar run T (Err e) o
         asking_bad h e o =
-            record { comes = judge_bad {after = alone} {k = λ j. []} (going_bad Queries (item ar) run max_queries 0 l.going mine h w.reads e) refl }
+            record { comes = judge_bad {left = alone} {k = λ j. []} (going_bad Queries (item ar) max_queries run l.going own h w.reads e) refl }
 
-        module _ {end : ℕ} (e : g ≡ Ok end) where
+        module _ {end : Bor (List ℕ)} (e : g ≡ Ok end) where
           -- what it calls can be called
-          pub asking_callable : Arities ar → callable (clause_at rules max_clauses).body ≡ true
+          pub asking_callable : length ar ≤ max_predicates → callable (clause_at rules max_clauses).body ≡ true
           asking_callable a =
-              let f = (query_inv ar (drop at run) w.goals (drop end run) mine (sym (reads_ok w.reads e).1)).1 in
-              rw (w.stored end e) (fit_callable ar a.few w.goals (query_calls_lem ar w.goals f))
+              let f = (query_inv ar s w.goals end.now own (sym (reads_ok w.reads e))).1 in
+              rw (w.stored end e) (fit_callable ar a w.goals (query_calls_lem ar w.goals f))
 
           pub asking_next : n < max_queries → {after : List ℕ} {size' : ℕ} → Wrote image after size size' (answer T (clause_at rules max_clauses).body) → size' ≤ size + 12
-              → {b : Bool} → b ≡ accepts T (clause_at rules max_clauses).body → {u : Tally} → u ≡ tallied t b → Asking ar run T image₀ after end (n + 1) size' u
+              → {b : Bool} → b ≡ accepts T (clause_at rules max_clauses).body → {u : Tally} → u ≡ tallied t b → Asking ar run T image₀ after (n + 1) end.now size' u
           asking_next h v s {b} d {u} c =
               let q = w.goals in
               let is = w.stored end e in
               record {
                 qs = l.qs ++ (q ∷ []);
-                going = going_next Queries (item ar) run max_queries 0 l.going mine h w.reads e refl;
+                going = going_next Queries (item ar) max_queries run l.going own h w.reads e refl;
                 wrote = wrote_as (answers_more T l.qs q) (wrote_append l.wrote (wrote_as (ap (answer T) is) v));
                 short = let k = l.short in omega arith;
                 room = l.room;
@@ -144,13 +139,13 @@ module _ (ar run : List ℕ) (T : Table) where
           counted = l.counted;
         }
 
-    module _ (mark : leads (spelling Qu) (drop at run) ≡ false) {r : Result ℕ FaultAt} (w : RunEnds Queries run at r) where
-      all : Reads alone run r (λ k. l.qs) (many Queries (item ar) max_queries [] (drop 0 run))
-      all = going_end Queries (item ar) run max_queries 0 l.going (not_mine_at Queries Qu run at sole_queries mark) w
+    module _ (mark : leads (spelling Qu) s ≡ false) {r : Result (Unit {0}) FaultFromEnd} (w : RunEnds Queries s r) where
+      all : Reads (λ u. s) r (λ u. l.qs) (many Queries (item ar) max_queries [] run)
+      all = going_end Queries (item ar) max_queries run l.going (not_mine Queries Qu s sole_queries mark) w
 
-      pub asking_end_bad : {e : FaultAt} → r ≡ Err e → (o : List ℕ) → RunAnswered ar run T (Err e) o
+      pub asking_end_bad : {e : FaultFromEnd} → r ≡ Err e → (o : List ℕ) → RunAnswered ar run T (Err e) o
       asking_end_bad e o = record { comes = judge_bad all e }
 
-      pub asking_end : {end : ℕ} → r ≡ Ok end → RunAnswered ar run T (Ok (record { size = size; tally = t })) image
+      pub asking_end : {u : Unit {0}} → r ≡ Ok u → RunAnswered ar run T (Ok (record { size = size; tally = t })) image
       unfolding judge_run read_run
-      asking_end e = record { comes = (l.qs, ap (judged_run run) (sym (reads_ok all e).1), kept) }
+      asking_end e = record { comes = (l.qs, ap (judged_run run) (sym (reads_ok all e)), kept) }

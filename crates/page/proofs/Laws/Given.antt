@@ -3,11 +3,12 @@
 use mathlib.Core.Path.{◌≡◌, refl, sym, ap, ap₂, ◌∙◌, subst}
 use mathlib.Core.Bool.{Bool, true}
 use mathlib.Core.List.{List, [], ◌∷◌, ◌++◌, map}
-use Prim.Native.Nat.{ℕ, ◌≤◌, ◌<◌}
+use Prim.Native.Nat.{ℕ, ◌-◌, ◌≤◌, ◌<◌}
 use native.Mathlib.Omega.{arith}
 use lib.ListN.{length, take}
 use lib.Seq.{sets}
 use borrow.Author.Tests.{leb-true}
+use Rattle.masks.specs.Limits.{max_arity}
 use Rattle.masks.specs.Lists.{all}
 use Rattle.masks.specs.Outcome.{refused, done}
 use Rattle.masks.specs.declared.reply.Reply.{Reply}
@@ -15,14 +16,15 @@ use Rattle.masks.proofs.Laws.Logic.{and_left, and_right}
 use Rattle.masks.proofs.Laws.Outcome.{answers_refused, answers_short, answers_done}
 use Rattle.book.specs.Limits.{max_predicates}
 use Rattle.book.specs.Book.{Call, Book}
-use Rattle.book.specs.Format.{number, fault, judge}
+use Rattle.book.specs.Format.{allows, number, fault, judge}
 use Rattle.book.specs.Held.{book_in, book_of}
 use Rattle.book.specs.Table.{Table, table_in}
 use Rattle.std.specs.Prelude.{Ok, Err}
 use Rattle.book.specs.declared.fault.Fault.{Fault}
 use Rattle.book.specs.declared.fault.FaultAt.{FaultAt}
+use Rattle.book.specs.declared.range.Range.TheVariants.{AtMost}
+use Rattle.records.specs.declared.fault.FaultFromEnd.{FaultFromEnd}
 use Rattle.book.proofs.Laws.Sets.{calls_below, fit_callable, fit_below}
-use Rattle.records.specs.Read.{Arities}
 use Rattle.reading.specs.Judged.{BookHeld}
 use Rattle.reading.proofs.Laws.Judged.{read_well}
 use Rattle.ordering.specs.Adorn.{nothing}
@@ -50,8 +52,11 @@ module _ (B : Book) (b : RuleBook) (T : Table) (l : Lent B b T) where
   abbrev ar : List ℕ
   ar = take b.preds b.arities
 
-  pub lent_arities : Arities (take b.preds b.arities)
-  lent_arities = subst Arities l.arities· (record { few = leb-true (length B.arities) max_predicates l.well.few_predicates; fit = l.well.arities_fit })
+  pub lent_few : length (take b.preds b.arities) ≤ max_predicates
+  lent_few = subst (λ (a : List ℕ). length a ≤ max_predicates) l.arities· (leb-true (length B.arities) max_predicates l.well.few_predicates)
+
+  pub lent_fit : all (allows (AtMost max_arity)) (take b.preds b.arities) ≡ true
+  lent_fit = subst (λ (a : List ℕ). all (allows (AtMost max_arity)) a ≡ true) l.arities· l.well.arities_fit
 
   pub lent_size : length (take b.preds b.arities) ≡ b.preds
   lent_size = ap length (sym l.arities·) ∙ l.preds·
@@ -60,9 +65,9 @@ module _ (B : Book) (b : RuleBook) (T : Table) (l : Lent B b T) where
   order : (q : List Call) → query_fits ar q ≡ true → first_good T q nothing ≡ first_good (final B) q nothing
   order q t =
       let calls = query_calls_lem ar q t in
-      let few : b.preds ≤ max_predicates = let a = lent_arities.few in let e = lent_size in omega arith in
+      let few : b.preds ≤ max_predicates = let a = lent_few in let e = lent_size in omega arith in
       ap (λ (U : Table). first_good U q nothing) l.table·
-      ∙ admitted_first l.masks l.words l.admitted b.preds few q (fit_callable ar lent_arities.few q calls) (fit_few ar lent_arities.fit q calls)
+      ∙ admitted_first l.masks l.words l.admitted b.preds few q (fit_callable ar lent_few q calls) (fit_few ar lent_fit q calls)
       (subst (λ (n : ℕ). calls_below n q ≡ true) lent_size (fit_below ar q calls)) nothing
       ∙ ap (λ (U : Table). first_good U q nothing) l.final·
 
@@ -102,9 +107,11 @@ module _ (B : Book) (b : RuleBook) (T : Table) (l : Lent B b T) where
 -- ---- the three ways a page ends
 
 module _ (b : RuleBook) (T : Table) (r : List ℕ) {image : List ℕ} where
-  pub give_bad : {e : FaultAt} → RunAnswered (take b.preds b.arities) r T (Err e) image → (out : List ℕ) (t : Tally)
-      → Gives b T r out t (record { number = number e.fault; value = e.at; rounds = 0 }) out t
-  give_bad {e} w out t B l = rw (given_fault B b T l r w.comes) (tallies_refused (number e.fault) e.at (answers_refused (number e.fault) e.at out refl))
+  pub give_bad : {e : FaultFromEnd} → RunAnswered (take b.preds b.arities) r T (Err e) image → (out : List ℕ) (t : Tally)
+      → Gives b T r out t (record { number = number e.fault; value = length r - e.left; rounds = 0 }) out t
+  give_bad {e} w out t B l =
+      rw (given_fault B b T l r w.comes)
+      (tallies_refused (number e.fault) (length r - e.left) (answers_refused (number e.fault) (length r - e.left) out refl))
 
   module _ {a : Answered} (w : RunAnswered (take b.preds b.arities) r T (Ok a) image) where
     abbrev bytes : List ℕ

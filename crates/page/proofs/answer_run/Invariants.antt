@@ -5,7 +5,7 @@ use Rattle.page.proofs.Laws.Asking.{Asking}
 use Rattle.page.proofs.answer_run.Given as goal
 
 abbrev pub invariant-loop-tally : goal.invariant-loop-tally
-invariant-loop-tally l = Asking l.ar l.run l.table l.initial.image l.image l.at l.n l.size l.tally
+invariant-loop-tally l = Asking l.ar.list.now l.run l.table l.initial.image l.image l.n l.left l.size l.tally
 
 abbrev pub decreases-loop-tally : goal.decreases-loop-tally
 decreases-loop-tally l = 256 - l.n

@@ -6,9 +6,8 @@ use mathlib.Core.Logic.{⊎_elim}
 use mathlib.Core.List.{List, [], ◌∷◌, ◌++◌, map, map-append}
 use Prim.Native.Nat.{ℕ, zero, suc, ◌+◌, ◌*◌, min, ◌≤◌, ◌<◌}
 use native.Mathlib.Omega.{arith}
-use lib.ListN.{length, get_or, drop, set, length-set, length-map, get_or-map}
+use lib.ListN.{length, get_or, set, length-set, length-map, get_or-map}
 use lib.Seq.{sets, length-sets, get_or-set_same, get_or-set_other, ext_get_or}
-use Rattle.std.specs.Prelude.{Result, Ok, Err}
 use Rattle.masks.specs.Lists.{values}
 use Rattle.masks.proofs.Laws.Logic.{by_range, clash, false_of, or_left, or_right, or_case}
 use Rattle.masks.proofs.Laws.Lists.{length_values, values_cong, get_or_values}
@@ -16,7 +15,8 @@ use Rattle.book.specs.Limits.{max_clauses, max_subgoals}
 use Rattle.book.specs.Book.{Head, Call}
 use Rattle.book.specs.Format.{spelling, leads, turn, Bodied, mark_at, many, subgoal}
 use Rattle.book.specs.Held.{head_in, call_in, clause_size, rules_size, clause_at, StoredClause}
-use Rattle.book.specs.declared.fault.FaultAt.{FaultAt}
+use Rattle.std.specs.Prelude.{Result, Ok, Err}
+use Rattle.std.specs.Borrow.{Bor}
 use Rattle.book.specs.declared.fault.Fault.TheVariants.{TooMany}
 use Rattle.book.specs.declared.mark.Mark.{Mark}
 use Rattle.book.specs.declared.mark.Mark.TheVariants.{Sg, Ng}
@@ -24,43 +24,40 @@ use Rattle.book.specs.declared.mark.Phase.{Phase}
 use Rattle.book.specs.declared.mark.Phase.TheVariants.{Body}
 use Rattle.book.specs.declared.mark.Turn.TheVariants.{Mine}
 use Rattle.book.proofs.Laws.Marks.{in_body, unled}
-use Rattle.records.specs.Read.{RunEnds, next, value, alone, Reads, leads_subgoal}
+use Rattle.records.specs.declared.fault.FaultFromEnd.{FaultFromEnd}
+use Rattle.records.specs.Read.{RunEnds, value, rest, alone, Reads, stops, leads_subgoal}
 use Rattle.records.proofs.Laws.Reads.{err_ok}
 use Rattle.records.proofs.Laws.Stores.{sets_last}
 use Rattle.reading.specs.Stored.{onward, ReadsBody}
-use Rattle.reading.proofs.Laws.Runs.{Going, mine_at, mark_there, stops_reads, going_start, going_full, going_bad, going_next, going_stops}
+use Rattle.reading.proofs.Laws.Runs.{Going, mine, stops_reads, going_start, going_full, going_bad, going_next, going_stops}
 
 -- ---- a run of subgoals
 
--- a mark of either kind leads the bytes at a place, or none does
-module _ (p : Phase) (b : Bodied p) (s : List ℕ) (at : ℕ) where
-  subgoal_at_lem : leads_subgoal (drop at s) ≡ true → turn p (mark_at (drop at s)) ≡ Mine
-  subgoal_at_lem t =
-      or_case (leads (spelling Sg) (drop at s)) (leads (spelling Ng) (drop at s)) t (mine_at p Sg s at b.positive) (mine_at p Ng s at b.negated)
+-- a mark of either kind leads the bytes, or none does
+module _ (p : Phase) (b : Bodied p) (s : List ℕ) where
+  subgoal_here : leads_subgoal s ≡ true → turn p (mark_at s) ≡ Mine
+  subgoal_here t = or_case (leads (spelling Sg) s) (leads (spelling Ng) s) t (mine p Sg s b.positive) (mine p Ng s b.negated)
 
-  no_subgoal_at : leads_subgoal (drop at s) ≡ false → turn p (mark_at (drop at s)) ≡ Mine → ⊥
-  no_subgoal_at t =
-      let led : Mark → Bool = λ (j : Mark). leads (spelling j) (drop at s) in
-      unled p (drop at s)
+  no_subgoal_here : leads_subgoal s ≡ false → turn p (mark_at s) ≡ Mine → ⊥
+  no_subgoal_here t =
+      let led : Mark → Bool = λ (j : Mark). leads (spelling j) s in
+      unled p s
       (λ m e.
       ⊎_elim (λ d. ap led d ∙ false_of (λ h. clash (or_left (led Sg) (led Ng) h) t)) (λ d. ap led d ∙ false_of (λ h. clash (or_right (led Sg) h) t)) (b.sole m e))
 
 -- ---- the loop
 
 -- so far the n words were read, and are stored
-pub record Bodying (ar s : List ℕ) (from at n base : ℕ) (before now : List ℕ) : Type 0 where
+pub record Bodying (ar whole : List ℕ) (n : ℕ) (left : List ℕ) (base : ℕ) (before now : List ℕ) : Type 0 where
   pub words : List ℕ
-  pub going : (p : Phase) → Bodied p → Going p (subgoal ar) s max_subgoals from at n (map call_in words)
+  pub going : (p : Phase) → Bodied p → Going p (subgoal ar) max_subgoals whole n left (map call_in words)
   pub stored : now ≡ sets before (base + 2) words
 
-module _ (ar s : List ℕ) (from k : ℕ) (before : List ℕ) where
-  pub bodying_start : from ≤ length s → Bodying ar s from from 0 (k * clause_size) before before
-  bodying_start h = record { words = []; going = λ p b. going_start p (subgoal ar) s max_subgoals from h; stored = refl }
+module _ (ar whole : List ℕ) (k : ℕ) (before : List ℕ) where
+  pub bodying_start : Bodying ar whole 0 whole (k * clause_size) before before
+  bodying_start = record { words = []; going = λ p b. going_start p (subgoal ar) max_subgoals whole; stored = refl }
 
-  module _ {at n : ℕ} {now : List ℕ} (l : Bodying ar s from at n (k * clause_size) before now) where
-    pub bodying_inside : at ≤ length s
-    bodying_inside = (l.going Body in_body).inside
-
+  module _ {n : ℕ} {s now : List ℕ} (l : Bodying ar whole n s (k * clause_size) before now) where
     pub bodying_few : n ≤ max_subgoals
     bodying_few = (l.going Body in_body).turns
 
@@ -68,39 +65,34 @@ module _ (ar s : List ℕ) (from k : ℕ) (before : List ℕ) where
     count = sym (length-map l.words call_in) ∙ (l.going Body in_body).size
 
     -- a fault, of the run or of a subgoal
-    faulty : {e : FaultAt}
-        → ((p : Phase) → Bodied p → Reads alone s (Err e) (λ j. map call_in l.words) (many p (subgoal ar) max_subgoals [] (drop from s)))
-        → ReadsBody ar s from k (Err e) before now
+    faulty : {e : FaultFromEnd} → ((p : Phase) → Bodied p → Reads alone (Err e) (λ j. map call_in l.words) (many p (subgoal ar) max_subgoals [] whole))
+        → ReadsBody ar whole k (Err e) before now
     faulty {e} w =
         record {
           words = l.words;
           few = let c = count in let t = bodying_few in omega arith;
-          inside = (w Body in_body).inside;
           reads = λ p b. (w p b).is;
           stored = λ a d. err_ok refl d;
         }
 
-    module _ (t : leads_subgoal (drop at s) ≡ true) where
-      pub bodying_there : at + 2 ≤ length s
-      bodying_there = mark_there Body s at (subgoal_at_lem Body in_body s at t)
+    module _ (t : leads_subgoal s ≡ true) where
+      pub bodying_full : max_subgoals ≤ n → ReadsBody ar whole k (Err (record { fault = TooMany; left = length s })) before now
+      bodying_full h = faulty (λ p b. going_full p (subgoal ar) max_subgoals whole (l.going p b) (subgoal_here p b s t) h)
 
-      pub bodying_full : max_subgoals ≤ n → ReadsBody ar s from k (Err (record { fault = TooMany; at = at })) before now
-      bodying_full h = faulty (λ p b. going_full p (subgoal ar) s max_subgoals from (l.going p b) (subgoal_at_lem p b s at t) h)
-
-      module _ (h : n < max_subgoals) {g : Result (ℕ × ℕ) FaultAt} (r : Reads next s g (λ v. call_in (value v)) (subgoal ar [] (drop at s))) where
-        pub bodying_bad : {e : FaultAt} → g ≡ Err e → ReadsBody ar s from k (Err e) before now
+      module _ (h : n < max_subgoals) {g : Result (ℕ × Bor (List ℕ)) FaultFromEnd} (r : Reads rest g (λ v. call_in (value v)) (subgoal ar [] s)) where
+        pub bodying_bad : {e : FaultFromEnd} → g ≡ Err e → ReadsBody ar whole k (Err e) before now
         unfolding subgoal
-        bodying_bad e = faulty (λ p b. going_bad p (subgoal ar) s max_subgoals from (l.going p b) (subgoal_at_lem p b s at t) h r e)
+        bodying_bad e = faulty (λ p b. going_bad p (subgoal ar) max_subgoals whole (l.going p b) (subgoal_here p b s t) h r e)
 
-        pub bodying_next : {v : ℕ × ℕ} → g ≡ Ok v → {after : List ℕ} → after ≡ set now (k * clause_size + 2 + n) (value v)
-            → Bodying ar s from (next v) (n + 1) (k * clause_size) before after
+        pub bodying_next : {v : ℕ × Bor (List ℕ)} → g ≡ Ok v → {after : List ℕ} → after ≡ set now (k * clause_size + 2 + n) (value v)
+            → Bodying ar whole (n + 1) (rest v) (k * clause_size) before after
         unfolding subgoal
         bodying_next {v} e d =
             record {
               words = l.words ++ (value v ∷ []);
               going =
                   λ p b.
-                  going_next p (subgoal ar) s max_subgoals from (l.going p b) (subgoal_at_lem p b s at t) h r e
+                  going_next p (subgoal ar) max_subgoals whole (l.going p b) (subgoal_here p b s t) h r e
                   (map-append call_in l.words (value v ∷ []));
               stored =
                   d
@@ -108,14 +100,15 @@ module _ (ar s : List ℕ) (from k : ℕ) (before : List ℕ) where
                   ∙ sets_last before (k * clause_size + 2) n l.words (value v) count;
             }
 
-    pub bodying_end : leads_subgoal (drop at s) ≡ false → {after : List ℕ} → after ≡ set now (k * clause_size) n
-        → ReadsBody ar s from k (Ok at) before after
-    bodying_end t d =
+    pub bodying_end : leads_subgoal s ≡ false → {b : Bor (List ℕ)} → b.now ≡ s → {after : List ℕ} → after ≡ set now (k * clause_size) n
+        → ReadsBody ar whole k (Ok b) before after
+    bodying_end t {b} z d =
         record {
           words = l.words;
           few = let c = count in let u = bodying_few in omega arith;
-          inside = bodying_inside;
-          reads = λ p b. going_stops p (subgoal ar) s max_subgoals from (l.going p b) (no_subgoal_at p b s at t);
+          reads =
+              λ p i.
+              ap (stops p (map call_in l.words)) z ∙ going_stops p (subgoal ar) max_subgoals whole (l.going p i) (no_subgoal_here p i s t);
           stored =
               λ a e.
               d ∙ ap₂ (λ (x : List ℕ) (y : ℕ). set x (k * clause_size) y) l.stored (sym count);
@@ -123,20 +116,15 @@ module _ (ar s : List ℕ) (from k : ℕ) (before : List ℕ) where
 
 -- ---- what was read, once its end is judged
 
-module _ {ar s : List ℕ} {from k : ℕ} {g : Result ℕ FaultAt} {before after : List ℕ} (w : ReadsBody ar s from k g before after) where
-  pub body_inside : {end : ℕ} → g ≡ Ok end → end ≤ length s
-  body_inside e = rw e at w.inside
+module _ {ar s : List ℕ} {k : ℕ} {g : Result (Bor (List ℕ)) FaultFromEnd} {before after : List ℕ} (w : ReadsBody ar s k g before after) (p : Phase) (b : Bodied p) where
+  pub body_bad : {W : Type 0} {then : W → List ℕ} {f : W → List Call} {e : FaultFromEnd} → g ≡ Err e → Reads then (Err e) f (many p (subgoal ar) max_subgoals [] s)
+  body_bad e = record { is = ap (λ (h : Result (Bor (List ℕ)) FaultFromEnd). onward p h (map call_in w.words)) (sym e) ∙ w.reads p b }
 
-  module _ (p : Phase) (b : Bodied p) where
-    pub body_bad : {W : Type 0} {then : W → ℕ} {f : W → List Call} {e : FaultAt} → g ≡ Err e → Reads then s (Err e) f (many p (subgoal ar) max_subgoals [] (drop from s))
-    body_bad e =
-        record { inside = rw e at w.inside; is = ap (λ (h : Result ℕ FaultAt). onward p s h (map call_in w.words)) (sym e) ∙ w.reads p b }
-
-    pub body_next : {end : ℕ} → g ≡ Ok end → {r : Result ℕ FaultAt} → RunEnds p s end r
-        → Reads alone s r (λ j. map call_in w.words) (many p (subgoal ar) max_subgoals [] (drop from s))
-    body_next {end} e v =
-        let u = stops_reads p s end (map call_in w.words) v in
-        record { inside = u.inside; is = u.is ∙ ap (λ (h : Result ℕ FaultAt). onward p s h (map call_in w.words)) (sym e) ∙ w.reads p b }
+  pub body_next : {t : Bor (List ℕ)} → g ≡ Ok t → {r : Result (Unit {0}) FaultFromEnd} → RunEnds p t.now r
+      → Reads (λ u. t.now) r (λ u. map call_in w.words) (many p (subgoal ar) max_subgoals [] s)
+  body_next {t} e v =
+      let u = stops_reads p t.now (map call_in w.words) v in
+      record { is = u.is ∙ ap (λ (h : Result (Bor (List ℕ)) FaultFromEnd). onward p h (map call_in w.words)) (sym e) ∙ w.reads p b }
 
 -- ---- the words of a clause
 

@@ -3,8 +3,7 @@
 use mathlib.Core.Path.{◌≡◌, refl, sym, ap, ◌∙◌, subst}
 use mathlib.Core.List.{List}
 use Prim.Native.Nat.{ℕ}
-use lib.ListN.{length}
-use Rattle.std.specs.Prelude.{Result, Ok, Err}
+use lib.ListN.{length, take}
 use Rattle.masks.specs.Set.{Holds}
 use Rattle.masks.specs.Outcome.{Outcome, Answers}
 use Rattle.book.specs.Book.{Book}
@@ -12,11 +11,14 @@ use Rattle.book.specs.Format.{number, Judged, fault, book, judge, read_book}
 use Rattle.book.specs.Encode.{encode, WellFormed}
 use Rattle.book.specs.Answer.{on_book}
 use Rattle.book.specs.Held.{has_mode, book_in, book_of}
+use Rattle.std.specs.Prelude.{Result, Ok, Err}
+use Rattle.std.specs.Borrow.{Bor}
 use Rattle.book.specs.declared.fault.FaultAt.{FaultAt}
 use Rattle.reading.specs.declared.Reading.{Reading}
 use Rattle.book.specs.declared.held.RuleBook.{RuleBook}
-use Rattle.reading.specs.Judged.{Listed, checked, BookHeld}
-use Rattle.records.specs.Read.{next, value, Reads}
+use Rattle.reading.specs.Judged.{Listed, checked, placed, BookHeld}
+use Rattle.records.specs.declared.fault.FaultFromEnd.{FaultFromEnd}
+use Rattle.records.specs.Read.{value, rest, Reads}
 use Rattle.reading.specs.Stored.{ReadsPredicates, ReadsRules, ReadsBook}
 use Rattle.masks.proofs.Laws.Outcome.{answers_refused}
 use Rattle.book.proofs.Laws.Answer.{number_some, on_fault, on_book_lem}
@@ -35,34 +37,35 @@ zero_check b w = ap checked (judge_encode b w)
 
 -- ---- a book read into arrays
 
-module _ {s : List ℕ} {p : Result (ℕ × ℕ) FaultAt} {arities : List ℕ} (w : ReadsPredicates s p arities) (modes rules : List ℕ) where
+module _ {s : List ℕ} {p : Result (ℕ × Bor (List ℕ)) FaultFromEnd} {arities : List ℕ} (w : ReadsPredicates s p arities) (modes rules : List ℕ) where
   -- the predicates have a fault, which is the book's
-  pub reads_none : {e : FaultAt} → p ≡ Err e → (modes· rules· : List ℕ) → ReadsBook s (Err e) modes rules arities modes· rules·
+  pub reads_none : {e : FaultFromEnd} → p ≡ Err e → (modes· rules· : List ℕ) → ReadsBook s (placed s (Err e)) modes rules arities modes· rules·
   reads_none d modes· rules· = let f = whole_bad s w d in record { judges = f; holds = λ room. f }
 
   -- what follows them decides
-  pub reads_book : {v : ℕ × ℕ} → p ≡ Ok v → {r : Result Reading FaultAt} {modes· rules· : List ℕ} → ReadsRules (value v) arities s (next v) r modes rules modes· rules·
-      → ReadsBook s r modes rules arities modes· rules·
+  pub reads_book : {v : ℕ × Bor (List ℕ)} → p ≡ Ok v → {r : Result Reading FaultFromEnd} {modes· rules· : List ℕ}
+      → ReadsRules (take (value v) arities) (rest v) r modes rules modes· rules· → ReadsBook s (placed s r) modes rules arities modes· rules·
   unfolding book_in
   reads_book {v} d {r} {modes·} {rules·} x = go r refl
     where
-      read : Reads (λ y. x.end) s r (λ n. x.book) (read_book s)
+      read : Reads (λ y. x.end) r (λ n. x.book) (read_book s)
       read = whole_next s w d x.reads
 
-      go : (q : Result Reading FaultAt) → r ≡ q → ReadsBook s q modes rules arities modes· rules·
-      go (Err e) f = let j = judged_fault read f in record { judges = j; holds = λ room. j }
+      go : (q : Result Reading FaultFromEnd) → r ≡ q → ReadsBook s (placed s q) modes rules arities modes· rules·
+      go (Err e) f = let j = judged_fault s read f in record { judges = j; holds = λ room. j }
       go (Ok y) f =
           let is = x.is y f in
-          let j = judged_book read f in
+          let j = judged_book s read f in
           let l = w.listed v d in
+          let n : y.preds ≡ value v = is.preds· ∙ l.each in
           record {
-            judges = (x.book, j, ap length is.arities· ∙ l.each ∙ sym is.preds·);
+            judges = (x.book, j, ap length is.arities· ∙ sym is.preds·);
             holds =
                 λ room.
-                let h = ap (λ (n : ℕ). book_in n arities modes· y.clauses rules·) is.preds· ∙ x.stored y f room in
+                let h = ap (λ (n : ℕ). book_in n arities modes· y.clauses rules·) n ∙ x.stored y f room (value v) arities refl in
                 record {
                   is = j ∙ ap book (sym h);
-                  listed = subst (λ (n : ℕ). Listed n arities) (sym is.preds·) l;
+                  listed = subst (λ (n : ℕ). Listed n arities) (sym n) l;
                   few = is.few;
                   given = subst (λ (z : Book). Holds y.with_mode (has_mode z.modes)) (sym h) is.given;
                 };

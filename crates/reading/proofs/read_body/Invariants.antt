@@ -4,8 +4,8 @@ use Rattle.book.specs.Held.{clause_size}
 use Rattle.reading.proofs.Laws.Bodies.{Bodying}
 use Rattle.reading.proofs.read_body.Given as goal
 
-abbrev pub invariant-loop-from : goal.invariant-loop-from
-invariant-loop-from l = Bodying l.ar l.s l.from l.at l.n (l.k * clause_size) l.initial.rules l.rules
+abbrev pub invariant-loop-left : goal.invariant-loop-left
+invariant-loop-left l = Bodying l.ar.list.now l.s l.n l.left (l.k * clause_size) l.initial.rules l.rules
 
-abbrev pub decreases-loop-from : goal.decreases-loop-from
-decreases-loop-from l = 8 - l.n
+abbrev pub decreases-loop-left : goal.decreases-loop-left
+decreases-loop-left l = 8 - l.n

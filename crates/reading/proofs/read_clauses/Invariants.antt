@@ -3,8 +3,8 @@ use Prim.Native.Nat.{◌-◌}
 use Rattle.reading.proofs.Laws.Clauses.{Clausing}
 use Rattle.reading.proofs.read_clauses.Given as goal
 
-abbrev pub invariant-loop-from : goal.invariant-loop-from
-invariant-loop-from l = Clausing l.ar l.s l.from l.at l.n l.initial.rules l.rules
+abbrev pub invariant-loop-left : goal.invariant-loop-left
+invariant-loop-left l = Clausing l.ar.list.now l.s l.n l.left l.initial.rules l.rules
 
-abbrev pub decreases-loop-from : goal.decreases-loop-from
-decreases-loop-from l = 64 - l.n
+abbrev pub decreases-loop-left : goal.decreases-loop-left
+decreases-loop-left l = 64 - l.n

@@ -7,8 +7,8 @@ use Rattle.book.specs.declared.mark.Phase.TheVariants.{Predicates}
 use Rattle.reading.proofs.Laws.Runs.{Going}
 use Rattle.reading.proofs.read_predicates.Given as goal
 
-abbrev pub invariant-loop-at : goal.invariant-loop-at
-invariant-loop-at l = (length l.arities ≡ 64) × Going Predicates predicate l.s 64 0 l.at l.n (take l.n l.arities)
+abbrev pub invariant-loop-left : goal.invariant-loop-left
+invariant-loop-left l = (length l.arities ≡ 64) × Going Predicates predicate 64 l.s l.n l.left (take l.n l.arities)
 
-abbrev pub decreases-loop-at : goal.decreases-loop-at
-decreases-loop-at l = 64 - l.n
+abbrev pub decreases-loop-left : goal.decreases-loop-left
+decreases-loop-left l = 64 - l.n

@@ -1,39 +1,31 @@
 -- A call read into a word from the low end on: each argument is a byte above those before it. Assumes nothing.
 use mathlib.Core.Path.{◌≡◌, refl, sym, ap, ap₂, ◌∙◌, subst}
-use mathlib.Core.Bool.{Bool, true, ◌||◌}
+use mathlib.Core.Bool.{Bool, true}
 use mathlib.Core.List.{List, [], ◌∷◌, ◌++◌}
 use Prim.Native.Nat.{ℕ, suc, ◌+◌, ◌*◌, ◌%◌, ◌^◌, min, ◌≤◌, ◌<◌}
 use native.Mathlib.Nat.{mul_assoc, mul-le-mul_right}
 use native.Mathlib.Omega.{arith}
-use lib.Dec.{eqb, ltb, leb}
-use lib.ListN.{length, get_or, take, drop}
+use lib.Dec.{ltb}
+use lib.ListN.{length, get_or, take}
 use lib.Seq.{ext_get_or}
 use lib.Pow.{are_bytes, pow-add, pow_mono, shl_exact}
-use borrow.Author.Tests.{lt-ltb, ltb-true, eqb-true, eqb-false}
-use Rattle.std.specs.Prelude.{Result, Ok, Err}
+use borrow.Author.Tests.{lt-ltb, ltb-true}
 use Rattle.masks.specs.Limits.{max_arity}
 use Rattle.masks.specs.Lists.{values}
-use Rattle.masks.proofs.Laws.Logic.{by_bool, and_intro, and_left, and_right}
+use Rattle.masks.proofs.Laws.Logic.{and_intro, and_left, and_right}
 use Rattle.masks.proofs.Laws.Lists.{length_values, get_or_values, take_values}
 use Rattle.book.specs.Book.{Head}
-use Rattle.book.specs.Format.{allows, byte, fields}
+use Rattle.book.specs.Format.{byte, fields}
 use Rattle.book.specs.Held.{count_in, negated_in, byte_of, head_in}
-use Rattle.book.specs.declared.fault.FaultAt.{FaultAt}
+use Rattle.std.specs.Prelude.{Result, Ok, Err}
+use Rattle.std.specs.Borrow.{Bor}
 use Rattle.book.specs.declared.range.Range.{Range}
 use Rattle.book.specs.declared.range.Range.TheVariants.{Below}
 use Rattle.book.proofs.Laws.Words.{word_of, byte_of_word_of}
-use Rattle.records.specs.Read.{next, value, Reads}
-use Rattle.records.specs.Stored.{argument_from, arguments, ReadsCall}
-use Rattle.records.proofs.Laws.Reads.{argument_is, no_wildcard_is, err_ok, then_bad, then_next, reads_map, reads_same, Left, left_start, left_bad, left_next, left_end}
-
--- ---- arguments
-
--- the byte from which on a byte is an argument tells the range
-pub argument_from_lem : (least x : ℕ) → 254 ≤ least → least ≤ 255 → x ≤ 255 → (leb x 15 || leb least x) ≡ allows (argument_from least) x
-argument_from_lem least x l m h =
-    by_bool (eqb least 255)
-    (λ t. let e = eqb-true least 255 t in rw e (no_wildcard_is x h))
-    (λ t. let ne = eqb-false least 255 t in let e : least ≡ 254 = omega (arith, ne) in rw e (argument_is x h))
+use Rattle.records.specs.declared.fault.FaultFromEnd.{FaultFromEnd}
+use Rattle.records.specs.Read.{value, rest, Reads}
+use Rattle.records.specs.Stored.{arguments, ReadsCall}
+use Rattle.records.proofs.Laws.Reads.{err_ok, then_bad, then_next, reads_map, reads_same, Left, left_start, left_bad, left_next, left_end}
 
 -- ---- bytes in a word
 
@@ -95,56 +87,57 @@ head_in_word p k n args c few size b =
 -- ---- the loop over the arguments
 
 -- k is the byte with the number of arguments n
-pub record Calling (r : Range) (s : List ℕ) (p k n from at i shift w : ℕ) : Type 0 where
+pub record Calling (r : Range) (p k n : ℕ) (whole : List ℕ) (i : ℕ) (left : List ℕ) (shift w : ℕ) : Type 0 where
   pub args : List ℕ
-  pub left : Left r s n from at i args
+  pub left· : Left r n whole i left args
   pub bytes : are_bytes (p ∷ k ∷ args) ≡ true
   pub word : w ≡ word_of (p ∷ k ∷ args)
   pub place : shift ≡ 16 + 8 * i
 
-module _ (r : Range) (s : List ℕ) (p k n from : ℕ) where
-  pub calling_start : from ≤ length s → p < 256 → k < 256 → Calling r s p k n from from 0 16 (k * 256 + p)
+module _ (r : Range) (p k n : ℕ) (whole : List ℕ) where
+  pub calling_start : p < 256 → k < 256 → Calling r p k n whole 0 whole 16 (k * 256 + p)
   unfolding word_of
-  calling_start h bp bn =
+  calling_start bp bn =
       record {
         args = [];
-        left = left_start r s n from h;
+        left· = left_start r n whole;
         bytes = and_intro (lt-ltb p 256 bp) (and_intro (lt-ltb k 256 bn) refl);
         word = omega arith;
         place = refl;
       }
 
-  module _ {at i shift w : ℕ} (c : Calling r s p k n from at i shift w) where
+  module _ {i : ℕ} {s : List ℕ} {shift w : ℕ} (c : Calling r p k n whole i s shift w) where
     size : 8 * length (p ∷ k ∷ c.args) ≡ shift
-    size = let e = c.left.size in let f = c.place in omega arith
+    size = let e = c.left·.size in let f = c.place in omega arith
 
     pub calling_less : w < 2 ^ shift
     calling_less = let l = word_of_less (p ∷ k ∷ c.args) c.bytes in rw c.word (subst (λ (j : ℕ). word_of (p ∷ k ∷ c.args) < 2 ^ j) size l)
 
-    module _ (h : i < n) {g : Result (ℕ × ℕ) FaultAt} (w· : Reads next s g value (byte r (drop at s))) where
-      pub calling_bad : {negated : Bool} {e : FaultAt} → g ≡ Err e → ReadsCall s (Err e) negated (arguments r p n (drop from s))
+    module _ (h : i < n) {g : Result (ℕ × Bor (List ℕ)) FaultFromEnd} (w· : Reads rest g value (byte r s)) where
+      pub calling_bad : {negated : Bool} {e : FaultFromEnd} → g ≡ Err e → ReadsCall (Err e) negated (arguments r p n whole)
       unfolding arguments
-      calling_bad e = record { reads = then_bad (left_bad r s n from c.left h w· {then = next} {f = λ j. []} e) _ refl; sign = λ v d. err_ok refl d }
+      calling_bad e = record { reads = then_bad (left_bad r n whole c.left· h w· {then = rest} {f = λ j. []} e) _ refl; sign = λ v d. err_ok refl d }
 
-      pub calling_next : {v : ℕ × ℕ} {more : ℕ} → g ≡ Ok v → value v < 256 → more ≡ w + value v * 2 ^ shift → Calling r s p k n from (next v) (i + 1) (shift + 8) more
+      pub calling_next : {v : ℕ × Bor (List ℕ)} {more : ℕ} → g ≡ Ok v → value v < 256 → more ≡ w + value v * 2 ^ shift
+          → Calling r p k n whole (i + 1) (rest v) (shift + 8) more
       calling_next {v} e b d =
           record {
             args = c.args ++ (value v ∷ []);
-            left = left_next r s n from c.left h w· e;
+            left· = left_next r n whole c.left· h w· e;
             bytes = are_bytes_last (p ∷ k ∷ c.args) (value v) c.bytes b;
             word = d ∙ ap₂ (λ (a j : ℕ). a + value v * 2 ^ j) c.word (sym size) ∙ sym (word_of_last (p ∷ k ∷ c.args) (value v));
             place = let f = c.place in omega arith;
           }
 
-    pub calling_end : {negated : Bool} → (count_in k ≡ n) × (negated_in k ≡ negated) → n ≤ max_arity → n ≤ i
-        → ReadsCall s (Ok (at, w)) negated (arguments r p n (drop from s))
+    pub calling_end : {negated : Bool} {b : Bor (List ℕ)} → b.now ≡ s → (count_in k ≡ n) × (negated_in k ≡ negated) → n ≤ max_arity → n ≤ i
+        → ReadsCall (Ok (w, b)) negated (arguments r p n whole)
     unfolding arguments
-    calling_end counts few h =
-        let e : length c.args ≡ n = (let t = c.left.turns in let z = c.left.size in omega arith) in
+    calling_end {negated} {b} z counts few h =
+        let e : length c.args ≡ n = (let t = c.left·.turns in let z = c.left·.size in omega arith) in
         let is : head_in w ≡ record { pred = p; args = c.args } = ap head_in c.word ∙ head_in_word p k n c.args counts.0 few e c.bytes in
         record {
           reads =
-              reads_same (reads_map (left_end r s n from c.left {after = next} {v = (at, w)} refl h) (λ (l : List ℕ). record { pred = p; args = l }))
+              reads_same (reads_map (left_end r n whole c.left· {left = rest} {v = (w, b)} z h) (λ (l : List ℕ). record { pred = p; args = l }))
               (λ v d. ap head_in (same v d) ∙ is);
           sign =
               λ v d.
@@ -153,17 +146,17 @@ module _ (r : Range) (s : List ℕ) (p k n from : ℕ) where
               ∙ counts.1;
         }
       where
-        same : (v : ℕ × ℕ) → ◌≡◌ {A = Result (ℕ × ℕ) FaultAt} (Ok (at, w)) (Ok v) → value v ≡ w
+        same : (v : ℕ × Bor (List ℕ)) → ◌≡◌ {A = Result (ℕ × Bor (List ℕ)) FaultFromEnd} (Ok (w, b)) (Ok v) → value v ≡ w
         same v d = cc
 
 -- ---- a call
 
-module _ (range : Range) (ar s : List ℕ) (at : ℕ) {g : Result (ℕ × ℕ) FaultAt} (w : Reads next s g value (byte (Below (length ar)) (drop at s))) where
-  pub call_none : {negated : Bool} {e : FaultAt} → g ≡ Err e → ReadsCall s (Err e) negated (fields range ar (drop at s))
+module _ (range : Range) (ar s : List ℕ) {g : Result (ℕ × Bor (List ℕ)) FaultFromEnd} (w : Reads rest g value (byte (Below (length ar)) s)) where
+  pub call_none : {negated : Bool} {e : FaultFromEnd} → g ≡ Err e → ReadsCall (Err e) negated (fields range ar s)
   unfolding fields
   call_none e = record { reads = then_bad w _ e; sign = λ v d. err_ok refl d }
 
-  pub call_read : {v : ℕ × ℕ} {c : Result (ℕ × ℕ) FaultAt} {negated : Bool} → g ≡ Ok v
-      → ReadsCall s c negated (arguments range (value v) (get_or ar (value v) 0) (drop (next v) s)) → ReadsCall s c negated (fields range ar (drop at s))
+  pub call_read : {v : ℕ × Bor (List ℕ)} {c : Result (ℕ × Bor (List ℕ)) FaultFromEnd} {negated : Bool} → g ≡ Ok v
+      → ReadsCall c negated (arguments range (value v) (get_or ar (value v) 0) (rest v)) → ReadsCall c negated (fields range ar s)
   unfolding fields arguments
   call_read e v = record { reads = then_next w _ e v.reads; sign = v.sign }

@@ -5,23 +5,24 @@ use mathlib.Core.Bool.{cond}
 use mathlib.Core.List.{List, [], ◌∷◌, ◌++◌, append_assoc}
 use Prim.Native.Nat.{ℕ, zero, suc, ◌+◌, ◌-◌, ◌*◌, ◌^◌, ◌≤◌, ◌<◌}
 use native.Mathlib.Omega.{arith}
-use lib.ListN.{length, get_or, take, drop, set, length-append, length-drop}
+use lib.ListN.{length, get_or, take, drop, set, length-append}
 use lib.Seq.{sets, take-take, drop-drop, sets-eq, take_at, drop_at, length-take-le}
 use borrow.Author.Tests.{leb-true, le-leb, lt-leb}
-use Rattle.std.specs.Prelude.{Result, Ok, Err}
 use Rattle.masks.specs.Limits.{max_masks}
 use Rattle.masks.proofs.Laws.Lists.{sets_append}
 use Rattle.book.specs.Limits.{max_predicates}
 use Rattle.book.specs.Book.{Mode}
 use Rattle.book.specs.Format.{allows, byte, bytes, masks, mode_fields}
 use Rattle.book.specs.Held.{mode_size, modes_size, has_in, masks_in, mode_at, StoredMode}
-use Rattle.book.specs.declared.fault.FaultAt.{FaultAt}
+use Rattle.std.specs.Prelude.{Result, Ok, Err}
+use Rattle.std.specs.Borrow.{Bor}
 use Rattle.book.specs.declared.fault.Fault.TheVariants.{Clash}
 use Rattle.book.specs.declared.range.Range.{Range}
 use Rattle.book.specs.declared.range.Range.TheVariants.{Below, AtMost}
 use Rattle.book.proofs.Laws.Windows.{window_others}
 use Rattle.book.proofs.Laws.Got.{bytes_inv}
-use Rattle.records.specs.Read.{next, value, alone, Reads, Arities}
+use Rattle.records.specs.declared.fault.FaultFromEnd.{FaultFromEnd}
+use Rattle.records.specs.Read.{value, rest, alone, Reads}
 use Rattle.records.specs.Stored.{ReadsBytes, ReadsMasks, ReadsMode}
 use Rattle.records.proofs.Laws.Reads.{byte_allowed, err_ok, reads_ok, then_bad, then_next, predicate_known, Left, left_start, left_bad, left_next, left_end}
 
@@ -38,54 +39,54 @@ sets_last l at n xs x e = ap (λ (k : ℕ). set (sets l at xs) (at + k) x) (sym 
 
 -- ---- bytes, one at a time
 
-pub record Laying (r : Range) (s : List ℕ) (k from at i start : ℕ) (before now : List ℕ) : Type 0 where
+pub record Laying (r : Range) (k : ℕ) (whole : List ℕ) (i : ℕ) (left : List ℕ) (start : ℕ) (before now : List ℕ) : Type 0 where
   pub bytes : List ℕ
-  pub left : Left r s k from at i bytes
+  pub left· : Left r k whole i left bytes
   pub stored : now ≡ sets before start bytes
 
-module _ (r : Range) (s : List ℕ) (k from start : ℕ) (before : List ℕ) where
-  pub laying_start : from ≤ length s → Laying r s k from from 0 start before before
-  laying_start h = record { bytes = []; left = left_start r s k from h; stored = refl }
+module _ (r : Range) (k : ℕ) (whole : List ℕ) (start : ℕ) (before : List ℕ) where
+  pub laying_start : Laying r k whole 0 whole start before before
+  laying_start = record { bytes = []; left· = left_start r k whole; stored = refl }
 
-  module _ {at i : ℕ} {now : List ℕ} (l : Laying r s k from at i start before now) where
-    module _ (h : i < k) {g : Result (ℕ × ℕ) FaultAt} (w : Reads next s g value (byte r (drop at s))) where
-      pub laying_bad : {e : FaultAt} → g ≡ Err e → ReadsBytes s (Err e) start before now (bytes r k [] (drop from s))
-      laying_bad e = record { bytes = l.bytes; reads = left_bad r s k from l.left h w e; stored = l.stored }
+  module _ {i : ℕ} {s now : List ℕ} (l : Laying r k whole i s start before now) where
+    module _ (h : i < k) {g : Result (ℕ × Bor (List ℕ)) FaultFromEnd} (w : Reads rest g value (byte r s)) where
+      pub laying_bad : {e : FaultFromEnd} → g ≡ Err e → ReadsBytes (Err e) start before now (bytes r k [] whole)
+      laying_bad e = record { bytes = l.bytes; reads = left_bad r k whole l.left· h w e; stored = l.stored }
 
-      pub laying_next : {v : ℕ × ℕ} → g ≡ Ok v → {after : List ℕ} → after ≡ set now (start + i) (value v)
-          → Laying r s k from (next v) (i + 1) start before after
+      pub laying_next : {v : ℕ × Bor (List ℕ)} → g ≡ Ok v → {after : List ℕ} → after ≡ set now (start + i) (value v)
+          → Laying r k whole (i + 1) (rest v) start before after
       laying_next {v} e d =
           record {
             bytes = l.bytes ++ (value v ∷ []);
-            left = left_next r s k from l.left h w e;
-            stored = d ∙ ap (λ (m : List ℕ). set m (start + i) (value v)) l.stored ∙ sets_last before start i l.bytes (value v) l.left.size;
+            left· = left_next r k whole l.left· h w e;
+            stored = d ∙ ap (λ (m : List ℕ). set m (start + i) (value v)) l.stored ∙ sets_last before start i l.bytes (value v) l.left·.size;
           }
 
-    pub laying_end : k ≤ i → ReadsBytes s (Ok at) start before now (bytes r k [] (drop from s))
-    laying_end h = record { bytes = l.bytes; reads = left_end r s k from l.left refl h; stored = l.stored }
+    pub laying_end : k ≤ i → {b : Bor (List ℕ)} → b.now ≡ s → ReadsBytes (Ok b) start before now (bytes r k [] whole)
+    laying_end h e = record { bytes = l.bytes; reads = left_end r k whole l.left· e h; stored = l.stored }
 
 -- ---- a mode
 
 -- the masks behind the two bytes of a mode
-module _ (k p : ℕ) (s : List ℕ) (at : ℕ) {g : Result (ℕ × ℕ) FaultAt} (w : Reads next s g value (byte (AtMost max_masks) (drop at s))) (before : List ℕ) where
-  pub none_laid : {e : FaultAt} → g ≡ Err e → ReadsMasks s (Err e) p before before (masks k (drop at s))
+module _ (k p : ℕ) (s : List ℕ) {g : Result (ℕ × Bor (List ℕ)) FaultFromEnd} (w : Reads rest g value (byte (AtMost max_masks) s)) (before : List ℕ) where
+  pub none_laid : {e : FaultFromEnd} → g ≡ Err e → ReadsMasks (Err e) p before before (masks k s)
   unfolding masks
   none_laid e = record { masks = []; reads = then_bad w _ e; few = λ i d. err_ok refl d; stored = λ i d. err_ok refl d }
 
-  pub masks_laid : {v : ℕ × ℕ} → g ≡ Ok v → {one two after : List ℕ} → one ≡ set before (p * mode_size) 1 → two ≡ set one (p * mode_size + 1) (value v)
-      → {r : Result ℕ FaultAt} → ReadsBytes s r (p * mode_size + 2) two after (bytes (Below k) (value v) [] (drop (next v) s))
-      → ReadsMasks s r p before after (masks k (drop at s))
+  pub masks_laid : {v : ℕ × Bor (List ℕ)} → g ≡ Ok v → {one two after : List ℕ} → one ≡ set before (p * mode_size) 1 → two ≡ set one (p * mode_size + 1) (value v)
+      → {r : Result (Bor (List ℕ)) FaultFromEnd} → ReadsBytes r (p * mode_size + 2) two after (bytes (Below k) (value v) [] (rest v))
+      → ReadsMasks r p before after (masks k s)
   unfolding masks allows
   masks_laid {v} e {one} {two} {after} a b {r} l =
       record { masks = l.bytes; reads = then_next w _ e l.reads; few = λ i d. rw (size d) few; stored = λ i d. l.stored ∙ laid d }
     where
       few : value v ≤ max_masks
-      few = leb-true (value v) max_masks (byte_allowed (AtMost max_masks) s at w e)
+      few = leb-true (value v) max_masks (byte_allowed (AtMost max_masks) s w e)
 
-      size : {i : ℕ} → r ≡ Ok i → length l.bytes ≡ value v
-      size d = (bytes_inv (Below k) (value v) (drop (next v) s) (sym (reads_ok l.reads d).1)).0
+      size : {i : Bor (List ℕ)} → r ≡ Ok i → length l.bytes ≡ value v
+      size d = (bytes_inv (Below k) (value v) (rest v) (sym (reads_ok l.reads d))).0
 
-      laid : {i : ℕ} → r ≡ Ok i → sets two (p * mode_size + 2) l.bytes ≡ sets before (p * mode_size) (1 ∷ length l.bytes ∷ l.bytes)
+      laid : {i : Bor (List ℕ)} → r ≡ Ok i → sets two (p * mode_size + 2) l.bytes ≡ sets before (p * mode_size) (1 ∷ length l.bytes ∷ l.bytes)
       laid d =
           let x : p * mode_size + 1 ≡ suc (p * mode_size) = omega arith in
           let y : p * mode_size + 2 ≡ suc (suc (p * mode_size)) = omega arith in
@@ -138,45 +139,47 @@ mode_stored before p masks e h few =
         ∙ drop-drop (max_masks - n) (at + suc (suc n)) before
         ∙ ap (λ (j : ℕ). drop j before) (sym q)
 
-module _ (ar s : List ℕ) (b at : ℕ) {g : Result (ℕ × ℕ) FaultAt} (w : Reads next s g value (byte (Below (length ar)) (drop at s))) (before : List ℕ) where
-  pub mode_none : {e : FaultAt} → g ≡ Err e → ReadsMode s (Err e) before before (mode_fields ar b (drop at s))
+module _ (ar : List ℕ) (b : ℕ) (s : List ℕ) {g : Result (ℕ × Bor (List ℕ)) FaultFromEnd} (w : Reads rest g value (byte (Below (length ar)) s)) (before : List ℕ) where
+  pub mode_none : {e : FaultFromEnd} → g ≡ Err e → ReadsMode (Err e) before before (mode_fields ar b s)
   unfolding mode_fields
-  mode_none e = record { masks = []; reads = then_bad w _ e; stored = λ v d. err_ok refl d }
+  mode_none e = record { masks = []; reads = then_bad w _ e; few = λ v d. err_ok refl d; stored = λ v d. err_ok refl d }
 
-  module _ {u : ℕ × ℕ} (e : g ≡ Ok u) {k : ℕ} (size : k ≡ 2 ^ get_or ar (value u) 0) {h : Result ℕ FaultAt} {after : List ℕ}
-      (v : ReadsMasks s h (value u) before after (masks k (drop (next u) s))) where
-    sized : Reads alone s h (λ n. v.masks) (masks (2 ^ get_or ar (value u) 0) (drop (next u) s))
-    sized = subst (λ (j : ℕ). Reads alone s h (λ n. v.masks) (masks j (drop (next u) s))) size v.reads
+  module _ {u : ℕ × Bor (List ℕ)} (e : g ≡ Ok u) {k : ℕ} (size : k ≡ 2 ^ get_or ar (value u) 0) {h : Result (Bor (List ℕ)) FaultFromEnd} {after : List ℕ}
+      (v : ReadsMasks h (value u) before after (masks k (rest u))) where
+    sized : Reads alone h (λ n. v.masks) (masks (2 ^ get_or ar (value u) 0) (rest u))
+    sized = subst (λ (j : ℕ). Reads alone h (λ n. v.masks) (masks j (rest u))) size v.reads
 
-    pub mode_unlaid : {f : FaultAt} → h ≡ Err f → ReadsMode s (Err f) before after (mode_fields ar b (drop at s))
+    pub mode_unlaid : {f : FaultFromEnd} → h ≡ Err f → ReadsMode (Err f) before after (mode_fields ar b s)
     unfolding mode_fields
-    mode_unlaid d = record { masks = v.masks; reads = then_next w _ e (then_bad sized _ d); stored = λ q n. err_ok refl n }
+    mode_unlaid d =
+        record { masks = v.masks; reads = then_next w _ e (then_bad sized _ d); few = λ q n. err_ok refl n; stored = λ q n. err_ok refl n }
 
-    module _ {end : ℕ} (d : h ≡ Ok end) where
-      pub mode_clash : at ≤ length s → value u < b → ReadsMode s (Err (record { fault = Clash; at = at })) before after (mode_fields ar b (drop at s))
+    module _ {end : Bor (List ℕ)} (d : h ≡ Ok end) where
+      pub mode_clash : value u < b → ReadsMode (Err (record { fault = Clash; left = length s })) before after (mode_fields ar b s)
       unfolding mode_fields
-      mode_clash i l =
-          let z : length (drop at s) ≡ length s - at = simp length-drop in
+      mode_clash l =
           record {
             masks = v.masks;
-            reads = then_next w _ e (then_next sized _ d (record { inside = i; is = rw (lt-leb b (value u) l, z) }));
+            reads = then_next w _ e (then_next sized _ d (record { is = rw (lt-leb b (value u) l) }));
+            few = λ q m. err_ok refl m;
             stored = λ q m. err_ok refl m;
           }
 
-      pub mode_laid : Arities ar → b ≤ value u → ReadsMode s (Ok (end, value u)) before after (mode_fields ar b (drop at s))
+      pub mode_laid : length ar ≤ max_predicates → b ≤ value u → ReadsMode (Ok (value u, end)) before after (mode_fields ar b s)
       unfolding mode_fields
-      mode_laid arities l =
+      mode_laid few l =
           record {
             masks = v.masks;
-            reads = then_next w _ e (then_next sized _ d (record { inside = (reads_ok sized d).0; is = rw (le-leb b (value u) l) }));
+            reads = then_next w _ e (then_next sized _ d (record { is = rw (le-leb b (value u) l) }));
+            few = λ q m. subst (λ (j : ℕ). j < max_predicates) (same q m) below;
             stored =
                 λ q m room.
                 subst (λ (j : ℕ). StoredMode before after j v.masks) (same q m)
-                (rw (v.stored end d)
-                (mode_stored before (value u) v.masks room
-                (let i = predicate_known ar s at w e in let f = arities.few in omega arith)
-                (v.few end d)));
+                (rw (v.stored end d) (mode_stored before (value u) v.masks room below (v.few end d)));
           }
         where
-          same : (q : ℕ × ℕ) → ◌≡◌ {A = Result (ℕ × ℕ) FaultAt} (Ok (end, value u)) (Ok q) → value u ≡ value q
+          below : value u < max_predicates
+          below = let i = predicate_known ar s w e in omega arith
+
+          same : (q : ℕ × Bor (List ℕ)) → ◌≡◌ {A = Result (ℕ × Bor (List ℕ)) FaultFromEnd} (Ok (value u, end)) (Ok q) → value u ≡ value q
           same q m = cc

@@ -1,7 +1,6 @@
 -- `records::field::read_args` meets its contract. The word has the arguments read so far. Assumes nothing.
-use Rattle.records.specs.Stored.{argument_from}
 use Rattle.records.proofs.Laws.Calls.{Calling}
 use Rattle.records.proofs.field.read_args.Given as goal
 
 abbrev pub invariant-loop-i : goal.invariant-loop-i
-invariant-loop-i l = Calling (argument_from l.least) l.s l.pred l.count l.n l.from l.at l.i l.shift l.call
+invariant-loop-i l = Calling l.range l.pred l.count l.n l.s l.i l.left l.shift l.call

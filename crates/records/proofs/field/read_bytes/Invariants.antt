@@ -3,4 +3,4 @@ use Rattle.records.proofs.Laws.Stores.{Laying}
 use Rattle.records.proofs.field.read_bytes.Given as goal
 
 abbrev pub invariant-loop-i : goal.invariant-loop-i
-invariant-loop-i l = Laying l.range l.s l.k l.from l.at l.i l.start l.initial.out l.out
+invariant-loop-i l = Laying l.range l.k l.s l.i l.left l.start l.initial.out l.out
