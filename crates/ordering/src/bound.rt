@@ -24,6 +24,7 @@ const NO_WILDCARDS: u32 = 0xBFFF_FFFF;
 // The bytes of a call's arguments.
 const ARGUMENTS: u64 = 0xFFFF_FFFF_FFFF_0000;
 
+// The variables that are bound.
 #[derive(Drop)]
 pub struct Bound {
     word: u32,

@@ -5,5 +5,4 @@ use Rattle.ordering.proofs.Laws.Patterns.{Going}
 use Rattle.ordering.proofs.first_order.Given as goal
 
 abbrev pub invariant-loop-i : goal.invariant-loop-i
-invariant-loop-i l =
-    Going l.table l.clause.body (bound_of l.bound) l.i l.now l.left l.places l.patterns
+invariant-loop-i l = Going l.table l.clause.body (bound_of l.bound) l.i l.now l.left l.places l.patterns
