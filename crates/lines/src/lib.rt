@@ -117,7 +117,7 @@ fn decimal(word: &[u8], most: usize) -> usize
     n
 }
 
-// The value of a hexadecimal digit; any other byte counts as 0.
+// The value of a hexadecimal digit; any other byte counts as 0. No `to_digit`: that reads capital letters too.
 #[tactic(auto, unfolding(crate::specs::Hex::digit_of))]
 fn digit(x: u8) -> u8
     ensures value { result ≡ digit_of x }
@@ -140,7 +140,7 @@ fn results_at(line: &[u8]) -> usize
         .unwrap_or(line.len())
 }
 
-// The hexadecimal digit of a value below 16.
+// The hexadecimal digit of a value below 16. No `from_digit`: that gives an `Option<char>`, to be taken apart here.
 fn hex(x: u8) -> u8 {
     b"0123456789abcdef"[usize::from(x % 16)]
 }
