@@ -9,7 +9,7 @@ use crate::call::Call;
 use crate::limits::{CLAUSE_SIZE, MAX_SUBGOALS, RULES_SIZE};
 use std::marker::Model;
 
-// A clause where it stands, among those of a book.
+// A clause where it stands, among those of a book. That it is callable is no invariant: `writing` promises for any words, so each function that orders one asks for it.
 #[derive(Drop)]
 pub struct Clause<'a> {
     rules: &'a [u64; RULES_SIZE],

@@ -7,7 +7,8 @@ ghost use Rattle.book.specs.Held.{clause_at, NoModes};
 use crate::clause::Clause;
 use crate::limits::{MAX_CLAUSES, MAX_PREDICATES, MODES_SIZE, NO_CALL, RULES_SIZE};
 
-// How many predicates and clauses there are, the arity and the mode of each predicate, and the clauses, with the query behind them.
+// How many predicates and clauses there are, the arity and the mode of each predicate, and the clauses, with the query behind them. There is no invariant: a
+// reader fills one field after the other, and `write_book` is promised of any (docs/PROMISES.md).
 #[derive(Drop)]
 pub struct RuleBook {
     pub preds: u8,

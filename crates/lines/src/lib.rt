@@ -57,7 +57,7 @@ pub fn inputs(line: &[u8]) -> &[u8]
     &line[..end]
 }
 
-// A number of bytes, as far as the slice has them.
+// A number of bytes, as far as the slice has them: a `min`, which docs/PROMISES.md names.
 pub fn clip(n: usize, s: &[u8]) -> usize
     ensures prefix_len { IsPrefixLen result s.now }
     ensures value { result ≡ min n (length s.now) }

@@ -4,7 +4,8 @@
 ghost use Rattle.std.specs.Prelude.{◌≡◌};
 ghost use Rattle.tally.specs.Tallied.{Roomy, tallied};
 
-// The two numbers, as C lays them out.
+// The two numbers, as C lays them out. There is no invariant, since C may lend any two: whoever counts one more is asked
+// for the room.
 #[repr(C)]
 #[derive(Clone, Copy)]
 pub struct Tally {
