@@ -92,7 +92,7 @@ fn joined(
     ensures { Answers (joining way arity first.now second.now) out.old (reply_of reply result) out.new }
 {
     first_fault(arity, first, second)?;
-    let c = combine(way, first, second);
+    let c = combine(way, Masks { list: first }, Masks { list: second });
     let r = Reply::in_room(constraint::count(c), 0, out.len())?;
     constraint::put_masks(out, 0, c);
     Ok(r)
@@ -125,10 +125,16 @@ fn list_fault(masks: &[u8], limit: u8) -> Result<(), Unjoined>
     Ok(())
 }
 
-// Two lists of masks, in any order, combined one way or the other.
-fn combine(way: Way, first: &[u8], second: &[u8]) -> u64
-    requires { (in_range all_patterns first.now ≡ true) × (in_range all_patterns second.now ≡ true) }
-    ensures { members result ≡ combined way first.now second.now }
+// A list of masks of six positions, in any order, with repeats.
+#[derive(Clone, Copy)]
+struct Masks<'a> {
+    list: &'a [u8],
+    ghost in_range: { in_range all_patterns list.now ≡ true },
+}
+
+// Two lists of masks combined one way or the other.
+fn combine(way: Way, first: Masks, second: Masks) -> u64
+    ensures { members result ≡ combined way first.entry.list.now second.entry.list.now }
 {
     // A `match` and no closure: the promise speaks of the way, which a closure would have to bring with it.
     match way {
@@ -138,22 +144,20 @@ fn combine(way: Way, first: &[u8], second: &[u8]) -> u64
 }
 
 // The choice: the masks of both.
-fn choice_of(first: &[u8], second: &[u8]) -> u64
-    requires { (in_range all_patterns first.now ≡ true) × (in_range all_patterns second.now ≡ true) }
-    ensures { members result ≡ choice first.now second.now }
+fn choice_of(first: Masks, second: Masks) -> u64
+    ensures { members result ≡ choice first.entry.list.now second.entry.list.now }
 {
-    let set = constraint::with_unions(0, 0, first);
-    constraint::written(constraint::with_unions(set, 0, second))
+    let set = constraint::with_unions(0, 0, first.list);
+    constraint::written(constraint::with_unions(set, 0, second.list))
 }
 
 // The joint: the union of each mask of one with each of the other.
-fn joint_of(first: &[u8], second: &[u8]) -> u64
-    requires { (in_range all_patterns first.now ≡ true) × (in_range all_patterns second.now ≡ true) }
-    ensures { members result ≡ joint first.now second.now }
+fn joint_of(first: Masks, second: Masks) -> u64
+    ensures { members result ≡ joint first.entry.list.now second.entry.list.now }
 {
     let mut set: u64 = 0;
-    for &m in first {
-        set = constraint::with_unions(set, m, second);
+    for &m in first.list {
+        set = constraint::with_unions(set, m, second.list);
     }
     constraint::written(set)
 }

@@ -13,5 +13,5 @@ returns c =
     let u = c.with_unions-set in
     let v = c.with_unions in
     c.written.ensures
-    ∙ minimise_held v.result (s.first.now ++ s.second.now)
-    (holds_both u.result v.result s.first.now s.second.now (holds_list u.result s.first.now u.ensures) v.ensures)
+    ∙ minimise_held v.result (s.first.list.now ++ s.second.list.now)
+    (holds_both u.result v.result s.first.list.now s.second.list.now (holds_list u.result s.first.list.now u.ensures) v.ensures)

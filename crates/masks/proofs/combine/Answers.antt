@@ -9,10 +9,10 @@ pub returns-in-Choice : goal.returns-in-Choice
 returns-in-Choice c =
     let s = c.args in
     let t : s.way ≡ Choice = c.in-Choice.is in
-    c.choice_of.ensures ∙ ap (λ (w : Way). combined w s.first.now s.second.now) (sym t)
+    c.choice_of.ensures ∙ ap (λ (w : Way). combined w s.first.list.now s.second.list.now) (sym t)
 
 pub returns-in-Joint : goal.returns-in-Joint
 returns-in-Joint c =
     let s = c.args in
     let t : s.way ≡ Joint = c.in-Joint.is in
-    c.joint_of.ensures ∙ ap (λ (w : Way). combined w s.first.now s.second.now) (sym t)
+    c.joint_of.ensures ∙ ap (λ (w : Way). combined w s.first.list.now s.second.list.now) (sym t)

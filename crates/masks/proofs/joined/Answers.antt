@@ -15,10 +15,15 @@ returns-in_err-first_fault c =
     let h = c.in_err-first_fault.ensures in
     rw (p.1, p.2, joining_fault s.arity s.first.now s.second.now s.way _ refl (some_number c.in_err-first_fault.field-0.0 _ h)) (answers_refused _ 0 s.out.now h)
 
-pub combine-c-requires : goal.combine-c-requires
-combine-c-requires c =
+pub invariant_of-combine : goal.invariant_of-combine
+invariant_of-combine c =
     let s = c.args in
-    fault_free s.arity s.first.now s.second.now c.in_ok-first_fault.ensures
+    record { in_range = (fault_free s.arity s.first.now s.second.now c.in_ok-first_fault.ensures).0 }
+
+pub invariant_of-combine-2 : goal.invariant_of-combine-2
+invariant_of-combine-2 c =
+    let s = c.args in
+    record { in_range = (fault_free s.arity s.first.now s.second.now c.in_ok-first_fault.ensures).1 }
 
 pub returns-in_err-r : goal.returns-in_err-r
 returns-in_err-r c =

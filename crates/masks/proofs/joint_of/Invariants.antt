@@ -7,4 +7,4 @@ use Rattle.masks.specs.Constraint.{unions}
 use Rattle.masks.proofs.joint_of.Given as goal
 
 abbrev pub invariant-loop-m : goal.invariant-loop-m
-invariant-loop-m l = (l.m-index ≤ length l.first) × Holds l.set (has (unions (take l.m-index l.first) l.second))
+invariant-loop-m l = (l.m-index ≤ length l.first.list.now) × Holds l.set (has (unions (take l.m-index l.first.list.now) l.second.list.now))

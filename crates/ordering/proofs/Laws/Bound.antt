@@ -1,7 +1,7 @@
 -- What is bound, in a word. An argument is a variable, a wildcard or a literal, so in a word with bit 31 set and bit 30 not its five lowest bits are the
 -- place of a bit that tells whether it is bound, and setting that bit binds it. Bytes behind the last argument are cut off from a pattern, and are made
 -- literals where all are bound. Assumes nothing.
-use mathlib.Core.Path.{◌≡◌, refl, sym, ap, ap₂, ◌∙◌, subst}
+use mathlib.Core.Path.{◌≡◌, refl, sym, ap, ap₂, ◌∙◌}
 use mathlib.Core.Bool.{Bool, true, false, not, cond, ◌&&◌, ◌||◌, or-false, and-true, and-false}
 use mathlib.Core.List.{List, [], ◌∷◌, ◌++◌}
 use Prim.Native.Nat.{ℕ, zero, suc, ◌+◌, ◌*◌, ◌/◌, ◌%◌, ◌^◌, ◌≤◌, ◌<◌, min}
@@ -292,8 +292,11 @@ unfolding with_marks
 marks_keep w k [] t = t
 marks_keep w k (x ∷ l) t = marks_keep (bit_or w (2 ^ (x % 32))) k l (bit_at_or w (2 ^ (x % 32)) k ∙ rw t)
 
--- what six arguments come to, or three where there are no more: and bit 31 is set
-module _ (w s : ℕ) (m : Marked w) (t : all (allows Argument) (call_in s).args ≡ true) where
+pub literals_keep : (w : ℕ) (l : List ℕ) {r : ℕ} → r ≡ with_marks w l → bit_at w 31 ≡ true → bit_at r 31 ≡ true
+literals_keep w l e t = rw e (marks_keep w 31 l t)
+
+-- what six arguments come to, or three where there are no more
+module _ (w s : ℕ) (t : all (allows Argument) (call_in s).args ≡ true) where
   abbrev padded : ℕ
   padded = bit_or s (behind (counted s))
 
@@ -306,25 +309,20 @@ module _ (w s : ℕ) (m : Marked w) (t : all (allows Argument) (call_in s).args 
       let l : i < length (call_in s).args = omega arith in
       rw (← args_at s i l) (all_at (allows Argument) 0 (call_in s).args i l t)
 
-  abbrev pub Binds : ℕ → Type 0
-  Binds r = (bound_of r ≡ bind_all (bound_of w) (call_in s).args) × (bit_at r 31 ≡ true)
+  binds : (k : ℕ) → k ≤ max_arity → min (counted s) k ≡ min (counted s) max_arity
+      → bound_of (with_marks w (values (arg_at padded) k)) ≡ bind_all (bound_of w) (call_in s).args
+  binds k h e =
+      binds_padded w (arg_at s) (arg_at padded) (counted s) k (λ i l. bytes_padded i (omega arith)) (λ i l. args_allowed i (omega arith))
+      ∙ ap (λ (j : ℕ). bind_all (bound_of w) (values (arg_at s) j)) e ∙ ap (bind_all (bound_of w)) (sym (args_values s))
 
-  binds : (k : ℕ) → k ≤ max_arity → min (counted s) k ≡ min (counted s) max_arity → Binds (with_marks w (values (arg_at padded) k))
-  binds k h e = (
-    binds_padded w (arg_at s) (arg_at padded) (counted s) k (λ i l. bytes_padded i (omega arith)) (λ i l. args_allowed i (omega arith))
-        ∙ ap (λ (j : ℕ). bind_all (bound_of w) (values (arg_at s) j)) e ∙ ap (bind_all (bound_of w)) (sym (args_values s)),
-    marks_keep w 31 (values (arg_at padded) k) m.literals,
-  )
+  pub binds_three : {x : ℕ} → x ≡ with_marks w (values (byte_of (padded / 2 ^ 16)) 3) → counted s ≤ 3 → bound_of x ≡ bind_all (bound_of w) (call_in s).args
+  binds_three e h = ap bound_of (e ∙ ap (with_marks w) (three_low padded)) ∙ binds 3 (omega arith) (omega arith)
 
-  pub binds_three : (x : ℕ) → x ≡ with_marks w (values (byte_of (padded / 2 ^ 16)) 3) → counted s ≤ 3 → Binds x
-  binds_three x e h =
-      let q = e ∙ ap (with_marks w) (three_low padded) in
-      subst Binds (sym q) (binds 3 (omega arith) (omega arith))
-
-  pub binds_six : (x y : ℕ) → x ≡ with_marks w (values (byte_of (padded / 2 ^ 16)) 3) → y ≡ with_marks x (values (byte_of (padded / 2 ^ 40)) 3) → Binds y
-  binds_six x y e f =
-      let q = f ∙ ap₂ with_marks (e ∙ ap (with_marks w) (three_low padded)) (three_high padded) ∙ with_six w (arg_at padded) in
-      subst Binds (sym q) (binds max_arity (omega arith) refl)
+  pub binds_six : {x y : ℕ} → x ≡ with_marks w (values (byte_of (padded / 2 ^ 16)) 3) → y ≡ with_marks x (values (byte_of (padded / 2 ^ 40)) 3)
+      → bound_of y ≡ bind_all (bound_of w) (call_in s).args
+  binds_six e f =
+      ap bound_of (f ∙ ap₂ with_marks (e ∙ ap (with_marks w) (three_low padded)) (three_high padded) ∙ with_six w (arg_at padded))
+      ∙ binds max_arity (omega arith) refl
 
 -- ---- bits 30 and 31
 
@@ -332,17 +330,20 @@ module _ (w s : ℕ) (m : Marked w) (t : all (allows Argument) (call_in s).args 
 abbrev pub clears : ℕ → Bool
 clears c = all_below (bit_at c) variables && (bit_at c 31 && not (bit_at c 30))
 
-pub cleared : (c : ℕ) → clears c ≡ true → (x : ℕ) {b : Bound} → (bound_of x ≡ b) × (bit_at x 31 ≡ true) → (bound_of (bit_and x c) ≡ b) × Marked (bit_and x c)
-cleared c t x g =
-    let here = and_left (all_below (bit_at c) variables) (bit_at c 31 && not (bit_at c 30)) t in
-    let rest = and_right (all_below (bit_at c) variables) (bit_at c 31 && not (bit_at c 30)) t in (
-      bound_of_cong (bit_and x c) x (λ v h. bit_at_and x c v ∙ ap (λ (b : Bool). bit_at x v && b) (all_below_at (bit_at c) variables here v h) ∙ and-true (bit_at x v))
-          ∙ g.0,
+module _ (c : ℕ) (t : clears c ≡ true) (x : ℕ) where
+  pub cleared_bound : bound_of (bit_and x c) ≡ bound_of x
+  cleared_bound =
+      let here = and_left (all_below (bit_at c) variables) (bit_at c 31 && not (bit_at c 30)) t in
+      bound_of_cong (bit_and x c) x
+      (λ v h. bit_at_and x c v ∙ ap (λ (b : Bool). bit_at x v && b) (all_below_at (bit_at c) variables here v h) ∙ and-true (bit_at x v))
+
+  pub cleared_marked : bit_at x 31 ≡ true → Marked (bit_and x c)
+  cleared_marked h =
+      let rest = and_right (all_below (bit_at c) variables) (bit_at c 31 && not (bit_at c 30)) t in
       record {
-        literals = bit_at_and x c 31 ∙ and_intro g.1 (and_left (bit_at c 31) (not (bit_at c 30)) rest);
+        literals = bit_at_and x c 31 ∙ and_intro h (and_left (bit_at c 31) (not (bit_at c 30)) rest);
         wildcards = bit_at_and x c 30 ∙ ap (λ (b : Bool). bit_at x 30 && b) (not-true (bit_at c 30) (and_right (bit_at c 31) (not (bit_at c 30)) rest)) ∙ and-false (bit_at x 30);
-      },
-    )
+      }
 
 -- a word with bit 31, not bit 30, and no variable, added to what is bound at the start
 abbrev pub starts : ℕ → Bool

@@ -3,9 +3,8 @@
 use Rattle.masks.specs.Set.{members}
 use Rattle.masks.proofs.Laws.Loops.{Over}
 use Rattle.ordering.specs.Good.{ready_at}
-use Rattle.ordering.specs.Held.{bound_of}
 use Rattle.ordering.proofs.Laws.Run.{Scan}
 use Rattle.ordering.proofs.first_ready.Given as goal
 
 abbrev pub invariant-loop-place : goal.invariant-loop-place
-invariant-loop-place l = Over (Scan l.left (ready_at l.table l.clause.body (bound_of l.bound))) l.left (members l.place-iterator.left)
+invariant-loop-place l = Over (Scan l.left (ready_at l.table l.clause.body l.bound)) l.left (members l.place-iterator.left)

@@ -1,6 +1,5 @@
 -- `masks::constraint::least` meets its contract. The loop's invariant: the kept are least, and those left are what contains none of them. Assumes nothing.
 use mathlib.Core.Path.{◌≡◌}
-use native.Mathlib.Omega.{arith}
 use lib.Count.{count_trailing_zeros}
 use borrow.Author.Rules.{rules}
 use Rattle.masks.specs.Mask.{within}
@@ -22,15 +21,6 @@ loop-rest-init c = keeping_start c.args.set (search rules)
 -- in a turn: m is the lowest of those left
 first : (c : In-loop-rest) → Lowest 64 c.loop-rest.rest (count_trailing_zeros 64 c.loop-rest.rest)
 first c = lowest 64 c.loop-rest.rest c.loop-rest.invariant.small c.loop-rest-test.true
-
-pub overflow_cast-m : goal.overflow_cast-m
-overflow_cast-m c = let l = (first c).small in omega arith
-
-pub with_member-kept-requires : goal.with_member-kept-requires
-with_member-kept-requires c = (first c).small
-
-pub mask_lanes-requires : goal.mask_lanes-requires
-mask_lanes-requires c = (first c.before.before).small
 
 pub loop-rest-smaller : goal.loop-rest-smaller
 loop-rest-smaller c =

@@ -1,6 +1,6 @@
--- `ordering::three_bits` meets its contract. The five lowest bits of a word moved down by a byte are those of its next byte. Assumes nothing.
+-- `ordering::bound::three_bits` meets its contract. The five lowest bits of a word moved down by a byte are those of its next byte. Assumes nothing.
 use Rattle.ordering.proofs.Laws.Bound.{marks_three}
-use Rattle.ordering.proofs.three_bits.Goals as goal
+use Rattle.ordering.proofs.bound.three_bits.Goals as goal
 
 pub returns-clause-value : goal.returns-clause-value
 returns-clause-value c =
