@@ -29,7 +29,8 @@ number Clash = 6
 
 -- W2: "the offset of the mark's first byte for 2, 3 and 5, of the byte out of range for 4, of the predicate byte for 6. For 1, and for 3 where the book
 -- ends without `QU`, it is the book's length.": the place of a fault, of two: the end of the book, and where the fault is found, which is a mark or the
--- end where one is missing, a byte, or a predicate. Here a place is how many bytes are left from it on, in the code how many are before it.
+-- end where one is missing, a byte, or a predicate. Here, and in the code that
+-- reads, a place is how many bytes are left from it on; in a `FaultAt` it is how many are before it.
 abbrev pub place : Fault → ℕ → ℕ → ℕ
 place PastEnd end found = end
 place NoMark end found = found

@@ -95,6 +95,7 @@ fn give(
         list: &book.arities[..book.preds as usize],
     };
     let mut image = [0u8; LONGEST_PAGE];
+    // By `map_err` and `?` the proof did not close.
     let a = match answer_run(run, ar, table, &mut book.rules, &mut image) {
         Ok(a) => a,
         Err(f) => return Err(Refusal::Fault(f.within(run))),

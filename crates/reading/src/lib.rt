@@ -77,10 +77,7 @@ fn read_into(
     requires { NoModes modes.old }
     ensures { ReadsBook s.now result modes.old rules.old arities.new modes.new rules.new }
 {
-    match read_records(s, arities, modes, rules) {
-        Ok(r) => Ok(r),
-        Err(f) => Err(f.within(s)),
-    }
+    read_records(s, arities, modes, rules).map_err(|f| f.within(s))
 }
 
 // The same, with a fault as reading meets it: the predicates, and what follows them.

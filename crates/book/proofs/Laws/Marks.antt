@@ -4,9 +4,9 @@ use mathlib.Core.Path.{◌≡◌, refl, ap, ◌∙◌, subst}
 use mathlib.Core.Logic.{◌⊎◌, inl, inr, ⊎_elim}
 use mathlib.Core.Bool.{Bool, true, false, cond, false≢true}
 use mathlib.Core.List.{List, [], ◌∷◌, ◌++◌}
-use Prim.Native.Nat.{ℕ, suc}
+use Prim.Native.Nat.{ℕ}
 use lib.Dec.{eqb}
-use lib.ListN.{length, drop}
+use lib.ListN.{drop}
 use borrow.Author.Tests.{eqb-true}
 use Rattle.masks.proofs.Laws.Logic.{clash, and_left, and_right}
 use Rattle.book.specs.Format.{spelling, leads, unmarked, mark_at, column, turn, Bodied}
@@ -237,18 +237,11 @@ module _ (s : List ℕ) where
   unfolding mark_at
   mark_read = by_known (λ (m : Mark). mark_at (spelling m ++ s) ≡ m) refl refl refl refl refl refl
 
-  mark_two : (m : Mark) → known m ≡ true → length (spelling m ++ s) ≡ suc (suc (length s))
-  mark_two = by_known (λ (m : Mark). length (spelling m ++ s) ≡ suc (suc (length s))) refl refl refl refl refl refl
-
 -- ---- bytes that begin with a mark of a run, and bytes that do not
 
 module _ (p : Phase) (s : List ℕ) where
   pub own_starts : turn p (mark_at s) ≡ Mine → s ≡ spelling (mark_at s) ++ drop 2 s
   own_starts e = mark_starts s (mark_at s) (own_known p (mark_at s) e) (spelt s)
-
-  -- so its two bytes are there
-  pub own_two : turn p (mark_at s) ≡ Mine → length s ≡ suc (suc (length (drop 2 s)))
-  own_two e = ap length (own_starts e) ∙ mark_two (drop 2 s) (mark_at s) (own_known p (mark_at s) e)
 
   pub sole_starts : {m : Mark} → Sole p m → turn p (mark_at s) ≡ Mine → s ≡ spelling m ++ drop 2 s
   sole_starts f e = own_starts e ∙ ap (λ (k : Mark). spelling k ++ drop 2 s) (f (mark_at s) e)

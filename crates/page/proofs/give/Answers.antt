@@ -16,7 +16,7 @@ pub returns-in_err-r : goal.returns-in_err-r
 returns-in_err-r c =
     let p = err_from_is_err_and c.from_residual.result c.from_residual.ensures.1 in
     let h = c.in_err-r.ensures.short in
-    rw (p.1, p.2, h.0) (give_short _ _ _ c.in-Ok.ensures c.args.out.now c.args.tally.now h.1)
+    rw (p.1, p.2, h.0) (give_short c.args.book.now _ _ c.in-Ok.ensures c.args.out.now c.args.tally.now h.1)
 
 pub slice_bounds-image-end : goal.slice_bounds-image-end
 slice_bounds-image-end c = (give_front c.args.book.now _ _ c.in-Ok.ensures).fits

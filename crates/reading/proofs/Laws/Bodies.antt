@@ -29,7 +29,7 @@ use Rattle.records.specs.Read.{RunEnds, value, rest, alone, Reads, stops, leads_
 use Rattle.records.proofs.Laws.Reads.{err_ok}
 use Rattle.records.proofs.Laws.Stores.{sets_last}
 use Rattle.reading.specs.Stored.{onward, ReadsBody}
-use Rattle.reading.proofs.Laws.Runs.{Going, mine, stops_reads, going_start, going_full, going_bad, going_next, going_stops}
+use Rattle.reading.proofs.Laws.Runs.{Going, mine, stops_reads, going_full, going_bad, going_next, going_stops}
 
 -- ---- a run of subgoals
 
@@ -54,9 +54,6 @@ pub record Bodying (ar whole : List ℕ) (n : ℕ) (left : List ℕ) (base : ℕ
   pub stored : now ≡ sets before (base + 2) words
 
 module _ (ar whole : List ℕ) (k : ℕ) (before : List ℕ) where
-  pub bodying_start : Bodying ar whole 0 whole (k * clause_size) before before
-  bodying_start = record { words = []; going = λ p b. going_start p (subgoal ar) max_subgoals whole; stored = refl }
-
   module _ {n : ℕ} {s now : List ℕ} (l : Bodying ar whole n s (k * clause_size) before now) where
     pub bodying_few : n ≤ max_subgoals
     bodying_few = (l.going Body in_body).turns

@@ -109,9 +109,6 @@ module _ (ar whole before : List ℕ) where
           pub moding_on : length (rest v) < length s
           moding_on = let d = ap length read.0 in let f = length-append (enc_mode m) (rest v) in omega arith
 
-          pub moding_below : p < max_predicates
-          moding_below = w.few v e
-
           pub moding_next : {more : ℕ} → more ≡ bit_or set (2 ^ p) → length after ≡ length now → Moding ar whole (rest v) (p + 1) more before after
           moding_next {more} d same =
               let k = w.few v e in

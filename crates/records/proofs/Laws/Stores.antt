@@ -3,7 +3,7 @@
 use mathlib.Core.Path.{◌≡◌, refl, sym, ap, ◌∙◌, subst}
 use mathlib.Core.Bool.{cond}
 use mathlib.Core.List.{List, [], ◌∷◌, ◌++◌, append_assoc}
-use Prim.Native.Nat.{ℕ, zero, suc, ◌+◌, ◌-◌, ◌*◌, ◌^◌, ◌≤◌, ◌<◌}
+use Prim.Native.Nat.{ℕ, suc, ◌+◌, ◌-◌, ◌*◌, ◌^◌, ◌≤◌, ◌<◌}
 use native.Mathlib.Omega.{arith}
 use lib.ListN.{length, get_or, take, drop, set, length-append}
 use lib.Seq.{sets, take-take, drop-drop, sets-eq, take_at, drop_at, length-take-le}
@@ -26,12 +26,7 @@ use Rattle.records.specs.Read.{value, rest, alone, Reads}
 use Rattle.records.specs.Stored.{ReadsBytes, ReadsMasks, ReadsMode}
 use Rattle.records.proofs.Laws.Reads.{byte_allowed, err_ok, reads_ok, then_bad, then_next, predicate_known, Left, left_start, left_bad, left_next, left_end}
 
--- ---- a store past the end
-
-pub set_past : {A : Type 0} (l : List A) (at : ℕ) (x : A) → length l ≤ at → l ≡ set l at x
-set_past [] at x h = refl
-set_past (y ∷ l) zero x h = absurd (omega arith)
-set_past {A} (y ∷ l) (suc at) x h = ap (λ (t : List A). y ∷ t) (set_past l at x (omega arith))
+-- ---- stores
 
 -- one store behind those of xs
 pub sets_last : {A : Type 0} (l : List A) (at n : ℕ) (xs : List A) (x : A) → length xs ≡ n → set (sets l at xs) (at + n) x ≡ sets l at (xs ++ (x ∷ []))
