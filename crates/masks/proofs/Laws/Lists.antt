@@ -7,7 +7,7 @@ use Prim.Native.Nat.{ℕ, zero, suc, ◌+◌, min, ◌≤◌, ◌<◌}
 use native.Mathlib.Omega.{arith}
 use native.Mathlib.Numerals.{add-one}
 use lib.Dec.{eqb, ltb, leb}
-use lib.ListN.{length, get_or, take, set, length-take, length-append, get_or-append}
+use lib.ListN.{length, get_or, take, set, length-append, get_or-append}
 use lib.Seq.{take-nil, take-suc, take_all, take-append-le, set_comm, sets, get_or_at}
 use borrow.Author.Tests.{eqb-true, eqb-false, eq-eqb, ltb-true, lt-ltb, leb-true, leb-false}
 use Rattle.masks.specs.Lists.{any, all, values, joined, any_below, below, has, pairwise, ascending}
@@ -21,9 +21,6 @@ module _ {A : Type 0} where
   take_front zero l = refl
   take_front (suc n) [] = refl
   take_front (suc n) (x ∷ xs) = ap {B = List A} (λ (t : List A). x ∷ t) (take_front n xs)
-
-  pub front_lt : (n i : ℕ) (l : List A) → i < length (take n l) → (i < n) × (i < length l)
-  front_lt n i l h = let e = length-take n l in (omega arith, omega arith)
 
   pub sets_append : (l : List A) (i : ℕ) (xs ys : List A) → sets l i (xs ++ ys) ≡ sets (sets l i xs) (i + length xs) ys
   sets_append l i [] ys = let e : i ≡ i + 0 = omega arith in ap (λ (k : ℕ). sets l k ys) e

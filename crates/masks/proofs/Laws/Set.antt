@@ -1,7 +1,7 @@
 -- A bit set in a word adds a mask to its set; a loop over a list adds the union of m with each of its masks. Sets with the same masks have the
 -- same written form. Assumes nothing.
 use mathlib.Core.Path.{◌≡◌, refl, sym, ap, ap₂, ◌∙◌}
-use mathlib.Core.Bool.{Bool, true, false, ◌||◌, or_assoc, or-false}
+use mathlib.Core.Bool.{Bool, true, false, ◌||◌, or_assoc}
 use mathlib.Core.List.{List, [], ◌∷◌, ◌++◌, map}
 use Prim.Native.Nat.{ℕ, zero, suc, ◌+◌, ◌/◌, ◌%◌, ◌^◌, ◌≤◌, ◌<◌}
 use native.Mathlib.Omega.{arith}
@@ -88,9 +88,6 @@ bit_at_more word m k = bit_at_or word (2 ^ m) k ∙ ap (λ (b : Bool). bit_at wo
 
 -- the unions of m with the first i masks of l are in
 module _ (word m : ℕ) (l : List ℕ) where
-  pub with_start : Holds word (λ k. bit_at word k || has (map (bit_or m) (take 0 l)) k)
-  with_start k = sym (or-false (bit_at word k))
-
   pub with_next : (now i : ℕ) → i < length l → Holds now (λ k. bit_at word k || has (map (bit_or m) (take i l)) k)
       → Holds (bit_or now (2 ^ bit_or m (get_or l i 0))) (λ k. bit_at word k || has (map (bit_or m) (take (i + 1) l)) k)
   with_next now i h f k =
