@@ -15,16 +15,13 @@ const EVEN: u64 = 0x5555_5555_5555_5555;
 
 // The reply to closing the book of a line over its set, and where that is done the six comparisons.
 pub fn results(line: &[u8]) {
-    let mut raw = [0u8; BOOK];
-    let bytes = show::bytes(line, 2, &mut raw);
-    let set = lines::field_hex(line, 3);
-    let mut out = show::fresh();
-    let r = closing::close(bytes, set, &mut out);
-    show::reply(r, 2);
-    show::spoiled(r, &out);
-    if r.number == 0 {
-        compare(bytes, set, show::part(r, &out));
-    }
+    show::closed(line, |bytes, set, r, out| {
+        show::reply(r, 2);
+        show::spoiled(r, out);
+        if r.number == 0 {
+            compare(bytes, set, show::part(r, out));
+        }
+    });
 }
 
 // A book and what closing it over a set gave, in all six ways.

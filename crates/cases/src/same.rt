@@ -4,7 +4,6 @@ ghost use Rattle.std.specs.Prelude.{◌<◌, length};
 ghost use Rattle.io.specs.Counts.{IsPrefixLen};
 
 use crate::show;
-use crate::show::BOOK;
 use book::held::RuleBook;
 use book::limits::MAX_CLAUSES;
 use lines::STDOUT_FILENO;
@@ -12,27 +11,24 @@ use masks::constraint;
 
 // The plan of the book of a line, the book closed over its set, and the plan of that; where it cannot be closed, the closing's reply.
 pub fn results(line: &[u8]) {
-    let mut raw = [0u8; BOOK];
-    let bytes = show::bytes(line, 2, &mut raw);
-    let set = lines::field_hex(line, 3);
-    let mut out = show::fresh();
-    let r = closing::close(bytes, set, &mut out);
-    if r.number != 0 {
-        show::reply(r, 2);
-        show::spoiled(r, &out);
-        return;
-    }
-    let mut full = show::fresh();
-    let f = plan::plan(bytes, &mut full);
-    show::reply(f, 1);
-    show::output(f, &full);
-    show::output(r, &out);
-    show_left(
-        show::part(r, &out),
-        f.number,
-        show::part(f, &full),
-        &numbers(bytes, set),
-    );
+    show::closed(line, |bytes, set, r, out| {
+        if r.number != 0 {
+            show::reply(r, 2);
+            show::spoiled(r, out);
+            return;
+        }
+        let mut full = show::fresh();
+        let f = plan::plan(bytes, &mut full);
+        show::reply(f, 1);
+        show::output(f, &full);
+        show::output(r, out);
+        show_left(
+            show::part(r, out),
+            f.number,
+            show::part(f, &full),
+            &numbers(bytes, set),
+        );
+    });
 }
 
 // The plan of a closed book, and whether it is another than what is left of the full one, whose reply's number is given.

@@ -32,6 +32,18 @@ pub fn bytes<'a>(line: &[u8], k: usize, room: &'a mut [u8]) -> &'a [u8] {
     &room[..n]
 }
 
+// The book of a line, its set, and what closing the one over the other comes to.
+pub fn closed<F: Fn(&[u8], u64, Reply, &[u8; ROOM])>(line: &[u8], then: F)
+    requires { F.IsAlwaysCallable then }
+{
+    let mut raw = [0u8; BOOK];
+    let book = bytes(line, 2, &mut raw);
+    let set = lines::field_hex(line, 3);
+    let mut out = fresh();
+    let r = closing::close(book, set, &mut out);
+    then(book, set, r, &out);
+}
+
 // Prints the first `count` of a reply's number, value and rounds.
 pub fn reply(r: Reply, count: usize) {
     for n in [u64::from(r.number), r.value, r.rounds].iter().take(count) {
