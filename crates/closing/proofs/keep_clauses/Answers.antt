@@ -23,14 +23,6 @@ loop-k-init c = keeping_start (bit_at c.args.set) c.args.rules.now c.args.clause
 is : (c : After-predicate-p) → c.predicate-p.result ≡ (clause_at c.loop-k.rules c.loop-k.k).head.pred
 is c = c.predicate-p.ensures ∙ ap (λ (h : Head). h.pred) (c.head.ensures ∙ ap (λ (k : Clause). k.head) c.at.ensures)
 
-pub has_member-requires : goal.has_member-requires
-has_member-requires c = keeping_low c.loop-k.invariant (omega arith) (is c) c.requires.1
-
-pub move_clause-requires : goal.move_clause-requires
-move_clause-requires c =
-    let f = c.loop-k.invariant.few in
-    (omega arith, omega arith)
-
 pub loop-k-preserved : goal.loop-k-preserved
 loop-k-preserved c =
     let l = c.loop-k.invariant in
@@ -40,6 +32,3 @@ loop-k-preserved c =
       | then-not-has_member w ↦ rw (w.rules-is, w.n-is) (keeping_move l (omega arith) q (has ∙ w.if-not-has_member.true) w.move_clause.ensures)
       | else-not-has_member w ↦ rw (w.rules-is, w.n-is) (keeping_drop l (omega arith) q (has ∙ w.if-not-has_member.false))
     ]
-
-pub returns : goal.returns
-returns c = keeping_end c.loop-k.invariant c.requires.0 (omega arith)

@@ -19,9 +19,6 @@ settle-rounds-requires c =
     let n = c.new-needs.ensures in
     ((_, read_held c.in_ok-read_book.ensures), n.own, n.masks, n.admits)
 
-pub image_length-requires : goal.image_length-requires
-image_length-requires c = c.in_ok-read_book.ensures.listed.few
-
 pub put_image-requires : goal.put_image-requires
 put_image-requires c =
     let b = c.in_ok-read_book.ensures in

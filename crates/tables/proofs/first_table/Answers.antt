@@ -19,13 +19,6 @@ loop-p-init c =
     let p = c.requires in
     filling_start s.book.now.modes s.table.now.masks s.table.now.admits (omega arith) (omega arith) p.2 p.3
 
-pub minimised-c-requires : goal.minimised-c-requires
-minimised-c-requires c =
-    let p = c.requires in
-    let h = p.0 in
-    ap (in_range all_patterns) c.masks_at.ensures
-    ∙ p.1 c.loop-p.p (omega arith) (sym c.has_mode.ensures ∙ c.if-has_mode.true)
-
 pub loop-p-preserved : goal.loop-p-preserved
 loop-p-preserved c =
     let l = c.loop-p in
@@ -43,9 +36,3 @@ loop-p-preserved c =
           (filling_next s.book.now.modes l.p 1 ones (omega arith) (trivial_held ∙ first_none s.book.now.modes l.p (omega arith) (has ∙ u.if-has_mode.false)) trivial_full
           l.invariant)
     ]
-
-pub returns : goal.returns
-returns c =
-    let l = c.loop-p in
-    let s = c.args in
-    let e : l.p ≡ s.book.now.preds = omega arith in record { masks = subst (λ (n : ℕ). table_in l.table.masks n ≡ first_needs (modes_of s.book.now.modes 64) n) e l.invariant.is; admitted = l.invariant.admitted }

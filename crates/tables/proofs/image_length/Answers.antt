@@ -16,14 +16,6 @@ use Rattle.tables.proofs.image_length.Goals as goal
 pub loop-masks-init : goal.loop-masks-init
 loop-masks-init c = measuring_start (rows_chunks [] c.args.table.now.masks c.args.book.now.preds)
 
-pub loop-masks-preserved : goal.loop-masks-preserved
-loop-masks-preserved c =
-    let n = c.count.ensures in
-    let i = c.loop-masks.masks-index in
-    let here = ap (λ (w : ℕ). length (members w)) (get_or-take c.args.book.now.preds c.args.table.now.masks i 0 (omega arith)) in
-    let l = row_length_lem i (entry_in c.args.table.now.masks i) (fitting (get_or [] i 0) (entry_in c.args.table.now.masks i)) in
-    measuring_next c.loop-masks.invariant (omega arith) (omega arith) (omega arith)
-
 pub returns : goal.returns
 returns c arities =
     let s = c.args in

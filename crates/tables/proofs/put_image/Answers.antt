@@ -12,9 +12,6 @@ loop-p-init c =
     let k = c.args in
     writing_start (rows_chunks k.book.now.arities k.table.now.masks k.book.now.preds) c.requires.3
 
-pub fitting-fit-requires : goal.fitting-fit-requires
-fitting-fit-requires c = c.requires.1 c.loop-p.p c.loop-p-test.true
-
 pub put_row-at-requires : goal.put_row-at-requires
 put_row-at-requires c =
     let l = c.loop-p in
@@ -24,9 +21,3 @@ pub loop-p-preserved : goal.loop-p-preserved
 loop-p-preserved c =
     let l = c.loop-p in
     writing_next l.invariant (omega arith) (wrote_as (row_held_lem c.args.book.now.arities c.args.table.now.masks c.args.book.now.preds c.args.table.now.admits c.requires.1 c.requires.2 c.requires.0 c.loop-p-test.true c.fitting-fit.ensures) c.put_row-at.ensures)
-
-pub shape_of-out : goal.shape_of-out
-shape_of-out c = writing_length c.loop-p.invariant
-
-pub returns : goal.returns
-returns c = writing_end c.loop-p.invariant (omega arith)

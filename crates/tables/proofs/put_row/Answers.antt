@@ -10,18 +10,6 @@ use Rattle.tables.proofs.put_row.Goals as goal
 abbrev constraint : (p masks : ℕ) → List ℕ
 constraint p masks = p ∷ length (members masks) ∷ members masks
 
-pub put_constraint-r-requires : goal.put_constraint-r-requires
-put_constraint-r-requires c =
-    let mark = c.put_mark-q in
-    let behind = constraint c.args.p c.args.masks in
-    room_first mark.new.out mark.result behind (c.args.fit ∷ []) (room_second (behind ++ (c.args.fit ∷ [])) mark.ensures c.requires)
-
-pub put_byte-requires : goal.put_byte-requires
-put_byte-requires c =
-    let m = c.before.before.before.before.before.before.before in
-    room_second (m.args.fit ∷ []) c.put_constraint-r.ensures
-    (room_second (constraint m.args.p m.args.masks ++ (m.args.fit ∷ [])) m.put_mark-q.ensures m.requires)
-
 pub returns : goal.returns
 returns c =
     wrote_append c.put_mark-q.ensures (wrote_append c.put_constraint-r.ensures c.put_byte.ensures)

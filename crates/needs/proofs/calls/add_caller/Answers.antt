@@ -16,14 +16,6 @@ use Rattle.needs.proofs.calls.add_caller.Goals as goal
 abbrev After-predicate-q : Type 0
 After-predicate-q = Lts.After-predicate2 Tie.the-claims Reads.Pre Reads.Post goal.the-invariant-loop-j goal.the-decreases-loop-j Tie.handed_clauses
 
-pub loop-j-init : goal.loop-j-init
-loop-j-init c =
-    let args = c.args in
-    adding_start args.clause.now args.callers.now (omega arith)
-
-pub subgoal-requires : goal.subgoal-requires
-subgoal-requires c = let n = c.subgoals-j-end.ensures.value in omega arith
-
 -- in a turn: p is the head's predicate and q that of subgoal j
 module _ (c : After-predicate-q) where
   head : c.predicate-p.result ≡ c.args.clause.now.head.pred
@@ -39,17 +31,8 @@ module _ (c : After-predicate-q) where
       let l = callable_low c.args.clause.now.body c.loop-j.j c.requires.1 (omega arith) in
       omega arith
 
-pub offset_bounds-callers-q : goal.offset_bounds-callers-q
-offset_bounds-callers-q c = let l = low c in omega arith
-
 pub bounds-callers-q : goal.bounds-callers-q
 bounds-callers-q c = let l = low c.before.before in let s = c.loop-j.invariant.size in omega arith
-
-pub with_member-requires : goal.with_member-requires
-with_member-requires c = let e = head c.before.before.before in let l = c.requires.0 in omega arith
-
-pub offset_bounds-callers-q-in-loop-j : goal.offset_bounds-callers-q-in-loop-j
-offset_bounds-callers-q-in-loop-j c = let l = low c.before.before.before in omega arith
 
 pub bounds-callers-q-in-loop-j : goal.bounds-callers-q-in-loop-j
 bounds-callers-q-in-loop-j c = let l = low c.before.before.before in let s = c.loop-j.invariant.size in omega arith

@@ -32,9 +32,6 @@ module _ (c : After-predicate-p) where
   low : c.predicate-p.result < max_predicates
   low = head_low c.loop-k.k c.predicate-p.result c.requires.1 (omega arith) is
 
-pub with_member-heads-requires : goal.with_member-heads-requires
-with_member-heads-requires c = low c.before.before.before
-
 pub loop-k-preserved : goal.loop-k-preserved
 loop-k-preserved c =
     let d = c.before.before.before.before in
@@ -42,6 +39,3 @@ loop-k-preserved c =
     let p = d.predicate-p.result in
     rw (c.with_member.ensures, c.with_member-heads.ensures)
     (owning_next l.0 p c.requires.1 (omega arith) (is d), heading_next l.1 p (omega arith) (is d))
-
-pub returns : goal.returns
-returns c = record { owns = owning_end c.loop-k.invariant.0 (omega arith); holds = heading_end c.loop-k.invariant.1 (omega arith) }
