@@ -5,7 +5,7 @@ use Prim.Native.Nat.{ℕ, ◌+◌, ◌≤◌}
 use native.Mathlib.Omega.{arith}
 use native.Mathlib.Nat.{add-zero}
 use native.Mathlib.Numerals.{add-one}
-use lib.ListN.{length, get_or, take, drop, set, length-append, length-take}
+use lib.ListN.{length, take, drop, set, length-append, length-take}
 use lib.Seq.{sets, length-sets, sets-eq, take_at}
 use Rattle.masks.proofs.Laws.Lists.{take_front, sets_append, sets_set}
 use Rattle.writing.specs.Wrote.{Room, Wrote}
@@ -54,14 +54,6 @@ room_second {l = l} k w r =
     let f = wrote_length w in
     let g = length-append l k in
     omega arith
-
--- ---- a mark
-
-pub two_bytes : (l : List ℕ) → length l ≡ 2 → get_or l 0 0 ∷ get_or l 1 0 ∷ [] ≡ l
-two_bytes [] e = absurd (omega arith)
-two_bytes (x ∷ []) e = absurd (omega arith)
-two_bytes (x ∷ y ∷ []) e = refl
-two_bytes (x ∷ y ∷ z ∷ l) e = absurd (omega arith)
 
 -- ---- as many of an array as its first n are
 

@@ -2,7 +2,7 @@
 use native.Mathlib.Omega.{arith}
 use lib.ListN.{take}
 use Rattle.writing.proofs.Laws.Wrote.{wrote_append, room_second}
-use Rattle.writing.proofs.Laws.Chunks.{writing_start, writing_length, writing_room, writing_next, writing_end}
+use Rattle.writing.proofs.Laws.Chunks.{writing_start, writing_room, writing_next}
 use Rattle.writing.proofs.Laws.Runs.{byte_at, predicates_chunks}
 use Rattle.writing.proofs.put_predicates.Goals as goal
 
@@ -22,9 +22,3 @@ put_byte-p-requires c =
 pub loop-arity-preserved : goal.loop-arity-preserved
 loop-arity-preserved c =
     writing_next c.loop-arity.invariant (omega arith) (wrote_append c.put_mark-q.ensures c.put_byte-p.ensures)
-
-pub shape_of-out : goal.shape_of-out
-shape_of-out c = writing_length c.loop-arity.invariant
-
-pub returns : goal.returns
-returns c = writing_end c.loop-arity.invariant (omega arith)
