@@ -1,6 +1,5 @@
 // An order, as it is held.
-ghost use Rattle.std.specs.Prelude.{◌≡◌, ◌≤◌, take};
-ghost use Rattle.book.specs.Limits.{max_subgoals};
+ghost use Rattle.std.specs.Prelude.{◌≡◌, take};
 
 use book::limits::MAX_SUBGOALS;
 
@@ -11,7 +10,6 @@ pub struct Order {
     pub n: u8,
     pub places: [u8; MAX_SUBGOALS],
     pub patterns: [u8; MAX_SUBGOALS],
-    ghost few: { n ≤ max_subgoals },
 }
 
 impl Order {
@@ -19,6 +17,6 @@ impl Order {
     pub fn places(&self) -> &[u8]
         ensures { result.now ≡ take self.now.n self.now.places }
     {
-        &self.places[..self.n as usize]
+        &self.places[..(self.n as usize).min(MAX_SUBGOALS)]
     }
 }

@@ -1,6 +1,8 @@
 -- Patterns marked in words, one for each predicate: a pattern is marked where its bit is set. Assumes nothing.
 use Rattle.std.specs.Prelude.{◌≡◌, Bool, true, cond, ◌||◌, ◌↔◌, List, [], ℕ, eqb, get_or}
-use Rattle.std.proofs.Math.Option.{some}
+use Rattle.std.specs.declared.option.Option as std
+use Rattle.std.specs.declared.option.Option.TheVariants.{Some, None}
+use Rattle.std.proofs.Math.Option.{none, some}
 use Rattle.masks.specs.Limits.{all_patterns}
 use Rattle.masks.specs.Lists.{any, joined}
 use Rattle.masks.specs.Set.{bit_at}
@@ -40,6 +42,17 @@ SomeFound body o = (T : Table) × (b : Bound) × Found T body b o
 
 abbrev pub Marks : List Call → Order → List ℕ → List ℕ → ℕ → Type 0
 Marks body o before after names = (T : Table) (b : Bound) → Found T body b o → Marked before after names (calls_by T body b)
+
+-- the same of the body's first good order where it has one, and of none where it has none
+abbrev pub Given : Table → List Call → Bound → std.Option Order → Type 0
+Given T body b None = none ≡ first_good T body b
+Given T body b (Some o) = Found T body b o
+
+abbrev pub SomeGiven : List Call → std.Option Order → Type 0
+SomeGiven body o = (T : Table) × (b : Bound) × Given T body b o
+
+abbrev pub MarksGiven : List Call → std.Option Order → List ℕ → List ℕ → ℕ → Type 0
+MarksGiven body o before after names = (T : Table) (b : Bound) → Given T body b o → Marked before after names (calls_by T body b)
 
 -- of clause k of an array, under a head pattern
 abbrev pub clause_by : List ℕ → Table → ℕ → ℕ → List Asked

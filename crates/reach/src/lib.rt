@@ -7,7 +7,7 @@ ghost use Rattle.book.specs.Limits.{max_clauses};
 ghost use Rattle.book.specs.Held.{clause_at};
 ghost use Rattle.book.specs.Sets.{callable, Cleared, Owns, Known, Callable};
 ghost use Rattle.ordering.specs.Adorn.{nothing};
-ghost use Rattle.reach.specs.Marked.{Found, SomeFound, Marked, Marks, clauses_by, patterns_by, ReachedIn};
+ghost use Rattle.reach.specs.Marked.{Given, SomeFound, SomeGiven, Marked, Marks, MarksGiven, clauses_by, patterns_by, ReachedIn};
 
 use book::clause::Clause;
 use book::held::RuleBook;
@@ -23,15 +23,15 @@ pub fn reach(
     book: &RuleBook,
     own: &[u64; MAX_PREDICATES],
     table: &Admits,
-    query: &Order,
+    query: &Option<Order>,
     reached: &mut [u64; MAX_PREDICATES],
 )
     requires clauses_le_max_clauses { (book.now.clauses ≤ max_clauses) × Known book.now.rules book.now.clauses × (callable (clause_at book.now.rules max_clauses).body ≡ true) × Owns book.now.rules book.now.clauses own.now }
-    requires found { Found table.now (clause_at book.now.rules max_clauses).body nothing query.now × Cleared reached.old }
+    requires found { Given table.now (clause_at book.now.rules max_clauses).body nothing query.now × Cleared reached.old }
     ensures { ReachedIn book.now.rules book.now.clauses table.now reached.new }
 {
     let mut gone = [0; MAX_PREDICATES];
-    let mut work = mark_calls(&book.query(), query, reached);
+    let mut work = mark_given(&book.query(), query, reached);
     // No `for` over its members: a turn may put work back.
     while work != 0 {
         let p = u64::trailing_zeros(work) as usize;
@@ -88,12 +88,28 @@ fn mark_calls(clause: &Clause, order: &Order, reached: &mut [u64; MAX_PREDICATES
     requires { (callable clause.now.body ≡ true) × SomeFound clause.now.body order.now }
     ensures { Marks clause.now.body order.now reached.old reached.new result }
 {
+    let n = order.places().len();
     let mut names = 0;
-    for i in 0..order.n as usize {
+    for i in 0..n {
         let p = clause.subgoal(order.places[i] as usize).predicate();
         let q = p as usize;
         reached[q] = with_member(reached[q], order.patterns[i]);
         names = with_member(names, p);
     }
     names
+}
+
+// The same where a clause may have no such order, and so no calls to mark.
+fn mark_given(
+    clause: &Clause,
+    order: &Option<Order>,
+    reached: &mut [u64; MAX_PREDICATES],
+) -> u64
+    requires { (callable clause.now.body ≡ true) × SomeGiven clause.now.body order.now }
+    ensures { MarksGiven clause.now.body order.now reached.old reached.new result }
+{
+    match order {
+        Some(o) => mark_calls(clause, o, reached),
+        None => 0,
+    }
 }

@@ -7,7 +7,7 @@ use Prim.Native.Nat.{ℕ, ◌^◌, ◌<◌}
 use lib.Bits.{bit_or}
 use lib.Dec.{eqb}
 use lib.ListN.{length, get_or, set}
-use Rattle.book.specs.Book.{Head, Clause}
+use Rattle.book.specs.Book.{Call, Head, Clause}
 use Rattle.book.specs.Held.{head_in}
 use Rattle.book.specs.Table.{Table}
 use Rattle.ordering.specs.Adorn.{Bound, head_bound}
@@ -52,6 +52,11 @@ marked_one words p a h = record {
 pub found_clause : (T : Table) (c : Clause) (a head : ℕ) {b : Bound} {o : Order} → head_in head ≡ c.head → b ≡ head_bound (head_in head).args a
     → Found T c.body b o → Found T c.body (head_bound c.head.args a) o
 found_clause T c a head {o = o} e f = subst (λ (b : Bound). Found T c.body b o) (f ∙ ap (λ (h : Head). head_bound h.args a) e)
+
+-- without an order there are no calls to mark
+pub none_marks : (T : Table) (body : List Call) (b : Bound) (before : List ℕ) → none ≡ first_good T body b → Marked before before 0 (calls_by T body b)
+unfolding calls_by asks
+none_marks T body b before g = rw (← g) (marked_nil before)
 
 -- where there is no such order, the clause has no calls
 pub found_none : (T : Table) (c : Clause) (a head : ℕ) {b : Bound} → head_in head ≡ c.head → b ≡ head_bound (head_in head).args a

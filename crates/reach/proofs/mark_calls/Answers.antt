@@ -1,9 +1,10 @@
 -- `reach::mark_calls` meets its contract. The loop's invariant: the calls at the first i places of the order are marked. Assumes nothing.
-use mathlib.Core.Path.{◌≡◌, sym}
+use mathlib.Core.Path.{◌≡◌, sym, ap}
 use native.Mathlib.Omega.{arith}
 use lib.ListN.{length, length-take}
 use borrow.Author.Rules.{rules}
 use Rattle.book.specs.Limits.{max_subgoals}
+use Rattle.ordering.specs.Held.{places_of}
 use Rattle.ordering.proofs.Laws.Patterns.{order_below, pattern_low}
 use Rattle.reach.proofs.Laws.Marking.{call_low, marking_start, marking_next, marking_end}
 use Rattle.reach.proofs.mark_calls.Goals as goal
@@ -13,7 +14,8 @@ loop-i-init c =
     let o = c.args.order.now in
     let h : length o.places ≡ max_subgoals = search rules in
     let l = length-take o.n o.places in
-    record { long = omega (arith, o.few); going = marking_start c.told-reached }
+    let e : length (places_of o) ≡ length c.places-n.result.now = ap length (sym c.places-n.ensures) in
+    record { long = e; few = omega arith; going = marking_start c.told-reached }
 
 pub subgoal-requires : goal.subgoal-requires
 subgoal-requires c =
@@ -43,6 +45,7 @@ loop-i-preserved c =
     let l = call_low c.requires.1 c.requires.0 c.loop-i.i (omega arith) _ c.subgoal.ensures c.predicate-p.ensures in
     record {
       long = e;
+      few = i.few;
       going = marking_next _ i.going (omega arith) c.subgoal.ensures c.predicate-p.ensures l c.with_member.ensures c.with_member-names.ensures;
     }
 

@@ -5,12 +5,17 @@ use mathlib.Core.Path.{refl}
 use lib.Count.{count_trailing_zeros}
 use lib.ListN.{get_or}
 use borrow.Author.Rules.{rules}
+use Rattle.ordering.specs.Adorn.{nothing}
 use Rattle.reach.proofs.Laws.Working.{working_start, Step, working_next, working_less, working_end}
 use Rattle.reach.proofs.reach.Goals as goal
 
+pub mark_given-work-requires : goal.mark_given-work-requires
+mark_given-work-requires c =
+    rw c.query.ensures (c.requires.clauses_le_max_clauses.2, (c.args.table.now, nothing, c.requires.found.0))
+
 pub loop-work-init : goal.loop-work-init
 loop-work-init c =
-    let m = rw c.query.ensures at (c.mark_calls-work.ensures) in
+    let m = rw c.query.ensures at (c.mark_given-work.ensures) in
     working_start (search rules) c.told-reached c.requires.found.1 (m _ _ c.requires.found.0)
 
 -- what a turn makes of the marks

@@ -1,14 +1,9 @@
 -- `tables::first_table` meets its contract. The loop's invariant: the first p constraints are those of table 0, with the patterns that they admit. Assumes
 -- nothing.
-use mathlib.Core.Path.{◌≡◌, sym, ap, subst, ◌∙◌}
-use Prim.Native.Nat.{ℕ}
+use mathlib.Core.Path.{sym, ap, ◌∙◌}
 use native.Mathlib.Omega.{arith}
-use Rattle.masks.specs.Limits.{all_patterns}
-use Rattle.masks.specs.Constraint.{in_range, minimise}
+use Rattle.masks.specs.Constraint.{minimise}
 use Rattle.masks.proofs.Laws.Patterns.{ones}
-use Rattle.book.specs.Held.{modes_of}
-use Rattle.book.specs.Table.{table_in}
-use Rattle.tables.specs.Table.{first_needs}
 use Rattle.tables.proofs.Laws.Held.{first_none, first_some, filling_start, filling_next, trivial_held, trivial_full}
 use Rattle.tables.proofs.first_table.Goals.{then-has_mode, else-has_mode}
 use Rattle.tables.proofs.first_table.Goals as goal

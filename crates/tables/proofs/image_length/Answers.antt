@@ -1,15 +1,10 @@
 -- `tables::image_length` meets its contract. The loop's invariant: the total is the length of the rows of the predicates passed. Assumes nothing.
-use mathlib.Core.Path.{ap, ◌∙◌}
+use mathlib.Core.Path.{◌∙◌}
 use mathlib.Core.List.{[]}
-use Prim.Native.Nat.{ℕ}
 use native.Mathlib.Omega.{arith}
-use lib.ListN.{length, get_or}
-use Rattle.std.proofs.lemmas.List.{get_or-take}
-use Rattle.masks.specs.Set.{members}
-use Rattle.masks.specs.Constraint.{fitting}
-use Rattle.book.specs.Table.{entry_in, table_in}
-use Rattle.writing.proofs.Laws.Chunks.{measuring_start, measuring_next, measuring_end}
-use Rattle.tables.proofs.Laws.Image.{row_length_lem, rows_size}
+use Rattle.book.specs.Table.{table_in}
+use Rattle.writing.proofs.Laws.Chunks.{measuring_start, measuring_end}
+use Rattle.tables.proofs.Laws.Image.{rows_size}
 use Rattle.tables.proofs.Laws.Held.{rows_chunks}
 use Rattle.tables.proofs.image_length.Goals as goal
 

@@ -3,7 +3,7 @@ use mathlib.Core.Path.{sym, subst}
 use native.Mathlib.Omega.{arith}
 use Rattle.writing.specs.Wrote.{Room}
 use Rattle.writing.proofs.Laws.Wrote.{wrote_as}
-use Rattle.writing.proofs.Laws.Chunks.{writing_start, writing_length, writing_room, writing_next, writing_end}
+use Rattle.writing.proofs.Laws.Chunks.{writing_start, writing_room, writing_next}
 use Rattle.tables.proofs.Laws.Held.{rows_chunks, row_held_lem}
 use Rattle.tables.proofs.put_image.Goals as goal
 

@@ -6,7 +6,7 @@ use lib.ListN.{get_or}
 use Rattle.book.specs.Limits.{max_predicates}
 use Rattle.book.specs.Book.{Head, Call, no_call}
 use Rattle.book.proofs.Laws.Sets.{callable_low}
-use Rattle.needs.proofs.Laws.Calls.{adding_start, adding_next, adding_end}
+use Rattle.needs.proofs.Laws.Calls.{adding_next, adding_end}
 use Rattle.needs.proofs.calls.add_caller.Lts
 use Rattle.needs.proofs.calls.add_caller.Reads
 use Rattle.needs.proofs.calls.add_caller.Tie

@@ -6,8 +6,8 @@ use native.Mathlib.Omega.{arith}
 use Rattle.book.specs.Limits.{max_predicates}
 use Rattle.book.specs.Book.{Head, Clause}
 use Rattle.book.specs.Held.{clause_at}
-use Rattle.book.proofs.Laws.Sets.{head_low, owning_start, owning_next, owning_end}
-use Rattle.needs.proofs.Laws.Calls.{heading_start, heading_next, heading_end}
+use Rattle.book.proofs.Laws.Sets.{head_low, owning_start, owning_next}
+use Rattle.needs.proofs.Laws.Calls.{heading_start, heading_next}
 use Rattle.needs.proofs.calls.own_clauses.Lts
 use Rattle.needs.proofs.calls.own_clauses.Reads
 use Rattle.needs.proofs.calls.own_clauses.Tie

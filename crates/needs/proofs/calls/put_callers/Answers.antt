@@ -1,7 +1,7 @@
 -- `needs::calls::put_callers` meets its contract. The loop's invariant: each predicate's set has those whose first k clauses call it. Assumes nothing.
 use mathlib.Core.Path.{sym}
 use native.Mathlib.Omega.{arith}
-use Rattle.needs.proofs.Laws.Calls.{gathering_start, gathering_next, gathering_end}
+use Rattle.needs.proofs.Laws.Calls.{gathering_start, gathering_next}
 use Rattle.needs.proofs.calls.put_callers.Goals as goal
 
 pub loop-k-init : goal.loop-k-init
