@@ -173,7 +173,7 @@ fn put_answer(out: &mut [u8], at: usize, order: Option<Order>) -> usize
     match order {
         Some(o) => {
             let p = put_byte(out, at, 0);
-            put_query(out, p, &o)
+            put_query(out, p, o.places())
         }
         None => put_byte(out, at, 7),
     }

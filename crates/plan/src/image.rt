@@ -3,7 +3,6 @@ ghost use Rattle.std.specs.Prelude.{◌≡◌, true, ◌∷◌, ◌+◌, ◌*◌
 ghost use Rattle.book.specs.Limits.{max_predicates, max_clauses, max_subgoals};
 ghost use Rattle.book.specs.Held.{clause_at};
 ghost use Rattle.book.specs.Sets.{callable, Callable};
-ghost use Rattle.ordering.specs.Held.{places_of};
 ghost use Rattle.writing.specs.Wrote.{Room, Wrote};
 ghost use Rattle.choices.specs.Plan.{enc_query, enc_row};
 ghost use Rattle.plan.specs.Lent.{EachCallable, row_by, clause_rows, pattern_rows, plan_bytes, rows_length, plan_length};
@@ -13,7 +12,7 @@ use book::limits::MAX_PREDICATES;
 use masks::constraint::count;
 use masks::members::Members;
 use ordering::admits::Admits;
-use ordering::{Order, first_order, head_bound};
+use ordering::{first_order, head_bound};
 use writing::put::{put_byte, put_bytes, put_mark};
 
 // How many bytes the plan has: each predicate's clauses have a row for each of its patterns.
@@ -49,14 +48,15 @@ fn rows_length(book: &RuleBook, own: u64) -> usize
 // "`QO`, n, n places; then for each reached predicate with clauses, ascending by predicate and then pattern", from the output's start.
 pub fn put_plan(
     out: &mut [u8],
-    query: &Order,
+    query: &[u8],
     book: &RuleBook,
     own: &[u64; MAX_PREDICATES],
     table: &Admits,
     reached: &[u64; MAX_PREDICATES],
 ) -> usize
-    requires { (book.now.preds ≤ max_predicates) × EachCallable book.now.rules own.now × Room out.old 0 (plan_bytes (places_of query.now) book.now.preds book.now.rules table.now own.now reached.now) }
-    ensures { Wrote out.old out.new 0 result (plan_bytes (places_of query.now) book.now.preds book.now.rules table.now own.now reached.now) }
+    requires few { (length query.now ≤ max_subgoals) × (book.now.preds ≤ max_predicates) × EachCallable book.now.rules own.now }
+    requires room { Room out.old 0 (plan_bytes query.now book.now.preds book.now.rules table.now own.now reached.now) }
+    ensures { Wrote out.old out.new 0 result (plan_bytes query.now book.now.preds book.now.rules table.now own.now reached.now) }
 {
     let mut at = put_query(out, 0, query);
     for p in 0..book.preds as usize {
@@ -66,12 +66,13 @@ pub fn put_plan(
 }
 
 // "`QO`, n, n places".
-pub fn put_query(out: &mut [u8], at: usize, o: &Order) -> usize
-    requires { Room out.old at (enc_query (places_of o.now)) }
-    ensures { Wrote out.old out.new at result (enc_query (places_of o.now)) }
+pub fn put_query(out: &mut [u8], at: usize, places: &[u8]) -> usize
+    requires few { length places.now ≤ max_subgoals }
+    requires room { Room out.old at (enc_query places.now) }
+    ensures { Wrote out.old out.new at result (enc_query places.now) }
 {
     let p = put_mark(out, at, b"QO");
-    put_places(out, p, o.places())
+    put_places(out, p, places)
 }
 
 // The rows of the clauses of a set, under each pattern of a set.

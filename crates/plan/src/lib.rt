@@ -44,12 +44,13 @@ fn give(book: &RuleBook, needs: &Needs, out: &mut [u8]) -> Result<Reply, Refusal
     ensures { Gives book.now needs.now out.old (reply_of reply result) out.new }
 {
     let table = Admits::of(&needs.table.admits);
-    let Some(query) = first_order(&book.query(), &table, 0) else {
+    let query = first_order(&book.query(), &table, 0);
+    let Some(order) = &query else {
         return Err(Refusal::NoOrder);
     };
     let mut reached = [0; MAX_PREDICATES];
     reach(book, &needs.own, &table, &query, &mut reached);
     let r = Reply::in_room(plan_length(book, &needs.own, &reached), 0, out.len())?;
-    put_plan(out, &query, book, &needs.own, &table, &reached);
+    put_plan(out, order.places(), book, &needs.own, &table, &reached);
     Ok(r)
 }

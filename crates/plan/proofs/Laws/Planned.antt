@@ -24,8 +24,7 @@ use Rattle.reading.specs.Judged.{BookHeld}
 use Rattle.book.specs.declared.held.RuleBook.{RuleBook}
 use Rattle.ordering.specs.Adorn.{Bound, nothing, head_bound}
 use Rattle.ordering.specs.Good.{first_good, is_some}
-use Rattle.ordering.specs.Held.{or_none, places_of}
-use Rattle.ordering.specs.declared.order.Order.{Order}
+use Rattle.ordering.specs.Held.{or_none}
 use Rattle.tables.specs.Table.{final}
 use Rattle.needs.specs.Round.{Settles}
 use Rattle.needs.specs.declared.Needs.{Needs}
@@ -265,15 +264,15 @@ module _ {B : Book} {preds clauses : ℕ} {rules own table : List ℕ} (l : Lent
   given_none e = planned_none B (ap is_some (sym query_order) ∙ ap is_some (sym e))
 
   -- there is one: a plan, as long as it was measured
-  module _ (q : Order) (e : some (places_of q) ≡ first_good held (clause_at rules max_clauses).body nothing) (words : List ℕ) (m : ReachedIn rules clauses held words) where
+  module _ (σ : List ℕ) (e : some σ ≡ first_good held (clause_at rules max_clauses).body nothing) (words : List ℕ) (m : ReachedIn rules clauses held words) where
     abbrev bytes : List ℕ
-    bytes = plan_bytes (places_of q) preds rules held own words
+    bytes = plan_bytes σ preds rules held own words
 
     given_some : is_some (first_good (final B) B.query nothing) ≡ true
     given_some = ap is_some (sym query_order) ∙ ap is_some (sym e)
 
     given_bytes : bytes ≡ image B
-    given_bytes = plan_bytes_lem given_some words m (places_of q) (ap or_none e)
+    given_bytes = plan_bytes_lem given_some words m σ (ap or_none e)
 
     pub given_plan : planned B ≡ done 0 bytes
     given_plan = planned_good B given_some ∙ ap (done 0) (sym given_bytes)
