@@ -36,7 +36,7 @@ impl Fault {
         }
     }
 
-    // The place of a fault, of two: the end of the book, and where the fault is found.
+    // Which of two places is the fault's: the end of the book, or where it is found.
     pub fn place(self, end: usize, found: usize) -> usize
         ensures { result ≡ format.place self end found }
     {

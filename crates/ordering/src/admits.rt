@@ -9,7 +9,7 @@ ghost use Rattle.book.specs.Table.{entry, table_in, Full};
 use book::limits::MAX_PREDICATES;
 use std::marker::Model;
 
-// The set of a constraint for each predicate. Each set has all the patterns that it admits, so that a pattern fits just where it is a member.
+// For each predicate, the set of all the patterns that its constraint admits, so that a pattern fits just where it is a member.
 #[derive(Drop)]
 pub struct Admits<'a> {
     words: &'a [u64; MAX_PREDICATES],

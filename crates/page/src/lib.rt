@@ -1,6 +1,7 @@
 // All the queries of a page in one go: document 02, W1. The book is read and settled once. The run is read once, too: each query is ordered against the
 // final table as it is read, and its answer waits in an image of a page's full length; only a run without a fault, whose answers have room, is copied to the
-// output. The run's tally goes through by value, is lent to one step for each query, and is given back where the call is not refused.
+// output. The run's tally goes through by value and is lent to one step for each query; the caller's tally comes back changed only where the call is not
+// refused.
 #![tactic(auto)]
 
 ghost use Rattle.std.specs.Prelude.{◌≡◌, true, ◌+◌, ◌≤◌, length};

@@ -100,11 +100,7 @@ fn mark_calls(clause: &Clause, order: &Order, reached: &mut [u64; MAX_PREDICATES
 }
 
 // The same where a clause may have no such order, and so no calls to mark.
-fn mark_given(
-    clause: &Clause,
-    order: &Option<Order>,
-    reached: &mut [u64; MAX_PREDICATES],
-) -> u64
+fn mark_given(clause: &Clause, order: &Option<Order>, reached: &mut [u64; MAX_PREDICATES]) -> u64
     requires { (callable clause.now.body ≡ true) × SomeGiven clause.now.body order.now }
     ensures { MarksGiven clause.now.body order.now reached.old reached.new result }
 {

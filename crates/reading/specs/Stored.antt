@@ -1,5 +1,5 @@
 -- What the runs of records leave beside their answers: what was read, and that the arrays lent hold it where they have room for all. Assumes nothing.
-use Rattle.std.specs.Prelude.{◌≡◌, true, List, [], map, ℕ, suc, ◌+◌, ◌*◌, ◌≤◌, length, take, set, Result, Ok, Err}
+use Rattle.std.specs.Prelude.{◌≡◌, true, List, [], map, ℕ, suc, ◌+◌, ◌-◌, ◌*◌, ◌≤◌, length, take, drop, set, Result, Ok, Err}
 use Rattle.std.specs.Borrow.{Bor}
 use Rattle.std.proofs.lemmas.List.Edits.{sets}
 use Rattle.masks.specs.Set.{Holds}
@@ -44,10 +44,11 @@ abbrev pub onward : {A : Type 0} → Phase → Result (Bor (List ℕ)) FaultFrom
 onward p (Ok t) body = stops p body t.now
 onward p (Err e) body = bad e.fault e.left
 
--- the subgoals of clause k are read into words, in whichever run they are, and stored with their number
+-- the subgoals of clause k are read into words, in whichever run they are, and stored with their number; what is left is the end of what there was
 pub record ReadsBody (ar s : List ℕ) (k : ℕ) (r : Result (Bor (List ℕ)) FaultFromEnd) (before after : List ℕ) : Type 0 where
   pub words : List ℕ
   pub few : length words ≤ max_subgoals
+  pub inside : (t : Bor (List ℕ)) → r ≡ Ok t → t.now ≡ drop (length s - length t.now) s
   pub reads : (p : Phase) → Bodied p → onward p r (map call_in words) ≡ many p (subgoal ar) max_subgoals [] s
   pub stored : (t : Bor (List ℕ)) → r ≡ Ok t → after ≡ set (sets before (k * clause_size + 2) words) (k * clause_size) (length words)
 

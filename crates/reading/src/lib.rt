@@ -3,7 +3,7 @@
 // byte is looked at once, and the bytes of a mark where a run ends again by what judges that end and by the run that follows.
 #![tactic(auto)]
 
-ghost use Rattle.std.specs.Prelude.{◌≡◌, ◌≤◌, ◌<◌, length};
+ghost use Rattle.std.specs.Prelude.{◌≡◌, ◌≤◌, ◌<◌, length, IfErr};
 ghost use Rattle.book.specs.Limits.{max_clauses};
 ghost use Rattle.book.specs.Format as format;
 ghost use Rattle.book.specs.Held.{NoModes};
@@ -56,10 +56,11 @@ pub fn read_only(s: &[u8]) -> Result<Reading, FaultAt>
 }
 
 // The book that the bytes are, or their first fault. The book is then held in the room lent, whose modes must be none; the set has the predicates that have
-// `MO`.
+// `MO`. At a fault it keeps its numbers of predicates and clauses.
 pub fn read_book(s: &[u8], book: &mut RuleBook) -> Result<u64, FaultAt>
     requires { NoModes book.old.modes }
-    ensures { BookRead s.now result book.new }
+    ensures read { BookRead s.now result book.new }
+    ensures kept { IfErr result (λ e. (book.new.preds ≡ book.old.preds) × (book.new.clauses ≡ book.old.clauses)) }
 {
     let r = read_into(s, &mut book.arities, &mut book.modes, &mut book.rules)?;
     book.preds = r.preds;

@@ -104,7 +104,7 @@ fn read_args<'a>(
     let count = signed(n, negated);
     let mut call = count as u64 * 256 + pred as u64;
     let mut left = s;
-    // `16 + 8 * i` in its place takes 4 to 8 percent more of a check.
+    // `16 + 8 * i` in its place makes a check 4 to 8 percent slower.
     let mut shift: u32 = 16;
     for i in 0..n {
         let (x, after) = read_byte(left, range)?;

@@ -8,7 +8,7 @@ use crate::fault::{FaultFromEnd, wrong};
 use book::fault::Fault;
 use book::mark::{Mark, Phase, Turn};
 
-// The bytes begin with the two of this mark. `s.starts_with(m)` takes up to 6 percent more of a check.
+// The bytes begin with the two of this mark. `s.starts_with(m)` makes a check up to 6 percent slower.
 pub fn is_mark(s: &[u8], m: &[u8; 2]) -> bool
     ensures value { result ≡ format.leads m.now s.now }
     ensures bound { IsTrue result → 2 ≤ length s.now }

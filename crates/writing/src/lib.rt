@@ -1,4 +1,4 @@
-// A book's bytes. Whatever writes a book goes through `write_given`, of whose answer `write_book` makes a reply. It measures first (`length`), so that a room
+// A book's bytes. Whatever writes a book goes through `write_given`; `write_book` turns its answer into a reply. It measures first (`length`), so that a room
 // that is too short is left as it was; then it writes record by record. Bytes and marks are in `put`.
 #![tactic(auto)]
 

@@ -160,11 +160,14 @@ module _ (p : Phase) (b : Bodied p) (ar : List ℕ) where
       many_got p (subgoal ar) (SubgoalFits ar) enc_subgoal own_subgoal (λ acc c u k f. subgoal_got ar acc c u k) max_subgoals [] q r few
       (all_each (call_fits ar) [] q fit) over
 
+  -- one of them
+  pub own_inv : (acc : List Call) (s : List ℕ) (c : Call) (r : List ℕ) → turn p (mark_at s) ≡ Mine → subgoal ar acc s ≡ got c r
+      → (s ≡ enc_subgoal c ++ r) × SubgoalFits ar acc c
+  own_inv acc s c r t e = subgoal_from ar acc s c r (b.sole (mark_at s) t) (own_starts p s t) e
+
   pub subgoals_inv : (s : List ℕ) (q : List Call) (r : List ℕ) → many p (subgoal ar) max_subgoals [] s ≡ got q r
       → Run p (SubgoalFits ar) enc_subgoal max_subgoals s q r
-  subgoals_inv =
-      many_inv p (subgoal ar) (SubgoalFits ar) enc_subgoal
-      (λ acc s c r t e. subgoal_from ar acc s c r (b.sole (mark_at s) t) (own_starts p s t) e) max_subgoals
+  subgoals_inv = many_inv p (subgoal ar) (SubgoalFits ar) enc_subgoal own_inv max_subgoals
 
 -- ---- a mode
 

@@ -25,16 +25,16 @@ use Rattle.closing.proofs.close_over.Goals as goal
 pub returns-in_err-given : goal.returns-in_err-given
 returns-in_err-given c =
     let p = err_from_is_err_and c.from_residual.result c.from_residual.ensures.1 in
-    rw (p.1, p.2) (read_refused (closed c.args.set) _ c.args.out.now c.in_err-given.field-0.0 c.in_err-given.ensures)
+    rw (p.1, p.2) (read_refused (closed c.args.set) _ c.args.out.now c.in_err-given.field-0.0 c.in_err-given.ensures.read)
 
 pub returns-in_err-lacking : goal.returns-in_err-lacking
 returns-in_err-lacking c =
     let p = err_from_is_err_and c.from_residual-in_err-lacking.result c.from_residual-in_err-lacking.ensures.1 in
-    let b = c.in_ok-given.ensures in
+    let b = c.in_ok-given.ensures.read in
     rw (p.1, p.2) (lacking_some c.args.set _ _ c.args.out.now _ b.is (read_held b).preds· c.in_err-lacking.ensures)
 
 pub settle-requires : goal.settle-requires
-settle-requires c = let n = c.new-needs.ensures in ((_, read_held c.in_ok-given.ensures), n.own, n.masks, n.admits)
+settle-requires c = let n = c.new-needs.ensures in ((_, read_held c.in_ok-given.ensures.read), n.own, n.masks, n.admits)
 
 -- it has each chosen predicate, and the table is its final one
 chosen : {s : List ℕ} {b : RuleBook} {needs : Needs} {set given k : ℕ} → set < 2 ^ max_predicates → BookHeld s given b → lacked set b.preds ≡ none → Settles b needs k
@@ -44,13 +44,13 @@ chosen small r has settles =
     record { well = w.well; small = small; has· = rw w.preds· has; final· = (settles _ w).final· }
 
 pub close_modes-requires : goal.close_modes-requires
-close_modes-requires c = closed_few (chosen (search rules) c.in_ok-given.ensures (lacking_none _ _ c.in_ok-lacking.ensures) c.settle.ensures)
+close_modes-requires c = closed_few (chosen (search rules) c.in_ok-given.ensures.read (lacking_none _ _ c.in_ok-lacking.ensures) c.settle.ensures)
 
 pub keep_clauses-requires : goal.keep_clauses-requires
-keep_clauses-requires c = let h = read_held c.in_ok-given.ensures in (h.few, held_known h)
+keep_clauses-requires c = let h = read_held c.in_ok-given.ensures.read in (h.few, held_known h)
 
 pub write_given-requires : goal.write_given-requires
-write_given-requires c = have_closed _ _ _ _ _ c.in_ok-given.ensures.given c.close_modes.ensures
+write_given-requires c = have_closed _ _ _ _ _ c.in_ok-given.ensures.read.given c.close_modes.ensures
 
 -- what closing comes to
 whole : (set : ℕ) {s : List ℕ} {given : ℕ} {b : RuleBook} → BookHeld s given b → lacked set b.preds ≡ none → closing set s ≡ done 0 (encode (close set (book_of b)))
@@ -59,14 +59,14 @@ whole set r has = sym (read_made r (closed set)) ∙ closed_has set _ (rw (read_
 pub returns-in_err-r : goal.returns-in_err-r
 returns-in_err-r c =
     let p = err_from_is_err_and c.from_residual-in_err-r.result c.from_residual-in_err-r.ensures.1 in
-    let b = c.in_ok-given.ensures in
+    let b = c.in_ok-given.ensures.read in
     let has = lacking_none _ _ c.in_ok-lacking.ensures in
     let e = close_held _ _ _ _ _ _ (chosen (search rules) b has c.settle.ensures) b.few c.close_modes.ensures c.keep_clauses.ensures in
     rw (p.1, p.2, whole c.args.set b has, ← e) c.in_err-r.ensures
 
 pub returns : goal.returns
 returns c =
-    let b = c.in_ok-given.ensures in
+    let b = c.in_ok-given.ensures.read in
     let has = lacking_none _ _ c.in_ok-lacking.ensures in
     let e = close_held _ _ _ _ _ _ (chosen (search rules) b has c.settle.ensures) b.few c.close_modes.ensures c.keep_clauses.ensures in
     rw (whole c.args.set b has, ← e) c.in_ok-r.ensures

@@ -9,20 +9,20 @@ use Rattle.page.proofs.answer_page.Goals as goal
 pub returns-in_err-read_book : goal.returns-in_err-read_book
 returns-in_err-read_book c =
     let p = err_from_is_err_and c.from_residual.result c.from_residual.ensures.1 in
-    rw (p.1, p.2) (page_refused _ _ c.args.out.now c.args.tally.now c.in_err-read_book.field-0.0 c.in_err-read_book.ensures)
+    rw (p.1, p.2) (page_refused _ _ c.args.out.now c.args.tally.now c.in_err-read_book.field-0.0 c.in_err-read_book.ensures.read)
 
 pub settle-requires : goal.settle-requires
 settle-requires c =
     let n = c.new-needs.ensures in
-    ((_, read_held c.in_ok-read_book.ensures), n.own, n.masks, n.admits)
+    ((_, read_held c.in_ok-read_book.ensures.read), n.own, n.masks, n.admits)
 
 pub of-table-requires : goal.of-table-requires
-of-table-requires c = admitted_full _ _ (c.settle.ensures _ (read_held c.in_ok-read_book.ensures)).admitted
+of-table-requires c = admitted_full _ _ (c.settle.ensures _ (read_held c.in_ok-read_book.ensures.read)).admitted
 
 pub give-requires : goal.give-requires
-give-requires c = (_, lent_read c.in_ok-read_book.ensures c.settle.ensures c.of-table.ensures)
+give-requires c = (_, lent_read c.in_ok-read_book.ensures.read c.settle.ensures c.of-table.ensures)
 
 pub returns : goal.returns
 returns c =
-    let b = c.in_ok-read_book.ensures in
+    let b = c.in_ok-read_book.ensures.read in
     page_given b _ (c.give.ensures _ (lent_read b c.settle.ensures c.of-table.ensures))

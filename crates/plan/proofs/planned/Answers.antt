@@ -10,15 +10,15 @@ use Rattle.plan.proofs.planned.Goals as goal
 pub returns-in_err-read_book : goal.returns-in_err-read_book
 returns-in_err-read_book c =
     let p = err_from_is_err_and c.from_residual.result c.from_residual.ensures.1 in
-    rw (p.1, p.2) (read_refused plan.planned _ c.args.out.now c.in_err-read_book.field-0.0 c.in_err-read_book.ensures)
+    rw (p.1, p.2) (read_refused plan.planned _ c.args.out.now c.in_err-read_book.field-0.0 c.in_err-read_book.ensures.read)
 
 pub settle-requires : goal.settle-requires
-settle-requires c = let n = c.new-needs.ensures in ((_, read_held c.in_ok-read_book.ensures), n.own, n.masks, n.admits)
+settle-requires c = let n = c.new-needs.ensures in ((_, read_held c.in_ok-read_book.ensures.read), n.own, n.masks, n.admits)
 
 pub give-requires : goal.give-requires
-give-requires c = (_, lent_read c.in_ok-read_book.ensures c.settle.ensures)
+give-requires c = (_, lent_read c.in_ok-read_book.ensures.read c.settle.ensures)
 
 pub returns : goal.returns
 returns c =
-    let b = c.in_ok-read_book.ensures in
+    let b = c.in_ok-read_book.ensures.read in
     rw (← read_made b plan.planned) (c.give.ensures _ (lent_read b c.settle.ensures))

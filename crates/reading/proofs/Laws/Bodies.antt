@@ -3,17 +3,18 @@
 use mathlib.Core.Path.{◌≡◌, refl, sym, ap, ap₂, ◌∙◌}
 use mathlib.Core.Bool.{Bool, true, false}
 use mathlib.Core.Logic.{⊎_elim}
-use mathlib.Core.List.{List, [], ◌∷◌, ◌++◌, map, map-append}
-use Prim.Native.Nat.{ℕ, zero, suc, ◌+◌, ◌*◌, min, ◌≤◌, ◌<◌}
+use mathlib.Core.List.{List, [], ◌∷◌, ◌++◌, map, map-append, append_assoc}
+use Prim.Native.Nat.{ℕ, zero, suc, ◌+◌, ◌-◌, ◌*◌, min, ◌≤◌, ◌<◌}
 use native.Mathlib.Omega.{arith}
-use lib.ListN.{length, get_or, set, length-set, length-map, get_or-map}
-use lib.Seq.{sets, length-sets, get_or-set_same, get_or-set_other, ext_get_or}
+use lib.ListN.{length, get_or, drop, set, length-append, length-set, length-map, get_or-map}
+use lib.Seq.{drop-append_seam, sets, length-sets, get_or-set_same, get_or-set_other, ext_get_or}
 use Rattle.masks.specs.Lists.{values}
 use Rattle.masks.proofs.Laws.Logic.{by_range, clash, false_of, or_left, or_right, or_case}
 use Rattle.masks.proofs.Laws.Lists.{length_values, values_cong, get_or_values}
 use Rattle.book.specs.Limits.{max_clauses, max_subgoals}
 use Rattle.book.specs.Book.{Head, Call}
 use Rattle.book.specs.Format.{spelling, leads, turn, Bodied, mark_at, many, subgoal}
+use Rattle.book.specs.Encode.{enc_subgoal}
 use Rattle.book.specs.Held.{head_in, call_in, clause_size, rules_size, clause_at, StoredClause}
 use Rattle.std.specs.Prelude.{Result, Ok, Err}
 use Rattle.std.specs.Borrow.{Bor}
@@ -24,12 +25,13 @@ use Rattle.book.specs.declared.mark.Phase.{Phase}
 use Rattle.book.specs.declared.mark.Phase.TheVariants.{Body}
 use Rattle.book.specs.declared.mark.Turn.TheVariants.{Mine}
 use Rattle.book.proofs.Laws.Marks.{in_body, unled}
+use Rattle.book.proofs.Laws.Trip.{own_inv}
 use Rattle.records.specs.declared.fault.FaultFromEnd.{FaultFromEnd}
 use Rattle.records.specs.Read.{RunEnds, value, rest, alone, Reads, stops, leads_subgoal}
-use Rattle.records.proofs.Laws.Reads.{err_ok}
+use Rattle.records.proofs.Laws.Reads.{err_ok, reads_ok}
 use Rattle.records.proofs.Laws.Stores.{sets_last}
 use Rattle.reading.specs.Stored.{onward, ReadsBody}
-use Rattle.reading.proofs.Laws.Runs.{Going, mine, stops_reads, going_full, going_bad, going_next, going_stops}
+use Rattle.reading.proofs.Laws.Runs.{Going, mine, stops_reads, going_start, going_full, going_bad, going_next, going_stops}
 
 -- ---- a run of subgoals
 
@@ -47,13 +49,26 @@ module _ (p : Phase) (b : Bodied p) (s : List ℕ) where
 
 -- ---- the loop
 
--- so far the n words were read, and are stored
+-- so far the n words were read, and are stored, and these bytes are behind
 pub record Bodying (ar whole : List ℕ) (n : ℕ) (left : List ℕ) (base : ℕ) (before now : List ℕ) : Type 0 where
   pub words : List ℕ
   pub going : (p : Phase) → Bodied p → Going p (subgoal ar) max_subgoals whole n left (map call_in words)
   pub stored : now ≡ sets before (base + 2) words
+  pub behind : List ℕ
+  pub from : whole ≡ behind ++ left
+
+-- what stands behind some bytes, by how long it is
+end_of : (a s : List ℕ) {whole : List ℕ} → whole ≡ a ++ s → s ≡ drop (length whole - length s) whole
+end_of a s {whole} e =
+    let n : length whole ≡ length a + length s = ap length e ∙ length-append a s in
+    let k : length whole - length s ≡ length a = omega arith in
+    sym (ap (λ (i : ℕ). drop i whole) k ∙ ap (drop (length a)) e ∙ drop-append_seam a s)
 
 module _ (ar whole : List ℕ) (k : ℕ) (before : List ℕ) where
+  pub bodying_start : Bodying ar whole 0 whole (k * clause_size) before before
+  bodying_start =
+      record { words = []; going = λ p b. going_start p (subgoal ar) max_subgoals whole; stored = refl; behind = []; from = refl }
+
   module _ {n : ℕ} {s now : List ℕ} (l : Bodying ar whole n s (k * clause_size) before now) where
     pub bodying_few : n ≤ max_subgoals
     bodying_few = (l.going Body in_body).turns
@@ -68,6 +83,7 @@ module _ (ar whole : List ℕ) (k : ℕ) (before : List ℕ) where
         record {
           words = l.words;
           few = let c = count in let t = bodying_few in omega arith;
+          inside = λ a d. err_ok refl d;
           reads = λ p b. (w p b).is;
           stored = λ a d. err_ok refl d;
         }
@@ -95,6 +111,12 @@ module _ (ar whole : List ℕ) (k : ℕ) (before : List ℕ) where
                   d
                   ∙ ap (λ (x : List ℕ). set x (k * clause_size + 2 + n) (value v)) l.stored
                   ∙ sets_last before (k * clause_size + 2) n l.words (value v) count;
+              behind = l.behind ++ enc_subgoal (call_in (value v));
+              from =
+                  l.from
+                  ∙ ap (λ (x : List ℕ). l.behind ++ x)
+                  (own_inv Body in_body ar [] s (call_in (value v)) (rest v) (subgoal_here Body in_body s t) (sym (reads_ok r e))).0
+                  ∙ sym (append_assoc l.behind (enc_subgoal (call_in (value v))) (rest v));
             }
 
     pub bodying_end : leads_subgoal s ≡ false → {b : Bor (List ℕ)} → b.now ≡ s → {after : List ℕ} → after ≡ set now (k * clause_size) n
@@ -103,6 +125,7 @@ module _ (ar whole : List ℕ) (k : ℕ) (before : List ℕ) where
         record {
           words = l.words;
           few = let c = count in let u = bodying_few in omega arith;
+          inside = λ a e. rw (same a e, z) (end_of l.behind s l.from);
           reads =
               λ p i.
               ap (stops p (map call_in l.words)) z ∙ going_stops p (subgoal ar) max_subgoals whole (l.going p i) (no_subgoal_here p i s t);
@@ -110,6 +133,9 @@ module _ (ar whole : List ℕ) (k : ℕ) (before : List ℕ) where
               λ a e.
               d ∙ ap₂ (λ (x : List ℕ) (y : ℕ). set x (k * clause_size) y) l.stored (sym count);
         }
+      where
+        same : (a : Bor (List ℕ)) → ◌≡◌ {A = Result (Bor (List ℕ)) FaultFromEnd} (Ok b) (Ok a) → a ≡ b
+        same a e = cc
 
 -- ---- what was read, once its end is judged
 

@@ -2,8 +2,11 @@
 use mathlib.Core.Path.{refl, sym, ◌∙◌}
 use native.Mathlib.Omega.{arith}
 use Rattle.records.proofs.Laws.Reads.{passed}
-use Rattle.reading.proofs.Laws.Bodies.{bodying_full, bodying_bad, bodying_next, bodying_end}
+use Rattle.reading.proofs.Laws.Bodies.{bodying_start, bodying_full, bodying_bad, bodying_next, bodying_end}
 use Rattle.reading.proofs.read_body.Goals as goal
+
+pub loop-left-init : goal.loop-left-init
+loop-left-init c = bodying_start _ _ _ _
 
 pub returns-then-n-ge-MAX_SUBGOALS : goal.returns-then-n-ge-MAX_SUBGOALS
 returns-then-n-ge-MAX_SUBGOALS c =
