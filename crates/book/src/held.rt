@@ -8,27 +8,29 @@ use crate::clause::Clause;
 use crate::limits::{MAX_CLAUSES, MAX_PREDICATES, MODES_SIZE, NO_CALL, RULES_SIZE};
 
 // How many predicates and clauses there are, the arity and the mode of each predicate, and the clauses, with the query behind them. There is no invariant: a
-// reader fills one field after the other, and `write_book` is promised of any (docs/PROMISES.md).
+// reader fills one field after the other, and `write_book` is promised of any (docs/PROMISES.md). The words come first, so that no gap stands between two
+// fields: a book that is made is then cleared where it stays, in one go, and no copy of it is made.
 #[derive(Drop)]
 pub struct RuleBook {
+    pub rules: [u64; RULES_SIZE],
+    pub modes: [u8; MODES_SIZE],
+    pub arities: [u8; MAX_PREDICATES],
     pub preds: u8,
     pub clauses: u8,
-    pub arities: [u8; MAX_PREDICATES],
-    pub modes: [u8; MODES_SIZE],
-    pub rules: [u64; RULES_SIZE],
 }
 
 impl RuleBook {
     // Room for a book, with none in it yet.
     pub fn new() -> RuleBook
-        ensures { NoModes result.modes }
+        ensures modes { NoModes result.modes }
+        ensures empty { (result.preds ≡ 0) × (result.clauses ≡ 0) }
     {
         RuleBook {
+            rules: [NO_CALL; RULES_SIZE],
+            modes: [0; MODES_SIZE],
+            arities: [0; MAX_PREDICATES],
             preds: 0,
             clauses: 0,
-            arities: [0; MAX_PREDICATES],
-            modes: [0; MODES_SIZE],
-            rules: [NO_CALL; RULES_SIZE],
         }
     }
 

@@ -48,5 +48,5 @@ pub const LONGEST_PAGE: usize = 3072;
 
 pub const LONGEST_SHEET: usize = 164584;
 
-// The word of a call of predicate 0 with no arguments, wildcards in their places: not one byte repeated, so that clearing is by wide stores.
-pub const NO_CALL: u64 = 0xFEFE_FEFE_FEFE_0000;
+// The word of a call of predicate 0 with no arguments. It is 0 as the bytes of a cleared book are, so that all of it is cleared in one go (`held`).
+pub const NO_CALL: u64 = 0;

@@ -4,11 +4,10 @@
 
 mod stream;
 
-use crate::stream::read_input;
+use crate::stream::{read_input, write_output};
 use anyhow::{Context, Result};
 use book::limits::LONGEST_SHEET;
 use sheet::{BOOK_SIZE, sheet};
-use std::io::Write;
 
 // W6: "`orders` cuts at 6,987": no more is read.
 fn main(rt: HostRuntime) -> Result<()> {
@@ -17,7 +16,5 @@ fn main(rt: HostRuntime) -> Result<()> {
     let mut text = [0u8; LONGEST_SHEET];
     let r = sheet(&book[..n], &mut text);
     let k = r.value as usize;
-    rt.stdout()
-        .write_all(&text[..k])
-        .context("orders: writing standard output")
+    write_output(&mut rt.stdout(), &text[..k]).context("orders: writing standard output")
 }

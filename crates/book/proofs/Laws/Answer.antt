@@ -1,11 +1,11 @@
 -- What bytes are judged to be, and what an operation on books comes to: the fault of the bytes, or what it makes of the book. Assumes nothing.
-use mathlib.Core.Path.{◌≡◌, ap}
+use mathlib.Core.Path.{◌≡◌, refl, ap}
 use mathlib.Core.List.{List}
-use Prim.Native.Nat.{ℕ, ◌≤◌}
+use Prim.Native.Nat.{ℕ, ◌-◌, ◌≤◌}
 use native.Mathlib.Omega.{arith}
 use Rattle.masks.specs.Outcome.{Outcome, refused}
 use Rattle.book.specs.Book.{Book}
-use Rattle.book.specs.Format.{number, Judged, fault, book, judge}
+use Rattle.book.specs.Format.{number, place, Judged, fault, book, judge}
 use Rattle.book.specs.Answer.{of_judged, on_book}
 use Rattle.book.specs.declared.fault.Fault.{Fault}
 use Rattle.book.specs.declared.fault.Fault.TheVariants.{PastEnd, NoMark, OutOfTurn, OutOfRange, TooMany, Clash}
@@ -23,6 +23,15 @@ number_range Clash = (omega arith, omega arith)
 
 pub number_some : (f : Fault) → number f ≡ 0 → ⊥
 number_some f e = let r = number_range f in omega arith
+
+-- a place in n bytes is one whether counted from their start or from their end
+pub place_inside : (f : Fault) {n at : ℕ} → at ≤ n → (place f n at ≤ n) × (n - place f n at ≡ place f 0 (n - at))
+place_inside PastEnd h = (omega arith, omega arith)
+place_inside NoMark h = (h, refl)
+place_inside OutOfTurn h = (h, refl)
+place_inside OutOfRange h = (h, refl)
+place_inside TooMany h = (h, refl)
+place_inside Clash h = (h, refl)
 
 -- a string of bytes is one book
 book_or : Book → Judged → Book

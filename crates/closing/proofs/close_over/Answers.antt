@@ -19,7 +19,7 @@ use Rattle.reading.proofs.Laws.Judged.{read_refused, read_made}
 use Rattle.needs.proofs.Laws.Settling.{read_held, held_known}
 use Rattle.closing.proofs.Laws.Refused.{lacking_none, lacking_some}
 use Rattle.closing.proofs.Laws.Outcome.{closed_has}
-use Rattle.closing.proofs.Laws.Held.{Chosen, have_closed, closed_few, close_held}
+use Rattle.closing.proofs.Laws.Held.{Chosen, have_closed, closed_few, few_none, close_held}
 use Rattle.closing.proofs.close_over.Goals as goal
 
 pub returns-in_err-given : goal.returns-in_err-given
@@ -43,8 +43,9 @@ chosen small r has settles =
     let w = read_held r in
     record { well = w.well; small = small; has· = rw w.preds· has; final· = (settles _ w).final· }
 
+-- of no predicate it is true, too
 pub close_modes-requires : goal.close_modes-requires
-close_modes-requires c = closed_few (chosen (search rules) c.in_ok-given.ensures.read (lacking_none _ _ c.in_ok-lacking.ensures) c.settle.ensures)
+close_modes-requires c = search (closed_few (chosen (search rules) c.in_ok-given.ensures.read (lacking_none _ _ c.in_ok-lacking.ensures) c.settle.ensures), few_none)
 
 pub keep_clauses-requires : goal.keep_clauses-requires
 keep_clauses-requires c = let h = read_held c.in_ok-given.ensures.read in (h.few, held_known h)

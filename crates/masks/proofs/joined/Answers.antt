@@ -1,9 +1,11 @@
 -- `masks::joined` meets its contract. A fault makes the outcome a refusal; without one both lists are of masks, and the outcome is what they
 -- combine to, which is written where there is room. Assumes nothing.
-use mathlib.Core.Path.{refl, ap, ◌∙◌}
+use mathlib.Core.Path.{◌≡◌, refl, ap, ◌∙◌}
+use native.Mathlib.Omega.{arith}
 use lib.ListN.{length}
 use lib.Seq.{sets}
 use Rattle.std.proofs.lemmas.Result.{err_from_is_err_and}
+use Rattle.masks.specs.Set.{members}
 use Rattle.masks.proofs.Laws.Joining.{some_number, joining_fault, joining_done, fault_free}
 use Rattle.masks.proofs.Laws.Outcome.{answers_refused, answers_short, answers_done}
 use Rattle.masks.proofs.joined.Goals as goal
@@ -24,6 +26,11 @@ pub invariant_of-combine-2 : goal.invariant_of-combine-2
 invariant_of-combine-2 c =
     let s = c.args in
     record { in_range = (fault_free s.arity s.first.now s.second.now c.in_ok-first_fault.ensures).1 }
+
+pub put_masks-requires : goal.put_masks-requires
+put_masks-requires c =
+    let n : c.count.result ≡ length (members c.combine-c.result) = c.count.ensures.value in
+    omega (arith, c.in_ok-r.ensures.done.1)
 
 pub returns-in_err-r : goal.returns-in_err-r
 returns-in_err-r c =

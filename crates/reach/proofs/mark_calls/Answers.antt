@@ -23,8 +23,14 @@ subgoal-requires c =
     let e = c.loop-i.invariant.long in
     order_below f.0 c.args.clause.now.body f.1 c.args.order.now f.2.first c.loop-i.i (omega arith)
 
+-- by arithmetic: the place in the order is below 64, too
 pub bounds-reached-q : goal.bounds-reached-q
-bounds-reached-q c = call_low c.requires.1 c.requires.0 c.loop-i.i (omega (arith, c.loop-i.invariant.long)) _ c.subgoal.ensures c.predicate-p.ensures
+bounds-reached-q c =
+    let i = c.loop-i.invariant in
+    let e = i.long in
+    let f = i.few in
+    let l = call_low c.requires.1 c.requires.0 c.loop-i.i (omega arith) _ c.subgoal.ensures c.predicate-p.ensures in
+    omega arith
 
 pub with_member-requires : goal.with_member-requires
 with_member-requires c =

@@ -20,5 +20,5 @@ pub returns : goal.returns
 unfolding admits within
 returns c =
     let a = c.args.pattern in
-    any_from_yields_List (λ m. within m a) _ _ _ c.any.ensures.ran (YieldsList-from_slice c.args.masks.now cc) (λ x b q k. search (rules, tests))
+    any_from_yields_List (λ m. within m a) _ _ _ c.any.ensures.ran (YieldsList-from_slice c.args.masks.now c.iter.ensures.rest) (λ x b q k. search (rules, tests))
     ∙ list_any-any (λ m. within m a) c.args.masks.now
