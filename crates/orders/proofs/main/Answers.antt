@@ -20,5 +20,5 @@ there s z a = let l = sheet_length s in result_told 0 longest_sheet (printing s)
 pub slice_bounds-text-end : goal.slice_bounds-text-end
 slice_bounds-text-end c = (there _ (length-replicate {A = ℕ} longest_sheet 0) c.sheet-r.ensures).fits
 
-pub slice_bounds-write_all-end : goal.slice_bounds-write_all-end
-slice_bounds-write_all-end c = (there _ (length-replicate {A = ℕ} longest_sheet 0) c.sheet-r.ensures).size
+pub slice_bounds-write_output-end : goal.slice_bounds-write_output-end
+slice_bounds-write_output-end c = (there _ (length-replicate {A = ℕ} longest_sheet 0) c.sheet-r.ensures).size
