@@ -1,5 +1,6 @@
 /* Put before the C library (LD_PRELOAD): on standard input and output, read and write that fail as the environment says. INTERRUPT=1: every other call is
- * interrupted by a signal. CUT=N: reading fails with EIO once N bytes have been read. PIECES=N: a call moves at most N bytes. */
+ * interrupted by a signal. CUT=N: reading fails with EIO once N bytes have been read. PIECES=N: a call moves at most N bytes. STALL=N: the first N writes move
+ * nothing. SIGNALS=N: the first N writes are interrupted. */
 #define _GNU_SOURCE
 #include <dlfcn.h>
 #include <errno.h>
@@ -46,5 +47,12 @@ ssize_t read(int fd, void *buffer, size_t n)
 
 ssize_t write(int fd, const void *buffer, size_t n)
 {
+    static long writes;
+    if (fd == 1 && ++writes <= setting("STALL", 0))
+        return 0;
+    if (fd == 1 && writes <= setting("SIGNALS", 0)) {
+        errno = EINTR;
+        return -1;
+    }
     return through("write", fd, (void *)buffer, n);
 }
