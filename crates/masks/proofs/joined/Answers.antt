@@ -6,6 +6,7 @@ use lib.ListN.{length}
 use lib.Seq.{sets}
 use Rattle.std.proofs.lemmas.Result.{err_from_is_err_and}
 use Rattle.masks.specs.Set.{members}
+use Rattle.masks.specs.declared.reply.Reply.{Reply}
 use Rattle.masks.proofs.Laws.Joining.{some_number, joining_fault, joining_done, fault_free}
 use Rattle.masks.proofs.Laws.Outcome.{answers_refused, answers_short, answers_done}
 use Rattle.masks.proofs.joined.Goals as goal
@@ -30,7 +31,7 @@ invariant_of-combine-2 c =
 pub put_masks-requires : goal.put_masks-requires
 put_masks-requires c =
     let n : c.count.result ≡ length (members c.combine-c.result) = c.count.ensures.value in
-    omega (arith, c.in_ok-r.ensures.done.1)
+    omega (arith, ap (λ (r : Reply). r.value) c.in_ok-r.ensures.done.0, c.in_ok-r.ensures.done.1)
 
 pub returns-in_err-r : goal.returns-in_err-r
 returns-in_err-r c =

@@ -1,8 +1,10 @@
 -- `needs::analysed` meets its contract. A fault is the book's; else the book is well formed, and what is written where there is room is the image of
 -- its final table, with its rounds. Assumes nothing.
+use mathlib.Core.Path.{ap}
 use native.Mathlib.Omega.{arith}
 use Rattle.std.proofs.lemmas.Result.{err_from_is_err_and}
 use Rattle.tables.specs.Image as image
+use Rattle.masks.specs.declared.reply.Reply.{Reply}
 use Rattle.masks.proofs.Laws.Outcome.{answers_short, answers_done}
 use Rattle.reading.proofs.Laws.Judged.{read_refused}
 use Rattle.needs.proofs.Laws.Settling.{read_held}
@@ -26,7 +28,7 @@ pub put_image-requires : goal.put_image-requires
 put_image-requires c =
     let b = c.in_ok-read_book.ensures.read in
     let d = c.settle-rounds.ensures _ (read_held b) in
-    (b.listed.few, read_low b, d.admitted, omega (arith, c.image_length.ensures c.read_book.new.book.arities, c.in_ok-r.ensures.done.1))
+    (b.listed.few, read_low b, d.admitted, omega (arith, c.image_length.ensures c.read_book.new.book.arities, ap (λ (r : Reply). r.value) c.in_ok-r.ensures.done.0, c.in_ok-r.ensures.done.1))
 
 pub returns-in_err-r : goal.returns-in_err-r
 returns-in_err-r c =

@@ -5,6 +5,7 @@ use native.Mathlib.Omega.{arith}
 use lib.ListN.{length, take, length-take}
 use borrow.Author.Rules.{rules}
 use Rattle.std.proofs.lemmas.Result.{err_from_is_err_and}
+use Rattle.masks.specs.declared.reply.Reply.{Reply}
 use Rattle.masks.proofs.Laws.Outcome.{answers_refused, answers_short, answers_done}
 use Rattle.book.specs.Limits.{max_subgoals}
 use Rattle.book.proofs.Laws.Sets.{cleared_zeros}
@@ -44,7 +45,7 @@ put_plan-requires c =
     let h : length o.places ≡ max_subgoals = search rules in
     let n = length-take o.n o.places in
     let e : length c.places.result.now ≡ length (take o.n o.places) = ap length c.places.ensures in
-    record { few = (omega arith, few_preds l, lent_callable l); room = rw (T, c.places.ensures) (omega (arith, c.in_ok-r.ensures.done.1)) }
+    record { few = (omega arith, few_preds l, lent_callable l); room = rw (T, c.places.ensures) (omega (arith, ap (λ (r : Reply). r.value) c.in_ok-r.ensures.done.0, c.in_ok-r.ensures.done.1)) }
 
 pub returns-in_err-r : goal.returns-in_err-r
 returns-in_err-r c B l =

@@ -1,11 +1,13 @@
 -- `writing::write_given` meets its contract. The book's length decides between the two answers of an outcome that is done. Assumes nothing.
+use mathlib.Core.Path.{ap}
 use native.Mathlib.Omega.{arith}
 use Rattle.std.proofs.lemmas.Result.{err_from_is_err_and}
+use Rattle.masks.specs.declared.reply.Reply.{Reply}
 use Rattle.masks.proofs.Laws.Outcome.{answers_short, answers_done}
 use Rattle.writing.proofs.write_given.Goals as goal
 
 pub put_book-requires : goal.put_book-requires
-put_book-requires c = (c.requires, omega (arith, c.book_length.ensures, c.in_ok-r.ensures.done.1))
+put_book-requires c = (c.requires, omega (arith, c.book_length.ensures, ap (λ (r : Reply). r.value) c.in_ok-r.ensures.done.0, c.in_ok-r.ensures.done.1))
 
 pub returns-in_err-r : goal.returns-in_err-r
 returns-in_err-r c =
